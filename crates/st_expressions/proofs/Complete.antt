@@ -9,9 +9,9 @@ use Rattle.st_tree.specs.declared.tree.Unary.{Unary}
 use Rattle.st_tree.specs.declared.tree.Unary.TheVariants as u
 use Rattle.st_tree.specs.declared.tree.Binary.{Binary}
 use Rattle.st_tree.specs.declared.tree.Binary.TheVariants as b
-use Rattle.st_tree.specs.Plain.{PlainExpr, literal, read, output_of, unary}
+use Rattle.st_tree.specs.Plain.{PlainExpr, literal, read, output_of, element, unary}
 use Rattle.st_expressions.specs.Lexemes.{Lexeme, word, keyword, integer, symbol}
-use Rattle.st_expressions.specs.Grammar.{literal_of, prefix_of, operator_of, level_of, top, begins_negative, in_parentheses, constant, negative, variable, output, parens, before_operand, between_operands, SpellsExpr, IsExpression}
+use Rattle.st_expressions.specs.Grammar.{literal_of, prefix_of, operator_of, level_of, top, begins_negative, in_parentheses, unknown_bounds, constant, negative, variable, output, indexed, parens, before_operand, between_operands, SpellsExpr, IsExpression}
 use Rattle.st_expressions.specs.Reading.{Answer, ◌>>=◌, operator_at, if_allowed, is_symbol, minus_at, constant_at, operand, prefixed, chain, climb, tree_of, expression_at}
 use Rattle.st_expressions.proofs.Chain.{stops, goes}
 use Rattle.st_expressions.proofs.Steps.{both_ways, same_some}
@@ -68,11 +68,16 @@ starts_with l t op ts is h = ap (if_allowed l) is ∙ (let so : nat_le l (level_
 pub stops_above : (l : ℕ) (t : Lexeme) (op : Binary) (ts : List Lexeme) → operator_of t ≡ Some op → level_of op < l → operator_at l (t ∷ ts) ≡ None
 stops_above l t op ts is h = ap (if_allowed l) is ∙ (let no : nat_le l (level_of op) ≡ false = grind (arith, nat_tests) in ap (λ z. cond z (Some op) None) no)
 
--- no operator is a point
-operator_no_point : (t : Lexeme) (op : Binary) (ts : List Lexeme) → operator_of t ≡ Some op → is_symbol s.Point (t ∷ ts) ≡ false
-operator_no_point (symbol s.Point) op ts h = absurd (cc)
-operator_no_point (symbol _) op ts h = refl
-operator_no_point _ op ts h = refl
+-- neither a point nor a bracket is next, with which a word goes on
+abbrev pub Apart : List Lexeme → Type 0
+Apart ts = (is_symbol s.Point ts ≡ false) × (is_symbol s.OpenBracket ts ≡ false)
+
+-- no operator is a point or a bracket
+operator_apart : (t : Lexeme) (op : Binary) (ts : List Lexeme) → operator_of t ≡ Some op → Apart (t ∷ ts)
+operator_apart (symbol s.Point) op ts h = absurd (cc)
+operator_apart (symbol s.OpenBracket) op ts h = absurd (cc)
+operator_apart (symbol _) op ts h = (refl, refl)
+operator_apart _ op ts h = (refl, refl)
 
 -- what is spelled isn't empty
 pub some_lexeme : (d l : ℕ) (ts : List Lexeme) (e : PlainExpr (List ℕ)) → SpellsExpr d l ts e → 0 < length ts
@@ -81,6 +86,7 @@ some_lexeme (suc d) l ts e (constant t kind is) = let q = ap length is in omega 
 some_lexeme (suc d) l ts e (negative n small is tree) = let q = ap length is in omega arith
 some_lexeme (suc d) l ts e (variable name is tree) = let q = ap length is in omega arith
 some_lexeme (suc d) l ts e (output name part is tree) = let q = ap length is in omega arith
+some_lexeme (suc d) l ts e (indexed name a x is tree p) = let q = ap length is in omega arith
 some_lexeme (suc d) l ts e (parens a x is tree p) = let q = ap length is in omega arith
 some_lexeme (suc d) l ts e (before_operand t op a x kind alone is tree p) = let q = ap length is in omega arith
 some_lexeme (suc d) l ts e (between_operands t op a c x y kind tight is tree left right) = let q = ap length is in let r = length-append x (t ∷ y) in omega arith
@@ -110,13 +116,17 @@ parens_read : (inner : ℕ → List Lexeme → Answer) (e : PlainExpr (List ℕ)
 unfolding operand
 parens_read inner e n ts rest h = rw h refl
 
+index_read : (inner : ℕ → List Lexeme → Answer) (name : List ℕ) (e : PlainExpr (List ℕ)) (n : ℕ) (ts rest : List Lexeme) → inner 0 ts ≡ Some (e, n, symbol s.CloseBracket ∷ rest) → operand inner (word name ∷ symbol s.OpenBracket ∷ ts) ≡ Some (element name unknown_bounds e, n + 1, rest)
+unfolding operand
+index_read inner name e n ts rest h = rw h refl
+
 negative_read : (inner : ℕ → List Lexeme → Answer) (n : ℕ) (ts : List Lexeme) → n ≤ 2147483648 → operand inner (symbol s.Minus ∷ integer n ∷ ts) ≡ Some (literal (Value (value.Dint (neg_ℤ (pos n)))), 1, ts)
 unfolding operand
 negative_read inner n ts small = let so : nat_le n 2147483648 ≡ true = grind (arith, nat_tests) in ap (λ z. cond z (Some (literal (Value (value.Dint (neg_ℤ (pos n)))), 1, ts)) None) so
 
-variable_read : (inner : ℕ → List Lexeme → Answer) (name : List ℕ) (ts : List Lexeme) → is_symbol s.Point ts ≡ false → operand inner (word name ∷ ts) ≡ Some (read name, 1, ts)
+variable_read : (inner : ℕ → List Lexeme → Answer) (name : List ℕ) (ts : List Lexeme) → Apart ts → operand inner (word name ∷ ts) ≡ Some (read name, 1, ts)
 unfolding operand
-variable_read inner name ts alone = rw alone refl
+variable_read inner name ts alone = rw (alone.0, alone.1) refl
 
 -- the expression is found, and its operators come next
 pub record Reached (limit level : ℕ) (all : List Lexeme) (e : PlainExpr (List ℕ)) (rest : List Lexeme) (depth : ℕ) : Type 0 where
@@ -143,7 +153,7 @@ begun : (limit level : ℕ) (all : List Lexeme) (e : PlainExpr (List ℕ)) (rest
 begun limit level all e rest n depth is small some =
     record { deeper = limit; below = refl; seen = n; fuel = suc limit; shallow = small; room = omega arith; is = ap (λ (o : Answer). o >>= λ r. chain (climb limit) limit level (suc limit) r.0 r.1 r.2) is }
 
-pub complete : (d limit m l : ℕ) (ts : List Lexeme) (e : PlainExpr (List ℕ)) (rest : List Lexeme) → d ≤ limit → l ≤ m → SpellsExpr d m ts e → operator_at (m + 1) rest ≡ None → is_symbol s.Point rest ≡ false → Reached limit l (ts ++ rest) e rest d
+pub complete : (d limit m l : ℕ) (ts : List Lexeme) (e : PlainExpr (List ℕ)) (rest : List Lexeme) → d ≤ limit → l ≤ m → SpellsExpr d m ts e → operator_at (m + 1) rest ≡ None → Apart rest → Reached limit l (ts ++ rest) e rest d
 complete zero limit m l ts e rest le lm p stop alone = absurd p
 complete (suc d) zero m l ts e rest le lm p stop alone = absurd (omega arith)
 complete (suc d) (suc limit) m l ts e rest le lm (constant t kind is) stop alone =
@@ -154,8 +164,13 @@ complete (suc d) (suc limit) m l ts e rest le lm (variable name is tree) stop al
     rw (is, tree) (begun limit l (word name ∷ rest) (read name) rest 1 (suc d) (variable_read (climb limit) name rest alone) (omega arith) (omega arith))
 complete (suc d) (suc limit) m l ts e rest le lm (output name part is tree) stop alone =
     rw (is, tree) (begun limit l (word name ∷ symbol s.Point ∷ word part ∷ rest) (output_of name part) rest 1 (suc d) (unfold operand in refl) (omega arith) (omega arith))
+complete (suc d) (suc limit) m l ts e rest le lm (indexed name a x is tree inside) stop alone =
+    let h : Reached limit 0 (x ++ symbol s.CloseBracket ∷ rest) a (symbol s.CloseBracket ∷ rest) d = complete d limit 0 0 x a (symbol s.CloseBracket ∷ rest) (omega arith) (omega arith) inside refl (refl, refl) in
+    let w = whole limit 0 (x ++ symbol s.CloseBracket ∷ rest) a (symbol s.CloseBracket ∷ rest) d (omega arith) refl h in
+    let small = w.shallow in
+    rw (is, append_assoc x (symbol s.CloseBracket ∷ []) rest, tree) (begun limit l (word name ∷ symbol s.OpenBracket ∷ (x ++ symbol s.CloseBracket ∷ rest)) (element name unknown_bounds a) rest (w.seen + 1) (suc d) (index_read (climb limit) name a w.seen _ rest w.is) (omega arith) (omega arith))
 complete (suc d) (suc limit) m l ts e rest le lm (parens a x is tree inside) stop alone =
-    let h : Reached limit 0 (x ++ symbol s.Close ∷ rest) a (symbol s.Close ∷ rest) d = complete d limit 0 0 x a (symbol s.Close ∷ rest) (omega arith) (omega arith) inside refl refl in
+    let h : Reached limit 0 (x ++ symbol s.Close ∷ rest) a (symbol s.Close ∷ rest) d = complete d limit 0 0 x a (symbol s.Close ∷ rest) (omega arith) (omega arith) inside refl (refl, refl) in
     let w = whole limit 0 (x ++ symbol s.Close ∷ rest) a (symbol s.Close ∷ rest) d (omega arith) refl h in
     let small = w.shallow in
     rw (is, append_assoc x (symbol s.Close ∷ []) rest, tree) (begun limit l (symbol s.Open ∷ (x ++ symbol s.Close ∷ rest)) (in_parentheses a) rest (w.seen + 1) (suc d) (parens_read (climb limit) a w.seen _ rest w.is) (omega arith) (omega arith))
@@ -168,7 +183,7 @@ complete (suc d) (suc limit) m l ts e rest le lm (before_operand t op a x kind s
     rw (is, tree) (begun limit l (t ∷ (x ++ rest)) (unary op a) rest (w.seen + 1) (suc d) (prefix_read (climb limit) t op x rest kind unsigned some ∙ ap (prefixed op) w.is) (omega arith) (omega arith))
 complete (suc d) (suc limit) m l ts e rest le lm (between_operands t op a c x y kind tight is tree left right) stop alone =
     let after_it = t ∷ (y ++ rest) in
-    let first = complete d (suc limit) (level_of op) l x a after_it (omega arith) (omega arith) left (stops_above (level_of op + 1) t op (y ++ rest) kind (omega arith)) (operator_no_point t op (y ++ rest) kind) in
+    let first = complete d (suc limit) (level_of op) l x a after_it (omega arith) (omega arith) left (stops_above (level_of op + 1) t op (y ++ rest) kind (omega arith)) (operator_apart t op (y ++ rest) kind) in
     let second = complete d limit (level_of op + 1) (level_of op + 1) y c rest (omega arith) (omega arith) right (stops_more (m + 1) (level_of op + 1 + 1) rest (omega arith) stop) alone in
     let w = whole limit (level_of op + 1) (y ++ rest) c rest d (omega arith) (stops_more (m + 1) (level_of op + 1) rest (omega arith) stop) second in
     let f1 = first.shallow in
@@ -192,6 +207,7 @@ complete (suc d) (suc limit) m l ts e rest le lm (between_operands t op a c x y 
 abbrev pub ends : List Lexeme → Bool
 ends (symbol s.Comma ∷ ts) = true
 ends (symbol s.Close ∷ ts) = true
+ends (symbol s.CloseBracket ∷ ts) = true
 ends (symbol s.Semicolon ∷ ts) = true
 ends (keyword k.Then ∷ ts) = true
 ends (keyword k.Of ∷ ts) = true
@@ -200,15 +216,16 @@ ends (keyword k.By ∷ ts) = true
 ends (keyword k.Do ∷ ts) = true
 ends _ = false
 
-ends_stop : (ts : List Lexeme) → ends ts ≡ true → (operator_at 0 ts ≡ None) × (is_symbol s.Point ts ≡ false)
-ends_stop (symbol s.Comma ∷ ts) h = (refl, refl)
-ends_stop (symbol s.Close ∷ ts) h = (refl, refl)
-ends_stop (symbol s.Semicolon ∷ ts) h = (refl, refl)
-ends_stop (keyword k.Then ∷ ts) h = (refl, refl)
-ends_stop (keyword k.Of ∷ ts) h = (refl, refl)
-ends_stop (keyword k.To ∷ ts) h = (refl, refl)
-ends_stop (keyword k.By ∷ ts) h = (refl, refl)
-ends_stop (keyword k.Do ∷ ts) h = (refl, refl)
+ends_stop : (ts : List Lexeme) → ends ts ≡ true → (operator_at 0 ts ≡ None) × Apart ts
+ends_stop (symbol s.Comma ∷ ts) h = (refl, (refl, refl))
+ends_stop (symbol s.Close ∷ ts) h = (refl, (refl, refl))
+ends_stop (symbol s.CloseBracket ∷ ts) h = (refl, (refl, refl))
+ends_stop (symbol s.Semicolon ∷ ts) h = (refl, (refl, refl))
+ends_stop (keyword k.Then ∷ ts) h = (refl, (refl, refl))
+ends_stop (keyword k.Of ∷ ts) h = (refl, (refl, refl))
+ends_stop (keyword k.To ∷ ts) h = (refl, (refl, refl))
+ends_stop (keyword k.By ∷ ts) h = (refl, (refl, refl))
+ends_stop (keyword k.Do ∷ ts) h = (refl, (refl, refl))
 ends_stop [] h = absurd (cc)
 ends_stop (_ ∷ ts) h = absurd (cc)
 

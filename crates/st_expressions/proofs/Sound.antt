@@ -8,10 +8,10 @@ use Rattle.st_tree.specs.declared.tree.Literal.TheVariants.{Value}
 use Rattle.st_tree.specs.declared.tree.Unary.{Unary}
 use Rattle.st_tree.specs.declared.tree.Unary.TheVariants as u
 use Rattle.st_tree.specs.declared.tree.Binary.{Binary}
-use Rattle.st_tree.specs.Plain.{PlainExpr, literal, read, output_of, unary, binary}
+use Rattle.st_tree.specs.Plain.{PlainExpr, literal, read, output_of, element, unary, binary}
 use Rattle.st_expressions.specs.Lexemes.{Lexeme, word, keyword, integer, symbol}
-use Rattle.st_expressions.specs.Grammar.{literal_of, prefix_of, operator_of, level_of, top, begins_negative, in_parentheses, Production, constant, negative, variable, output, parens, before_operand, between_operands, SpellsExpr, IsExpression}
-use Rattle.st_expressions.specs.Reading.{Answer, word_at, operator_at, if_allowed, is_symbol, part_at, reference_at, minus_at, constant_at, operand, prefixed, close_group, symbol_at, chain, climb, tree_of, expression_at}
+use Rattle.st_expressions.specs.Grammar.{literal_of, prefix_of, operator_of, level_of, top, begins_negative, in_parentheses, unknown_bounds, Production, constant, negative, variable, output, indexed, parens, before_operand, between_operands, SpellsExpr, IsExpression}
+use Rattle.st_expressions.specs.Reading.{Answer, word_at, operator_at, if_allowed, is_symbol, part_at, index_at, variable_at, reference_at, minus_at, constant_at, operand, prefixed, close_group, close_index, symbol_at, chain, climb, tree_of, expression_at}
 use Rattle.st_expressions.proofs.Chain.{stops, too_deep, goes, fails}
 use Rattle.st_expressions.proofs.Complete.{starts_with, stops_at_top, some_lexeme}
 use Rattle.st_expressions.proofs.Many.{Front}
@@ -29,6 +29,7 @@ weaken (suc d) (suc n) m l x e le lm (constant t kind is) = constant t kind is
 weaken (suc d) (suc n) m l x e le lm (negative i small is tree) = negative i small is tree
 weaken (suc d) (suc n) m l x e le lm (variable name is tree) = variable name is tree
 weaken (suc d) (suc n) m l x e le lm (output name part is tree) = output name part is tree
+weaken (suc d) (suc n) m l x e le lm (indexed name a y is tree p) = indexed name a y is tree (weaken d n 0 0 y a (omega arith) (omega arith) p)
 weaken (suc d) (suc n) m l x e le lm (parens a y is tree p) = parens a y is tree (weaken d n 0 0 y a (omega arith) (omega arith) p)
 weaken (suc d) (suc n) m l x e le lm (before_operand t op a y kind signs is tree p) = before_operand t op a y kind signs is tree (weaken d n top top y a (omega arith) (omega arith) p)
 weaken (suc d) (suc n) m l x e le lm (between_operands t op a c y z kind tight is tree left right) =
@@ -40,6 +41,10 @@ one_more d m x e p = let same : suc d ≡ d + 1 = omega arith in subst (λ n. Sp
 close_group_some : (e : PlainExpr (List ℕ)) (n : ℕ) (o : Option (List Lexeme)) (r : Read) → close_group e n o ≡ Some r → (rest : List Lexeme) × (o ≡ Some rest) × ((in_parentheses e, n + 1, rest) ≡ r)
 close_group_some e n None r h = absurd (cc)
 close_group_some e n (Some ts) r h = (ts, refl, same_some _ _ h)
+
+close_index_some : (name : List ℕ) (e : PlainExpr (List ℕ)) (n : ℕ) (o : Option (List Lexeme)) (r : Read) → close_index name e n o ≡ Some r → (rest : List Lexeme) × (o ≡ Some rest) × ((element name unknown_bounds e, n + 1, rest) ≡ r)
+close_index_some name e n None r h = absurd (cc)
+close_index_some name e n (Some ts) r h = (ts, refl, same_some _ _ h)
 
 prefixed_some : (op : Unary) (o : Answer) (r : Read) → prefixed op o ≡ Some r → (q : Read) × (o ≡ Some q) × ((unary op q.0, q.1 + 1, q.2) ≡ r)
 prefixed_some op None r h = absurd (cc)
@@ -109,22 +114,47 @@ part_started d name ts r h =
     let here = atom d (word name ∷ symbol s.Point ∷ word part.0 ∷ []) part.1 (output_of name part.0) r (λ m. output name part.0 refl refl) (same_some _ _ is) in
     subst (λ l. Started (d + 1) (word name ∷ symbol s.Point ∷ l) r) (sym (word_found ts part was)) here
 
-reference_started : (d : ℕ) (name : List ℕ) (ts : List Lexeme) (r : Read) → reference_at name ts ≡ Some r → Started (d + 1) (word name ∷ ts) r
-reference_started d name ts r h =
-    elim (true_or_false (is_symbol s.Point ts)) as (λ _. Started (d + 1) (word name ∷ ts) r) [
+index_started : (d : ℕ) (inner : ℕ → List Lexeme → Answer) → IsSound inner d → (name : List ℕ) (ts : List Lexeme) (r : Read) → index_at inner name ts ≡ Some r → Started (d + 1) (word name ∷ symbol s.OpenBracket ∷ ts) r
+index_started d inner sound name ts r h =
+    let q = bind_some (inner 0 ts) (λ r. close_index name r.0 r.1 (symbol_at s.CloseBracket r.2)) r h in
+    let p = sound 0 ts q.0 q.1 in
+    let c = close_index_some name q.0.0 q.0.1 (symbol_at s.CloseBracket q.0.2) r q.2 in
+    let after_it = symbol_found s.CloseBracket q.0.2 c.0 c.1 in
+    let le = p.small in
+    let one_on : Started (d + 1) (word name ∷ symbol s.OpenBracket ∷ ts) (element name unknown_bounds q.0.0, q.0.1 + 1, c.0) = record {
+      front = word name ∷ symbol s.OpenBracket ∷ (p.front ++ symbol s.CloseBracket ∷ []);
+      whole = ap (λ l. word name ∷ symbol s.OpenBracket ∷ l) (p.whole ∙ ap (λ l. p.front ++ l) after_it ∙ sym (append_assoc p.front (symbol s.CloseBracket ∷ []) c.0));
+      spelled = λ m. one_more q.0.1 m _ _ (indexed name q.0.0 p.front refl refl p.spelled);
+      small = omega arith;
+    } in
+    subst (Started (d + 1) (word name ∷ symbol s.OpenBracket ∷ ts)) c.2 one_on
+
+variable_started : (d : ℕ) (inner : ℕ → List Lexeme → Answer) → IsSound inner d → (name : List ℕ) (ts : List Lexeme) (r : Read) → variable_at inner name ts ≡ Some r → Started (d + 1) (word name ∷ ts) r
+variable_started d inner sound name ts r h =
+    elim (true_or_false (is_symbol s.OpenBracket ts)) as (λ _. Started (d + 1) (word name ∷ ts) r) [
       | inl yes' ↦
-          let is = next_is_symbol s.Point ts yes' in
-          let p = part_started d name (drop 1 ts) r (ap (λ b. cond b (part_at name (drop 1 ts)) (Some (read name, 1, ts))) (sym yes') ∙ h) in
+          let is = next_is_symbol s.OpenBracket ts yes' in
+          let p = index_started d inner sound name (drop 1 ts) r (ap (λ b. cond b (index_at inner name (drop 1 ts)) (Some (read name, 1, ts))) (sym yes') ∙ h) in
           subst (λ l. Started (d + 1) (word name ∷ l) r) (sym is) p
       | inr no' ↦
           atom d (word name ∷ []) ts (read name) r (λ m. variable name refl refl)
-          (same_some _ _ (ap (λ b. cond b (part_at name (drop 1 ts)) (Some (read name, 1, ts))) (sym no') ∙ h))
+          (same_some _ _ (ap (λ b. cond b (index_at inner name (drop 1 ts)) (Some (read name, 1, ts))) (sym no') ∙ h))
+    ]
+
+reference_started : (d : ℕ) (inner : ℕ → List Lexeme → Answer) → IsSound inner d → (name : List ℕ) (ts : List Lexeme) (r : Read) → reference_at inner name ts ≡ Some r → Started (d + 1) (word name ∷ ts) r
+reference_started d inner sound name ts r h =
+    elim (true_or_false (is_symbol s.Point ts)) as (λ _. Started (d + 1) (word name ∷ ts) r) [
+      | inl yes' ↦
+          let is = next_is_symbol s.Point ts yes' in
+          let p = part_started d name (drop 1 ts) r (ap (λ b. cond b (part_at name (drop 1 ts)) (variable_at inner name ts)) (sym yes') ∙ h) in
+          subst (λ l. Started (d + 1) (word name ∷ l) r) (sym is) p
+      | inr no' ↦ variable_started d inner sound name ts r (ap (λ b. cond b (part_at name (drop 1 ts)) (variable_at inner name ts)) (sym no') ∙ h)
     ]
 
 operand_sound : (d : ℕ) (inner : ℕ → List Lexeme → Answer) → IsSound inner d → (ts : List Lexeme) (r : Read) → operand inner ts ≡ Some r → Started (d + 1) ts r
 unfolding operand
 operand_sound d inner sound [] r h = absurd (cc)
-operand_sound d inner sound (word name ∷ ts) r h = reference_started d name ts r h
+operand_sound d inner sound (word name ∷ ts) r h = reference_started d inner sound name ts r h
 operand_sound d inner sound (keyword k.Not ∷ ts) r h = let q = prefixed_some u.Not (inner top ts) r h in prefix_started d (keyword k.Not) u.Not ts q.0 r refl refl (sound top ts q.0 q.1) q.2
 operand_sound d inner sound (symbol s.Minus ∷ ts) r h = minus_started d inner sound ts r h
 operand_sound d inner sound (symbol s.Open ∷ ts) r h =

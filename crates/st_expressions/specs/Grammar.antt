@@ -1,6 +1,7 @@
 -- Which lexemes spell which expression: a case for each production, on whole lists of lexemes that are cut into parts.
 use Rattle.std.specs.Prelude.{◌≡◌, ℕ, zero, suc, ◌+◌, ◌≤◌, nat_le, if◌then◌else◌, pos, Bool, true, false, List, [], ◌∷◌, ◌++◌, Option, Some, None}
 use Rattle.std.proofs.Common.{neg_ℤ}
+use Rattle.plant_types.specs.declared.values.Bounds.{Bounds}
 use Rattle.plant_types.specs.declared.values.Value.TheVariants as value
 use Rattle.st_lexer.specs.declared.token.Keyword.TheVariants as k
 use Rattle.st_lexer.specs.declared.token.Symbol.TheVariants as s
@@ -9,7 +10,7 @@ use Rattle.st_tree.specs.declared.tree.Binary.TheVariants as b
 use Rattle.st_tree.specs.declared.tree.Unary.{Unary}
 use Rattle.st_tree.specs.declared.tree.Literal.TheVariants.{Integer, Value}
 use Rattle.st_tree.specs.declared.tree.Unary.TheVariants as u
-use Rattle.st_tree.specs.Plain.{PlainExpr, literal, read, output_of, unary, binary}
+use Rattle.st_tree.specs.Plain.{PlainExpr, literal, read, output_of, element, unary, binary}
 use Rattle.st_expressions.specs.Lexemes.{Lexeme, word, keyword, integer, typed, symbol}
 
 -- the literal that a lexeme is by itself
@@ -78,17 +79,22 @@ abbrev pub in_parentheses : PlainExpr (List ℕ) → PlainExpr (List ℕ)
 in_parentheses (literal (Integer n)) = literal (Value (value.Dint n))
 in_parentheses e = e
 
+-- the bounds of an array where no declaration is known: 0 to 0
+abbrev pub unknown_bounds : Bounds
+unknown_bounds = record { low = pos 0; high = pos 0 }
+
 -- an expression: P says which lexemes spell its parts, at which level
 pub data Production (P : ℕ → List Lexeme → PlainExpr (List ℕ) → Type 0) (level : ℕ) (ts : List Lexeme) (e : PlainExpr (List ℕ)) : Type 0 where
   constant : (t : Lexeme) → literal_of t ≡ Some e → ts ≡ t ∷ [] → Production P level ts e
   negative : (n : ℕ) → n ≤ 2147483648 → ts ≡ symbol s.Minus ∷ integer n ∷ [] → e ≡ literal (Value (value.Dint (neg_ℤ (pos n)))) → Production P level ts e
   variable : (name : List ℕ) → ts ≡ word name ∷ [] → e ≡ read name → Production P level ts e
   output : (name part : List ℕ) → ts ≡ word name ∷ symbol s.Point ∷ word part ∷ [] → e ≡ output_of name part → Production P level ts e
+  indexed : (name : List ℕ) (a : PlainExpr (List ℕ)) (x : List Lexeme) → ts ≡ word name ∷ symbol s.OpenBracket ∷ (x ++ symbol s.CloseBracket ∷ []) → e ≡ element name unknown_bounds a → P 0 x a → Production P level ts e
   parens : (a : PlainExpr (List ℕ)) (x : List Lexeme) → ts ≡ symbol s.Open ∷ (x ++ symbol s.Close ∷ []) → e ≡ in_parentheses a → P 0 x a → Production P level ts e
   before_operand : (t : Lexeme) (op : Unary) (a : PlainExpr (List ℕ)) (x : List Lexeme) → prefix_of t ≡ Some op → begins_negative ts ≡ false → ts ≡ t ∷ x → e ≡ unary op a → P top x a → Production P level ts e
   between_operands : (t : Lexeme) (op : Binary) (a c : PlainExpr (List ℕ)) (x y : List Lexeme) → operator_of t ≡ Some op → level ≤ level_of op → ts ≡ x ++ t ∷ y → e ≡ binary op a c → P (level_of op) x a → P (level_of op + 1) y c → Production P level ts e
 
--- within a depth: each parenthesis and each operator is one deeper than its parts
+-- within a depth: each parenthesis, each element and each operator is one deeper than its parts
 abbrev pub SpellsExpr : ℕ → ℕ → List Lexeme → PlainExpr (List ℕ) → Type 0
 SpellsExpr zero level ts e = ⊥
 SpellsExpr (suc depth) level ts e = Production (SpellsExpr depth) level ts e

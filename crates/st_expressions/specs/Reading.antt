@@ -13,9 +13,9 @@ use Rattle.st_tree.specs.declared.tree.Binary.{Binary}
 use Rattle.st_tree.specs.declared.tree.Literal.TheVariants.{Value}
 use Rattle.st_tree.specs.declared.tree.Unary.{Unary}
 use Rattle.st_tree.specs.declared.tree.Unary.TheVariants as u
-use Rattle.st_tree.specs.Plain.{PlainExpr, literal, read, output_of, unary, binary}
+use Rattle.st_tree.specs.Plain.{PlainExpr, literal, read, output_of, element, unary, binary}
 use Rattle.st_expressions.specs.Lexemes.{Lexeme, word, keyword, integer, symbol}
-use Rattle.st_expressions.specs.Grammar.{literal_of, operator_of, level_of, top, in_parentheses}
+use Rattle.st_expressions.specs.Grammar.{literal_of, operator_of, level_of, top, in_parentheses, unknown_bounds}
 
 infixl 10 ◌>>=◌
 abbrev pub ◌>>=◌ : {A B : Type 0} → Option A → (A → Option B) → Option B
@@ -111,6 +111,11 @@ abbrev pub close_group : PlainExpr (List ℕ) → ℕ → Option (List Lexeme) �
 close_group e n None = None
 close_group e n (Some ts) = Some (in_parentheses e, n + 1, ts)
 
+-- an element of an array, once its closing bracket is found
+abbrev pub close_index : List ℕ → PlainExpr (List ℕ) → ℕ → Option (List Lexeme) → Answer
+close_index name e n None = None
+close_index name e n (Some ts) = Some (element name unknown_bounds e, n + 1, ts)
+
 -- a literal that a lexeme is by itself
 abbrev pub constant_at : Option (PlainExpr (List ℕ)) → List Lexeme → Answer
 constant_at None ts = None
@@ -120,9 +125,17 @@ constant_at (Some e) ts = Some (e, 1, ts)
 abbrev pub part_at : List ℕ → List Lexeme → Answer
 part_at name ts = word_at ts >>= λ part. Some (output_of name part.0, 1, part.1)
 
+-- after the name of an array and a bracket
+abbrev pub index_at : (ℕ → List Lexeme → Answer) → List ℕ → List Lexeme → Answer
+index_at inner name ts = inner 0 ts >>= λ r. close_index name r.0 r.1 (symbol_at s.CloseBracket r.2)
+
+-- after a word that no point follows
+abbrev pub variable_at : (ℕ → List Lexeme → Answer) → List ℕ → List Lexeme → Answer
+variable_at inner name ts = if is_symbol s.OpenBracket ts then index_at inner name (drop 1 ts) else Some (read name, 1, ts)
+
 -- after a word
-abbrev pub reference_at : List ℕ → List Lexeme → Answer
-reference_at name ts = if is_symbol s.Point ts then part_at name (drop 1 ts) else Some (read name, 1, ts)
+abbrev pub reference_at : (ℕ → List Lexeme → Answer) → List ℕ → List Lexeme → Answer
+reference_at inner name ts = if is_symbol s.Point ts then part_at name (drop 1 ts) else variable_at inner name ts
 
 -- after a minus
 abbrev pub minus_at : (ℕ → List Lexeme → Answer) → List Lexeme → Answer
@@ -132,7 +145,7 @@ minus_at inner (t ∷ ts) = prefixed u.Negate (inner top (t ∷ ts))
 
 unfoldable pub operand : (ℕ → List Lexeme → Answer) → List Lexeme → Answer
 operand inner [] = None
-operand inner (word name ∷ ts) = reference_at name ts
+operand inner (word name ∷ ts) = reference_at inner name ts
 operand inner (keyword k.Not ∷ ts) = prefixed u.Not (inner top ts)
 operand inner (symbol s.Minus ∷ ts) = minus_at inner ts
 operand inner (symbol s.Open ∷ ts) = inner 0 ts >>= λ r. close_group r.0 r.1 (symbol_at s.Close r.2)

@@ -2,15 +2,15 @@
 
 ghost use Rattle.std.specs.Prelude.{◌≡◌, IfOk, Some, None, drop, ◌+◌, ◌-◌, ◌≤◌, ◌<◌, pos};
 ghost use Rattle.std.proofs.Common.{neg_ℤ};
-ghost use Rattle.st_tree.specs.Plain.{literal, binary};
+ghost use Rattle.st_tree.specs.Plain.{literal, element, binary};
 ghost use Rattle.st_tree.specs.View.{view_expr};
-ghost use Rattle.st_expressions.specs.Grammar.{level_of, top, in_parentheses};
+ghost use Rattle.st_expressions.specs.Grammar.{level_of, top, in_parentheses, unknown_bounds};
 ghost use Rattle.st_expressions.specs.Outcome.{Returns};
-ghost use Rattle.st_expressions.specs.Reading.{operator_at, reference_at, minus_at, operand as operand_at, prefixed as prefixed_at, chain as chain_at, climb, expression_at};
+ghost use Rattle.st_expressions.specs.Reading.{operator_at, index_at, variable_at, reference_at, minus_at, operand as operand_at, prefixed as prefixed_at, chain as chain_at, climb, expression_at};
 
 use crate::reader::Reader;
 use crate::stop::Stop;
-use plant_types::{Text, Value};
+use plant_types::{Bounds, Text, Value};
 use st_lexer::{Keyword, Symbol, TokenKind};
 use st_tree::{Binary, Expr, Literal, Unary};
 use std::alloc::{AllocError, Global};
@@ -96,8 +96,15 @@ fn in_parentheses(expr: Expr<Text>) -> Expr<Text>
     }
 }
 
+/// The bounds of an array where no declaration is known: 0 to 0.
+pub fn unknown_bounds() -> Bounds
+    ensures { result ≡ unknown_bounds }
+{
+    Bounds { low: 0, high: 0 }
+}
+
 /// The number that an integer after a minus stands for.
-fn negated(n: u32) -> i32
+pub fn negated(n: u32) -> i32
     requires { n ≤ 2147483648 }
     ensures { result ≡ neg_ℤ (pos n) }
 {
@@ -151,7 +158,7 @@ fn operand(alloc: Global, deeper: u32, reader: &mut Reader) -> Result<(Expr<Text
     match reader.peek() {
         Some(TokenKind::Word) => {
             let word = reader.word(alloc)?;
-            reference(alloc, word, reader)
+            reference(alloc, word, deeper, reader)
         }
         Some(TokenKind::Keyword(Keyword::True)) => Ok(leaf(Value::Bool(true), reader)),
         Some(TokenKind::Keyword(Keyword::False)) => Ok(leaf(Value::Bool(false), reader)),
@@ -180,17 +187,61 @@ fn operand(alloc: Global, deeper: u32, reader: &mut Reader) -> Result<(Expr<Text
     }
 }
 
-/// Parses the rest of a reference after its first word: a point and the name of an output, or nothing.
-fn reference(alloc: Global, word: Text, reader: &mut Reader) -> Result<(Expr<Text>, u32), Stop>
-    ensures read { Returns (λ x. (view_expr x.0, x.1, reader.new)) result (reference_at word reader.old) }
-    ensures deep { IfOk result (λ x. x.1 ≡ 1) }
+/// Parses the rest of a reference after its first word: a point and the name of an output, an index in brackets, or nothing.
+#[cycle(expr)]
+fn reference(
+    alloc: Global,
+    word: Text,
+    deeper: u32,
+    reader: &mut Reader,
+) -> Result<(Expr<Text>, u32), Stop>
+    requires { deeper < u32.MAX }
+    ensures read { Returns (λ x. (view_expr x.0, x.1, reader.new)) result (reference_at (climb deeper) word reader.old) }
+    ensures deep { IfOk result (λ x. x.1 ≤ deeper + 1) }
 {
     if reader.is_symbol(Symbol::Point) {
         reader.advance();
         let output = reader.word(alloc)?;
         Ok((Expr::Output(word, output), 1))
+    } else if reader.is_symbol(Symbol::OpenBracket) {
+        indexed(alloc, word, deeper, reader)
     } else {
         Ok((Expr::Read(word), 1))
+    }
+}
+
+/// Parses an index in its brackets, the first of which is next, after the name of an array. With no depth left it is the bracket that
+/// does not fit.
+#[cycle(expr)]
+fn indexed(
+    alloc: Global,
+    word: Text,
+    deeper: u32,
+    reader: &mut Reader,
+) -> Result<(Expr<Text>, u32), Stop>
+    requires { deeper < u32.MAX }
+    ensures read { Returns (λ x. (view_expr x.0, x.1, reader.new)) result (index_at (climb deeper) word (drop 1 reader.old)) }
+    ensures deep { IfOk result (λ x. x.1 ≤ deeper + 1) }
+{
+    if deeper == 0 {
+        return Err(reader.stop());
+    }
+    reader.advance();
+    let (index, depth) = climb(alloc, deeper, 0, reader)?;
+    let index = reader.symbol_after(index, Symbol::CloseBracket)?;
+    Ok((element_of(alloc, word, index)?, depth + 1))
+}
+
+/// The element of an array by its index.
+fn element_of(alloc: Global, name: Text, index: Expr<Text>) -> Result<Expr<Text>, AllocError>
+    ensures { IfOk result (λ e. view_expr e ≡ element name unknown_bounds (view_expr index)) }
+{
+    match Box::new(alloc, index) {
+        Ok(index) => Ok(Expr::Element(name, unknown_bounds(), index)),
+        Err(failed) => {
+            drop(name);
+            Err(AllocError::from(failed))
+        }
     }
 }
 

@@ -8,7 +8,7 @@ mod phrases;
 mod reader;
 mod stop;
 
-pub use expr::expression;
+pub use expr::{expression, negated, unknown_bounds};
 pub use phrases::{Phrase, parse_after, parse_all};
 pub use reader::Reader;
 pub use stop::Stop;

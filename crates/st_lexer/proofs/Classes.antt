@@ -95,6 +95,7 @@ name_folded (b ∷ bs) = rw (letter_folded b) (ap (λ x. is_letter b && x) (name
 
 spelling_is_name : (k : Keyword) → is_name (folded (spelling k)) ≡ true
 spelling_is_name k.And = refl
+spelling_is_name k.Array = refl
 spelling_is_name k.At = refl
 spelling_is_name k.Bool = refl
 spelling_is_name k.By = refl
@@ -181,6 +182,8 @@ symbol_first b bs s.Semicolon e = same_heads b 59 bs ([]) e refl
 symbol_first b bs s.Comma e = same_heads b 44 bs ([]) e refl
 symbol_first b bs s.Open e = same_heads b 40 bs ([]) e refl
 symbol_first b bs s.Close e = same_heads b 41 bs ([]) e refl
+symbol_first b bs s.OpenBracket e = same_heads b 91 bs ([]) e refl
+symbol_first b bs s.CloseBracket e = same_heads b 93 bs ([]) e refl
 symbol_first b bs s.Point e = same_heads b 46 bs ([]) e refl
 symbol_first b bs s.Plus e = same_heads b 43 bs ([]) e refl
 symbol_first b bs s.Minus e = same_heads b 45 bs ([]) e refl

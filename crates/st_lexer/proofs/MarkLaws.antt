@@ -104,6 +104,8 @@ single_found a s.Semicolon e = ap single_symbol (heads a 59 [] [] e)
 single_found a s.Comma e = ap single_symbol (heads a 44 [] [] e)
 single_found a s.Open e = ap single_symbol (heads a 40 [] [] e)
 single_found a s.Close e = ap single_symbol (heads a 41 [] [] e)
+single_found a s.OpenBracket e = ap single_symbol (heads a 91 [] [] e)
+single_found a s.CloseBracket e = ap single_symbol (heads a 93 [] [] e)
 single_found a s.Point e = ap single_symbol (heads a 46 [] [] e)
 single_found a s.Plus e = ap single_symbol (heads a 43 [] [] e)
 single_found a s.Minus e = ap single_symbol (heads a 45 [] [] e)
@@ -128,6 +130,8 @@ double_found a b s.Semicolon e = absurd (let l = ap length e in omega arith)
 double_found a b s.Comma e = absurd (let l = ap length e in omega arith)
 double_found a b s.Open e = absurd (let l = ap length e in omega arith)
 double_found a b s.Close e = absurd (let l = ap length e in omega arith)
+double_found a b s.OpenBracket e = absurd (let l = ap length e in omega arith)
+double_found a b s.CloseBracket e = absurd (let l = ap length e in omega arith)
 double_found a b s.Point e = absurd (let l = ap length e in omega arith)
 double_found a b s.Plus e = absurd (let l = ap length e in omega arith)
 double_found a b s.Minus e = absurd (let l = ap length e in omega arith)
@@ -151,6 +155,8 @@ symbol_length s.Semicolon = (omega arith, omega arith)
 symbol_length s.Comma = (omega arith, omega arith)
 symbol_length s.Open = (omega arith, omega arith)
 symbol_length s.Close = (omega arith, omega arith)
+symbol_length s.OpenBracket = (omega arith, omega arith)
+symbol_length s.CloseBracket = (omega arith, omega arith)
 symbol_length s.Point = (omega arith, omega arith)
 symbol_length s.Plus = (omega arith, omega arith)
 symbol_length s.Minus = (omega arith, omega arith)
@@ -177,7 +183,7 @@ paired_right n (e ∷ es) symbol right h = elim (cases_Bool (n == e.0)) [
 
 pub single_is : (a : ℕ) (symbol : Symbol) → single_symbol a ≡ Some symbol → bytes_of symbol ≡ a ∷ []
 unfolding single_symbol
-single_is a symbol h = paired_right a single_symbols symbol (refl, (refl, (refl, (refl, (refl, (refl, (refl, (refl, (refl, (refl, (refl, (refl, (refl, (refl, tt)))))))))))))) h
+single_is a symbol h = paired_right a single_symbols symbol (refl, (refl, (refl, (refl, (refl, (refl, (refl, (refl, (refl, (refl, (refl, (refl, (refl, (refl, (refl, (refl, tt)))))))))))))))) h
 
 -- one test of the two bytes
 abbrev test : ℕ → ℕ → ℕ → ℕ → Bool

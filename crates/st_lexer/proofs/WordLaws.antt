@@ -64,6 +64,7 @@ find_passes p (y ∷ xs) x h = elim (cases_Bool (p y)) [
 
 keyword_self : (k : Keyword) → find (λ j. bytes_eq (folded (spelling k)) (folded (spelling j))) KEYWORDS ≡ Some k
 keyword_self k.And = refl
+keyword_self k.Array = refl
 keyword_self k.At = refl
 keyword_self k.Bool = refl
 keyword_self k.By = refl

@@ -73,7 +73,7 @@ paired_with n (e ∷ es) = if n == e.0 then Some e.1 else paired_with n es
 
 -- the symbols of one byte
 abbrev pub single_symbols : List (ℕ × Symbol)
-single_symbols = (58, s.Colon) ∷ (59, s.Semicolon) ∷ (44, s.Comma) ∷ (40, s.Open) ∷ (41, s.Close) ∷ (46, s.Point) ∷ (43, s.Plus) ∷ (45, s.Minus) ∷ (42, s.Times) ∷ (47, s.Divide) ∷ (38, s.Ampersand) ∷ (61, s.Equal) ∷ (60, s.Less) ∷ (62, s.Greater) ∷ []
+single_symbols = (58, s.Colon) ∷ (59, s.Semicolon) ∷ (44, s.Comma) ∷ (40, s.Open) ∷ (41, s.Close) ∷ (91, s.OpenBracket) ∷ (93, s.CloseBracket) ∷ (46, s.Point) ∷ (43, s.Plus) ∷ (45, s.Minus) ∷ (42, s.Times) ∷ (47, s.Divide) ∷ (38, s.Ampersand) ∷ (61, s.Equal) ∷ (60, s.Less) ∷ (62, s.Greater) ∷ []
 
 -- the symbol of one byte
 unfoldable pub single_symbol : ℕ → Option Symbol

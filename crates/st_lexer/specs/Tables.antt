@@ -8,6 +8,7 @@ use Rattle.st_lexer.specs.declared.token.Symbol.TheVariants as s
 -- the spelling of a keyword
 abbrev pub spelling : Keyword → List ℕ
 spelling k.And = codes "AND"
+spelling k.Array = codes "ARRAY"
 spelling k.At = codes "AT"
 spelling k.Bool = codes "BOOL"
 spelling k.By = codes "BY"
@@ -55,6 +56,8 @@ bytes_of s.Semicolon = codes ";"
 bytes_of s.Comma = codes ","
 bytes_of s.Open = codes "("
 bytes_of s.Close = codes ")"
+bytes_of s.OpenBracket = codes "["
+bytes_of s.CloseBracket = codes "]"
 bytes_of s.Point = codes "."
 bytes_of s.Plus = codes "+"
 bytes_of s.Minus = codes "-"

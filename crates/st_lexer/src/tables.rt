@@ -8,8 +8,9 @@ use crate::token::{Keyword, Symbol};
 use plant_types::same_word;
 
 /// Every keyword.
-const KEYWORDS: [Keyword; 34] = [
+const KEYWORDS: [Keyword; 35] = [
     Keyword::And,
+    Keyword::Array,
     Keyword::At,
     Keyword::Bool,
     Keyword::By,
@@ -51,6 +52,7 @@ pub fn spelling(keyword: Keyword) -> &'static [u8]
 {
     match keyword {
         Keyword::And => b"AND",
+        Keyword::Array => b"ARRAY",
         Keyword::At => b"AT",
         Keyword::Bool => b"BOOL",
         Keyword::By => b"BY",
@@ -108,6 +110,8 @@ pub fn single_symbol(byte: u8) -> Option<Symbol>
         b',' => Some(Symbol::Comma),
         b'(' => Some(Symbol::Open),
         b')' => Some(Symbol::Close),
+        b'[' => Some(Symbol::OpenBracket),
+        b']' => Some(Symbol::CloseBracket),
         b'.' => Some(Symbol::Point),
         b'+' => Some(Symbol::Plus),
         b'-' => Some(Symbol::Minus),

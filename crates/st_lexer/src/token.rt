@@ -6,6 +6,7 @@ use plant_types::Region;
 #[derive(Clone, Copy, Debug, PartialEq, Eq, Drop)]
 pub enum Keyword {
     And,
+    Array,
     At,
     Bool,
     By,
@@ -66,6 +67,10 @@ pub enum Symbol {
     Open,
     /// `)`
     Close,
+    /// `[`
+    OpenBracket,
+    /// `]`
+    CloseBracket,
     /// `.`
     Point,
     /// `+`

@@ -25,7 +25,7 @@ block_type units word =
     else if same_word word (codes "R_TRIG") then Some r_trig
     else option_map declared_block (block_named units word)
 
--- an input or output of a block type: its name and its kind, which an instance in its place has none of
+-- an input or output of a block type: its name and its kind, which an instance or an array in its place has none of
 pub record Member : Type 0 where
   pub name : List ℕ
   pub kind : Option Kind

@@ -1,6 +1,7 @@
 -- What sections declare, name by name.
 use Rattle.std.specs.Prelude.{ℕ, Bool, true, false, if◌then◌else◌, List, [], ◌∷◌, ◌++◌, map, flat_map, Option, Some, None}
 use Rattle.plant_types.specs.Words.{folded, same_word}
+use Rattle.plant_types.specs.declared.values.Bounds.{Bounds}
 use Rattle.plant_types.specs.declared.values.Kind.{Kind}
 use Rattle.plant_types.specs.declared.values.Region.{Region}
 use Rattle.st_tree.specs.Plain.{PlainExpr}
@@ -48,12 +49,20 @@ abbrev pub first_declared : List (List ℕ) → List PlainDeclared → List Plai
 first_declared names [] = []
 first_declared names (d ∷ ds) = if is_among names d.name then first_declared names ds else d ∷ first_declared (names ++ d.name ∷ []) ds
 
--- the kind of a variable; an instance has none
+-- the kind of a variable; an instance and an array have none
 abbrev pub sort_kind : Sort → Option Kind
 sort_kind (sort.Kind kind) = Some kind
 sort_kind (sort.Block word) = None
+sort_kind (sort.Array bounds kind) = None
+
+-- the bounds of an array, and the kind of its elements; a variable and an instance have none
+abbrev pub sort_array : Sort → Option (Bounds × Kind)
+sort_array (sort.Kind kind) = None
+sort_array (sort.Block word) = None
+sort_array (sort.Array bounds kind) = Some (bounds, kind)
 
 -- a declared name is an instance, of a standard block or of a block type
 abbrev pub is_instance_sort : Sort → Bool
 is_instance_sort (sort.Kind kind) = false
 is_instance_sort (sort.Block word) = true
+is_instance_sort (sort.Array bounds kind) = false

@@ -54,10 +54,11 @@ abbrev pub with_members : Members → List PlainDeclared → Members
 with_members m [] = m
 with_members m (d ∷ ds) = with_members (with_member m d) ds
 
--- the block type's word of what is declared; a variable has none
+-- the block type's word of what is declared; a variable and an array have none
 abbrev pub sort_word : Sort → Option (List ℕ)
 sort_word (sort.Kind kind) = None
 sort_word (sort.Block word) = Some word
+sort_word (sort.Array bounds kind) = None
 
 abbrev pub word_of : Option PlainDeclared → Option (List ℕ)
 word_of d = option_and_then (λ e. sort_word e.sort) d

@@ -41,9 +41,10 @@ are_members (Some t) arguments = list_all (is_member t) arguments && not (repeat
 abbrev pub sort_known : List PlainUnit → Sort → Bool
 sort_known units (sort.Kind kind) = true
 sort_known units (sort.Block word) = is_some (block_type units word)
+sort_known units (sort.Array bounds kind) = true
 
 module _ (units : List PlainUnit) (own : List PlainDeclared) where
-  -- a name is that of a variable or an instance
+  -- a name is that of a variable, an array or an instance
   abbrev pub is_named : List ℕ → Bool
   is_named name = is_some (named units own name)
 

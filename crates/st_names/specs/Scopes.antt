@@ -1,5 +1,6 @@
 -- What a name in a body is: what the body declares itself, else a global.
-use Rattle.std.specs.Prelude.{ℕ, Bool, true, false, not, ◌&&◌, if◌then◌else◌, List, Option, Some, None, is_some, option_and_then}
+use Rattle.std.specs.Prelude.{ℕ, Bool, true, false, not, ◌&&◌, if◌then◌else◌, List, Option, Some, None, is_some, option_map, option_and_then}
+use Rattle.plant_types.specs.declared.values.Bounds.{Bounds}
 use Rattle.plant_types.specs.declared.values.Kind.{Kind}
 use Rattle.plant_types.specs.declared.values.Region.{Region}
 use Rattle.plant_types.specs.declared.values.Region.TheVariants as region
@@ -10,7 +11,7 @@ use Rattle.st_parser.specs.declared.unit.SectionKind.TheVariants as section
 use Rattle.st_parser.specs.declared.unit.Sort.{Sort}
 use Rattle.st_parser.specs.declared.unit.Sort.TheVariants as sort
 use Rattle.st_parser.specs.Units.{PlainUnit}
-use Rattle.st_names.specs.DeclaredNames.{PlainDeclared, find_declared, sort_kind}
+use Rattle.st_names.specs.DeclaredNames.{PlainDeclared, find_declared, sort_kind, sort_array}
 use Rattle.st_names.specs.Shared.{global_named}
 use Rattle.st_names.specs.BlockTypes.{BlockType, block_type, Member, inputs_of, outputs_of, find_member}
 
@@ -23,10 +24,11 @@ abbrev pub is_external : SectionKind → Bool
 is_external section.External = true
 is_external _ = false
 
--- the block type of what is declared; a variable has none
+-- the block type of what is declared; a variable and an array have none
 abbrev pub sort_type : List PlainUnit → Sort → Option BlockType
 sort_type units (sort.Kind kind) = None
 sort_type units (sort.Block word) = block_type units word
+sort_type units (sort.Array bounds kind) = None
 
 -- where what is declared lies: a VAR_EXTERNAL lies where its global does
 abbrev pub region_of : List PlainUnit → PlainDeclared → Option Region
@@ -35,6 +37,10 @@ region_of units d = if is_external d.section then option_and_then (λ (g : Plain
 -- the kind of the global of a name
 abbrev pub global_kind : List PlainUnit → List ℕ → Option Kind
 global_kind units name = option_and_then (λ (g : PlainDeclared). sort_kind g.sort) (global_named units name)
+
+-- the bounds of the global array of a name, and the kind of its elements
+abbrev pub global_array : List PlainUnit → List ℕ → Option (Bounds × Kind)
+global_array units name = option_and_then (λ (g : PlainDeclared). sort_array g.sort) (global_named units name)
 
 -- a region is that of inputs, to which nothing may be assigned
 abbrev pub is_input : Option Region → Bool
@@ -49,6 +55,14 @@ module _ (units : List PlainUnit) (own : List PlainDeclared) where
   -- the kind of the variable of a name
   abbrev pub variable_kind : List ℕ → Option Kind
   variable_kind name = option_and_then (λ d. sort_kind d.sort) (named name)
+
+  -- the bounds of the array of a name, and the kind of its elements
+  abbrev pub array_named : List ℕ → Option (Bounds × Kind)
+  array_named name = option_and_then (λ d. sort_array d.sort) (named name)
+
+  -- the kind of the elements of the array of a name
+  abbrev pub element_kind : List ℕ → Option Kind
+  element_kind name = option_map (λ a. a.1) (array_named name)
 
   -- the block type of the instance of a name
   abbrev pub instance_type : List ℕ → Option BlockType

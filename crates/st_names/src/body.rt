@@ -7,11 +7,11 @@ ghost use Rattle.st_names.specs.Scopes.{named, region_of, is_input, is_external,
 ghost use Rattle.st_names.specs.Kept.{own_entries, word_of};
 
 use crate::declared::{Declared, declared_in};
-use crate::named::sort_kind;
+use crate::named::{sort_array, sort_kind};
 use crate::scope::Scope;
 use crate::shared::SharedNames;
 use crate::table::Table;
-use plant_types::{Kind, Region, Text};
+use plant_types::{Bounds, Kind, Region, Text};
 use st_parser::{Section, SectionKind, Sort};
 use std::alloc::{AllocError, Global};
 use std::marker::Model;
@@ -130,7 +130,7 @@ impl<'a> BodyScope<'a> {
         match self.find(name) {
             Some(declared) => match declared.sort() {
                 Sort::Block(word) => Some(word),
-                Sort::Kind(_) => None,
+                Sort::Kind(_) | Sort::Array(_, _) => None,
             },
             None => None,
         }
@@ -204,6 +204,13 @@ impl<'a> Scope for BodyScope<'a> {
         }
     }
 
+    fn array(&self, name: &Text) -> Option<(Bounds, Kind)> {
+        match self.find(name) {
+            Some(declared) => sort_array(declared.sort()),
+            None => None,
+        }
+    }
+
     fn is_assignable(&self, name: &Text) -> bool {
         match self.find(name) {
             Some(declared) => {
@@ -254,6 +261,14 @@ impl<'a> Scope for BodyScope<'a> {
         let shared = self.shared;
         match shared.global(name) {
             Some(global) => sort_kind(global.sort()),
+            None => None,
+        }
+    }
+
+    fn global_array(&self, name: &Text) -> Option<(Bounds, Kind)> {
+        let shared = self.shared;
+        match shared.global(name) {
+            Some(global) => sort_array(global.sort()),
             None => None,
         }
     }

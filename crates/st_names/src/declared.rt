@@ -68,7 +68,7 @@ impl<'a> Declared<'a> {
         self.region
     }
 
-    /// What the name is declared as: a variable of a kind, or an instance of a block type.
+    /// What the name is declared as: a variable of a kind, an instance of a block type, or an array.
     pub fn sort(&self) -> &'a Sort
         ensures { result.now ≡ self.now.sort }
     {

@@ -195,7 +195,7 @@ fn sort_known<S: Scope>(scope: &S, sort: &Sort) -> bool
     ensures { result ≡ sort_known (S.units scope.now) sort.now }
 {
     match sort {
-        Sort::Kind(_) => true,
+        Sort::Kind(_) | Sort::Array(_, _) => true,
         Sort::Block(word) => scope.is_block_type(word),
     }
 }

@@ -22,7 +22,7 @@ pub use declared::{Declared, declared_in};
 pub use first::{Judge, first_unit};
 pub use known::body_known;
 pub use misnamed::first_misnamed;
-pub use named::sort_kind;
+pub use named::{sort_array, sort_kind};
 pub use place::UnitPlace;
 pub use rules::{Rule, every};
 pub use scope::Scope;

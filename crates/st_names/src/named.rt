@@ -2,14 +2,14 @@
 
 ghost use Rattle.std.specs.Prelude.{◌≡◌, IfOk, map, filter};
 ghost use Rattle.st_parser.specs.Units.{view_pou};
-ghost use Rattle.st_names.specs.DeclaredNames.{sort_kind};
+ghost use Rattle.st_names.specs.DeclaredNames.{sort_kind, sort_array};
 
 use crate::declared::Declared;
 use crate::table::Table;
-use plant_types::Kind;
+use plant_types::{Bounds, Kind};
 use st_parser::Sort;
 
-/// The inputs and outputs of a function block, each with its kind; an instance in their place has none.
+/// The inputs and outputs of a function block, each with its kind; an instance or an array in their place has none.
 pub struct Members {
     pub inputs: Table<Option<Kind>>,
     pub outputs: Table<Option<Kind>>,
@@ -32,12 +32,22 @@ pub enum Named<'a> {
     Program,
 }
 
-/// The kind of a variable; an instance has none.
+/// The kind of a variable; an instance and an array have none.
 pub fn sort_kind(sort: &Sort) -> Option<Kind>
     ensures { result ≡ sort_kind sort.now }
 {
     match sort {
         Sort::Kind(kind) => Some(*kind),
-        Sort::Block(_) => None,
+        Sort::Block(_) | Sort::Array(_, _) => None,
+    }
+}
+
+/// The bounds of an array, and the kind of its elements; a variable and an instance have none.
+pub fn sort_array(sort: &Sort) -> Option<(Bounds, Kind)>
+    ensures { result ≡ sort_array sort.now }
+{
+    match sort {
+        Sort::Array(bounds, kind) => Some((*bounds, *kind)),
+        Sort::Kind(_) | Sort::Block(_) => None,
     }
 }

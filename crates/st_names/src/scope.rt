@@ -5,9 +5,9 @@ ghost use Rattle.st_parser.specs.Units.{PlainUnit};
 ghost use Rattle.st_names.specs.DeclaredNames.{PlainDeclared};
 ghost use Rattle.st_names.specs.Shared.{global_named};
 ghost use Rattle.st_names.specs.BlockTypes.{block_type};
-ghost use Rattle.st_names.specs.Scopes.{named, variable_kind, instance_type, input_named, output_named, input_kind, output_kind, global_kind, is_assignable, is_control};
+ghost use Rattle.st_names.specs.Scopes.{named, variable_kind, array_named, instance_type, input_named, output_named, input_kind, output_kind, global_kind, global_array, is_assignable, is_control};
 
-use plant_types::{Kind, Text};
+use plant_types::{Bounds, Kind, Text};
 
 /// What the names in a body stand for, letter case ignored: what the body declares itself, and else what all sources share.
 pub trait Scope {
@@ -16,13 +16,17 @@ pub trait Scope {
     /// What the body declares itself, in order of text.
     ghost own: { Self → List PlainDeclared };
 
-    /// Whether a name is that of a variable or an instance.
+    /// Whether a name is that of a variable, an array or an instance.
     fn is_named(&self, name: &Text) -> bool
         ensures { result ≡ is_some (named (units self.now) (own self.now) name.now) };
 
-    /// The kind of the variable of a name; `None` for an instance, and if there is none of the name.
+    /// The kind of the variable of a name; `None` for an instance and an array, and if there is none of the name.
     fn variable_kind(&self, name: &Text) -> Option<Kind>
         ensures { result ≡ variable_kind (units self.now) (own self.now) name.now };
+
+    /// The bounds of the array of a name, and the kind of its elements; `None` if there is none of the name.
+    fn array(&self, name: &Text) -> Option<(Bounds, Kind)>
+        ensures { result ≡ array_named (units self.now) (own self.now) name.now };
 
     /// Whether a name is that of a variable to which a body may assign: not that of an input of the plant.
     fn is_assignable(&self, name: &Text) -> bool
@@ -63,4 +67,8 @@ pub trait Scope {
     /// The kind of the global of a name.
     fn global_kind(&self, name: &Text) -> Option<Kind>
         ensures { result ≡ global_kind (units self.now) name.now };
+
+    /// The bounds of the global array of a name, and the kind of its elements.
+    fn global_array(&self, name: &Text) -> Option<(Bounds, Kind)>
+        ensures { result ≡ global_array (units self.now) name.now };
 }

@@ -105,7 +105,7 @@ impl<'a> SharedNames<'a> {
         is_standard(word) || self.block(word).is_some()
     }
 
-    /// The kind of the input of a name, of the block type of a word; `Some(None)` for an instance in its place, `None` if there is no such input.
+    /// The kind of the input of a name, of the block type of a word; `Some(None)` for an instance or an array in its place, `None` if there is no such input.
     pub fn input(&self, word: &Text, name: &Text) -> Option<Option<Kind>>
         ensures { result ≡ option_map (λ m. m.kind) (option_and_then (λ t. find_member (inputs_of t) name.now) (block_type self.now word.now)) }
     {
@@ -119,7 +119,7 @@ impl<'a> SharedNames<'a> {
         members.inputs.find(name.as_str()).copied()
     }
 
-    /// The kind of the output of a name, of the block type of a word; `Some(None)` for an instance in its place, `None` if there is no such output.
+    /// The kind of the output of a name, of the block type of a word; `Some(None)` for an instance or an array in its place, `None` if there is no such output.
     pub fn output(&self, word: &Text, name: &Text) -> Option<Option<Kind>>
         ensures { result ≡ option_map (λ m. m.kind) (option_and_then (λ t. find_member (outputs_of t) name.now) (block_type self.now word.now)) }
     {

@@ -4,14 +4,14 @@ use Rattle.std.proofs.lemmas.Bool.Decides.{nat_tests}
 use Rattle.st_lexer.specs.declared.token.Keyword.TheVariants as k
 use Rattle.st_lexer.specs.declared.token.Symbol.TheVariants as s
 use Rattle.st_tree.specs.declared.tree.Label.{Label}
-use Rattle.st_tree.specs.Plain.{PlainExpr, PlainArgument, input, output, PlainStmt, PlainBody, empty, assign, call, if_else, case_of, for_to, done}
+use Rattle.st_tree.specs.Plain.{PlainExpr, PlainArgument, input, output, PlainStmt, PlainBody, empty, assign, store, call, if_else, case_of, for_to, done}
 use Rattle.st_tree.specs.View.{body_of, branches_of, choices_of}
 use Rattle.st_expressions.specs.Lexemes.{Lexeme, word, keyword, integer, symbol}
 use Rattle.st_expressions.specs.Phrases.{Each, Perhaps, After}
-use Rattle.st_expressions.specs.Grammar.{IsExpression}
-use Rattle.st_parser.specs.Statements.{IsArgument, for_input, for_output, Arguments, none, some, IsNumber, plain, negative, IsLabel, range, IsBranch, test, IsChoice, labelled, Otherwise, nothing, instead, Statement, bare, assignment, calling, branching, selecting, repeating, Ended, ended, Sequence, sequence, SpellsStmt, IsBody}
+use Rattle.st_expressions.specs.Grammar.{unknown_bounds, IsExpression}
+use Rattle.st_parser.specs.Statements.{IsArgument, for_input, for_output, Arguments, none, some, IsNumber, plain, negative, IsLabel, range, IsBranch, test, IsChoice, labelled, Otherwise, nothing, instead, Statement, bare, assignment, storing, calling, branching, selecting, repeating, Ended, ended, Sequence, sequence, SpellsStmt, IsBody}
 use Rattle.st_expressions.specs.Reading.{word_at, is_symbol, is_keyword, symbol_at, keyword_at, all_at, perhaps_at, after_symbol, after_keyword, listed_at, expression_at}
-use Rattle.st_parser.specs.ReadingStatements.{taken_at, given_at, called_at, assigned_at, argued_at, argument_at, arguments_at, negative_at, number_at, label_at, is_label, is_statement, simple_at, branch_at, choice_at, otherwise_at, branches_at, choices_at, if_at, case_at, bounds_at, header_at, for_at, stmt_at, ended_at, as_body, item_at, sequence_at, body_at}
+use Rattle.st_parser.specs.ReadingStatements.{taken_at, given_at, called_at, assigned_at, stored_at, targeted_at, argued_at, argument_at, arguments_at, negative_at, number_at, label_at, is_label, is_statement, simple_at, branch_at, choice_at, otherwise_at, branches_at, choices_at, if_at, case_at, bounds_at, header_at, for_at, stmt_at, ended_at, as_body, item_at, sequence_at, body_at}
 use Rattle.st_expressions.proofs.Many.{Front, Finds, turned, with_first_some, all_found, perhaps_found, after_symbol_found, after_keyword_found, listed_found, three_parts}
 use Rattle.st_expressions.proofs.Sound.{expression_found}
 use Rattle.st_expressions.proofs.Steps.{true_or_false, bind_some, same_some, passed, word_found, symbol_found, keyword_found, next_is_symbol, next_is_keyword}
@@ -84,7 +84,7 @@ negative_found (integer m ∷ ts) n rest h =
 negative_found [] n rest h = absurd (cc)
 negative_found (_ ∷ ts) n rest h = absurd (cc)
 
-number_found : Finds IsNumber number_at
+pub number_found : Finds IsNumber number_at
 unfolding number_at
 number_found (integer m ∷ ts) n rest h =
     let p = passed (nat_le m 2147483647) (Some (pos m, ts)) (n, rest) h in
@@ -337,12 +337,37 @@ module _ (P : List Lexeme → PlainBody (List ℕ) → Type 0) (inner : List Lex
         spelled = assignment name e.0 f.front f.spelled refl refl;
       }
 
+  stored_found : (name : List ℕ) (ts : List Lexeme) (stmt : PlainStmt (List ℕ)) (rest : List Lexeme) → stored_at name ts ≡ Some (stmt, rest) → Front (Statement P) (word name ∷ symbol s.OpenBracket ∷ ts) stmt rest
+  unfolding stored_at
+  stored_found name ts stmt rest h =
+      let (index, was_index, h1) = bind_some (expression_at ts) _ (stmt, rest) h in
+      let (closed, was_closed, h2) = bind_some (symbol_at s.CloseBracket index.1) _ (stmt, rest) h1 in
+      let (right, was_right, h3) = bind_some (symbol_at s.Becomes closed) _ (stmt, rest) h2 in
+      let (e, was_e, is) = bind_some (expression_at right) _ (stmt, rest) h3 in
+      let f = expression_found ts index.0 index.1 was_index in
+      let e1 = symbol_found s.CloseBracket index.1 closed was_closed in
+      let e2 = symbol_found s.Becomes closed right was_right in
+      let g = expression_found right e.0 e.1 was_e in
+      turned (Statement P) (word name ∷ symbol s.OpenBracket ∷ ts) (store 0 name unknown_bounds index.0 e.0, e.1) (stmt, rest) is record {
+        front = word name ∷ symbol s.OpenBracket ∷ (f.front ++ symbol s.CloseBracket ∷ symbol s.Becomes ∷ g.front);
+        whole = ap (λ l. word name ∷ symbol s.OpenBracket ∷ l) (f.whole ∙ ap (λ l. f.front ++ l) (e1 ∙ ap (λ l. symbol s.CloseBracket ∷ l) (e2 ∙ ap (λ l. symbol s.Becomes ∷ l) g.whole)) ∙ sym (append_assoc f.front (symbol s.CloseBracket ∷ symbol s.Becomes ∷ g.front) e.1));
+        spelled = storing name index.0 e.0 f.front g.front f.spelled g.spelled refl refl;
+      }
+
+  targeted_found : (name : List ℕ) (ts : List Lexeme) (stmt : PlainStmt (List ℕ)) (rest : List Lexeme) → targeted_at name ts ≡ Some (stmt, rest) → Front (Statement P) (word name ∷ ts) stmt rest
+  unfolding targeted_at
+  targeted_found name ts stmt rest h =
+      elim (true_or_false (is_symbol s.OpenBracket ts)) as (λ _. Front (Statement P) (word name ∷ ts) stmt rest) [
+        | inl yes' ↦ subst (λ l. Front (Statement P) (word name ∷ l) stmt rest) (sym (next_is_symbol s.OpenBracket ts yes')) (stored_found name (drop 1 ts) stmt rest (chosen _ _ _ (stmt, rest) yes' h))
+        | inr no' ↦ assigned_found name ts stmt rest (left_out _ _ _ (stmt, rest) no' h)
+      ]
+
   simple_found : (name : List ℕ) (ts : List Lexeme) (stmt : PlainStmt (List ℕ)) (rest : List Lexeme) → simple_at name ts ≡ Some (stmt, rest) → Front (Statement P) (word name ∷ ts) stmt rest
   unfolding simple_at
   simple_found name ts stmt rest h =
       elim (true_or_false (is_symbol s.Open ts)) as (λ _. Front (Statement P) (word name ∷ ts) stmt rest) [
         | inl yes' ↦ subst (λ l. Front (Statement P) (word name ∷ l) stmt rest) (sym (next_is_symbol s.Open ts yes')) (called_found name (drop 1 ts) stmt rest (chosen _ _ _ (stmt, rest) yes' h))
-        | inr no' ↦ assigned_found name ts stmt rest (left_out _ _ _ (stmt, rest) no' h)
+        | inr no' ↦ targeted_found name ts stmt rest (left_out _ _ _ (stmt, rest) no' h)
       ]
 
   statement_found : Finds (Statement P) (stmt_at inner)

@@ -7,16 +7,16 @@ use Rattle.st_tree.specs.Plain.{PlainExpr}
 use Rattle.st_expressions.specs.Lexemes.{Lexeme, word, keyword, address, symbol}
 use Rattle.st_expressions.specs.Phrases.{Perhaps, After, listed}
 use Rattle.st_expressions.specs.Grammar.{IsExpression}
-use Rattle.st_parser.specs.Declarations.{IsName, kind_of_word, sort_of, Declares, declaration, DeclaresGlobal, placed, anywhere, Globals, globals, section_of, IsSection, variables, opening_keyword, closing_keyword, IsPou, organised, SpellsUnit, unit}
+use Rattle.st_parser.specs.Declarations.{IsName, kind_of_word, sort_of, IsBounds, between, IsSort, simple, array, Declares, declaration, DeclaresGlobal, placed, anywhere, Globals, globals, section_of, IsSection, variables, opening_keyword, closing_keyword, IsPou, organised, SpellsUnit, unit}
 use Rattle.st_expressions.specs.Reading.{word_at, is_symbol, is_keyword, is_word, symbol_at, keyword_at, with_first, all_at, perhaps_at, after_symbol, others_at, table_at, expression_at}
-use Rattle.st_parser.specs.ReadingStatements.{body_at}
-use Rattle.st_parser.specs.ReadingUnits.{address_at, initial_at, declared_at, placed_at, declaration_at, global_at, globals_at, is_section, section_at, pou_of, is_pou, pou_at, unit_at}
+use Rattle.st_parser.specs.ReadingStatements.{number_at, body_at}
+use Rattle.st_parser.specs.ReadingUnits.{address_at, limits_at, array_at, sort_at, initial_at, declared_at, placed_at, declaration_at, global_at, globals_at, is_section, section_at, pou_of, is_pou, pou_at, unit_at}
 use Rattle.st_parser.specs.Units.{PlainDeclaration, PlainUnit}
 use Rattle.st_parser.specs.declared.unit.PouKind.{PouKind}
 use Rattle.st_parser.specs.declared.unit.SectionKind.TheVariants as section
 use Rattle.st_parser.specs.declared.unit.Sort.{Sort}
 use Rattle.st_parser.specs.declared.unit.Sort.TheVariants as sort
-use Rattle.st_parser.proofs.FoundStatements.{chosen, left_out, body_found}
+use Rattle.st_parser.proofs.FoundStatements.{chosen, left_out, number_found, body_found}
 use Rattle.st_expressions.proofs.Many.{Front, Finds, turned, with_first_some, all_found, perhaps_found, after_symbol_found, others_found, two_parts}
 use Rattle.st_parser.proofs.ReadUnits.{unit_read}
 use Rattle.st_expressions.proofs.Sound.{expression_found}
@@ -72,10 +72,56 @@ initial_found names region what ts d rest h =
 word_finds : Finds IsName word_at
 word_finds ts name rest h = record { front = word name ∷ []; whole = word_found ts (name, rest) h; spelled = refl }
 
-declared_whole : (name : List ℕ) (x y ts r colon rest v : List Lexeme) (t : Lexeme) → ts ≡ x ++ r → r ≡ symbol s.Colon ∷ colon → colon ≡ t ∷ v → v ≡ y ++ symbol s.Semicolon ∷ rest
-    → word name ∷ ts ≡ ((word name ∷ [] ++ x) ++ symbol s.Colon ∷ t ∷ (y ++ symbol s.Semicolon ∷ [])) ++ rest
-declared_whole name x y ts r colon rest v t e0 e1 e2 e3 =
-    rw (e0, e1, e2, e3) (ap (λ l. word name ∷ l) (sym (append_assoc x (symbol s.Colon ∷ t ∷ (y ++ symbol s.Semicolon ∷ [])) rest ∙ ap (λ l. x ++ symbol s.Colon ∷ t ∷ l) (append_assoc y (symbol s.Semicolon ∷ []) rest))))
+limits_whole : (x y ts opened u dots v left : List Lexeme) → ts ≡ symbol s.OpenBracket ∷ opened → opened ≡ x ++ u → u ≡ symbol s.Range ∷ dots → dots ≡ y ++ v → v ≡ symbol s.CloseBracket ∷ left
+    → ts ≡ (symbol s.OpenBracket ∷ (x ++ symbol s.Range ∷ (y ++ symbol s.CloseBracket ∷ []))) ++ left
+limits_whole x y ts opened u dots v left e0 e1 e2 e3 e4 =
+    rw (e0, e1, e2, e3, e4, append_assoc x (symbol s.Range ∷ (y ++ symbol s.CloseBracket ∷ [])) left, append_assoc y (symbol s.CloseBracket ∷ []) left) refl
+
+limits_found : Finds IsBounds limits_at
+unfolding limits_at
+limits_found ts bounds rest h =
+    let (opened, was_opened, h1) = bind_some (symbol_at s.OpenBracket ts) _ (bounds, rest) h in
+    let (low, was_low, h2) = bind_some (number_at opened) _ (bounds, rest) h1 in
+    let (dots, was_dots, h3) = bind_some (symbol_at s.Range low.1) _ (bounds, rest) h2 in
+    let (high, was_high, h4) = bind_some (number_at dots) _ (bounds, rest) h3 in
+    let (left, was_left, is) = bind_some (symbol_at s.CloseBracket high.1) _ (bounds, rest) h4 in
+    let f = number_found opened low.0 low.1 was_low in
+    let g = number_found dots high.0 high.1 was_high in
+    turned IsBounds ts (record { low = low.0; high = high.0 }, left) (bounds, rest) is record {
+      front = symbol s.OpenBracket ∷ (f.front ++ symbol s.Range ∷ (g.front ++ symbol s.CloseBracket ∷ []));
+      whole = limits_whole f.front g.front ts opened low.1 dots high.1 left (symbol_found s.OpenBracket ts opened was_opened) f.whole (symbol_found s.Range low.1 dots was_dots) g.whole (symbol_found s.CloseBracket high.1 left was_left);
+      spelled = between low.0 high.0 f.front g.front f.spelled g.spelled refl refl;
+    }
+
+array_whole : (x ts u inside left : List Lexeme) (t : Lexeme) → ts ≡ x ++ u → u ≡ keyword k.Of ∷ inside → inside ≡ t ∷ left → keyword k.Array ∷ ts ≡ (keyword k.Array ∷ (x ++ keyword k.Of ∷ t ∷ [])) ++ left
+array_whole x ts u inside left t e0 e1 e2 = rw (e0, e1, e2) (ap (λ l. keyword k.Array ∷ l) (sym (append_assoc x (keyword k.Of ∷ t ∷ []) left)))
+
+array_found : (ts : List Lexeme) (what : Sort) (rest : List Lexeme) → array_at ts ≡ Some (what, rest) → Front IsSort (keyword k.Array ∷ ts) what rest
+unfolding array_at
+array_found ts what rest h =
+    let (bounds, was_bounds, h1) = bind_some (limits_at ts) _ (what, rest) h in
+    let (inside, was_inside, h2) = bind_some (keyword_at k.Of bounds.1) _ (what, rest) h1 in
+    let (kind, was_kind, is) = bind_some (table_at kind_of_word inside) _ (what, rest) h2 in
+    let f = limits_found ts bounds.0 bounds.1 was_bounds in
+    let t = told_found kind_of_word inside kind.0 kind.1 was_kind in
+    turned IsSort (keyword k.Array ∷ ts) (sort.Array bounds.0 kind.0, kind.1) (what, rest) is record {
+      front = keyword k.Array ∷ (f.front ++ keyword k.Of ∷ t.t ∷ []);
+      whole = array_whole f.front ts bounds.1 inside kind.1 t.t f.whole (keyword_found k.Of bounds.1 inside was_inside) t.whole;
+      spelled = array bounds.0 t.t kind.0 f.front f.spelled t.is refl refl;
+    }
+
+sort_found : Finds IsSort sort_at
+unfolding sort_at
+sort_found ts what rest h =
+    elim (true_or_false (is_keyword k.Array ts)) as (λ _. Front IsSort ts what rest) [
+      | inl yes' ↦ subst (λ l. Front IsSort l what rest) (sym (next_is_keyword k.Array ts yes')) (array_found (drop 1 ts) what rest (chosen _ _ _ (what, rest) yes' h))
+      | inr no' ↦ let t = told_found sort_of ts what rest (left_out _ _ _ (what, rest) no' h) in record { front = t.t ∷ []; whole = t.whole; spelled = simple t.t t.is refl }
+    ]
+
+declared_whole : (name : List ℕ) (x w y ts r colon rest v : List Lexeme) → ts ≡ x ++ r → r ≡ symbol s.Colon ∷ colon → colon ≡ w ++ v → v ≡ y ++ symbol s.Semicolon ∷ rest
+    → word name ∷ ts ≡ ((word name ∷ [] ++ x) ++ symbol s.Colon ∷ (w ++ (y ++ symbol s.Semicolon ∷ []))) ++ rest
+declared_whole name x w y ts r colon rest v e0 e1 e2 e3 =
+    rw (e0, e1, e2, e3) (ap (λ l. word name ∷ l) (sym (append_assoc x (symbol s.Colon ∷ (w ++ (y ++ symbol s.Semicolon ∷ []))) rest ∙ ap (λ l. x ++ symbol s.Colon ∷ l) (two_parts w y (symbol s.Semicolon) rest))))
 
 declared_found : (name : List ℕ) (ts : List Lexeme) (d : PlainDeclaration) (rest : List Lexeme) → declared_at name ts ≡ Some (d, rest) → Front Declares (word name ∷ ts) d rest
 unfolding declared_at
@@ -83,16 +129,16 @@ declared_found name ts d rest h =
     let (names, was_names, h1) = bind_some (with_first (name ∷ []) (others_at word_at ts)) _ (d, rest) h in
     let (others, was_others, same) = with_first_some (name ∷ []) (others_at word_at ts) names was_names in
     let (colon, was_colon, h2) = bind_some (symbol_at s.Colon names.1) _ (d, rest) h1 in
-    let (what, was_what, h3) = bind_some (table_at sort_of colon) _ (d, rest) h2 in
+    let (what, was_what, h3) = bind_some (sort_at colon) _ (d, rest) h2 in
     let f = others_found IsName anything word_at word_finds ts others.0 others.1 was_others in
     let e1 = ap (λ (r : List (List ℕ) × List Lexeme). r.1) same ∙ symbol_found s.Colon names.1 colon was_colon in
-    let t = told_found sort_of colon what.0 what.1 was_what in
+    let t = sort_found colon what.0 what.1 was_what in
     let i = initial_found (name ∷ others.0) None what.0 what.1 d rest (ap (λ (r : List (List ℕ) × List Lexeme). initial_at r.0 None what.0 what.1) same ∙ h3) in
     let words = word name ∷ f.front in
     record {
-      front = words ++ symbol s.Colon ∷ t.t ∷ (i.front ++ symbol s.Semicolon ∷ []);
-      whole = declared_whole name f.front i.front ts others.1 colon rest what.1 t.t f.whole e1 t.whole i.whole;
-      spelled = declaration (name ∷ others.0) t.t what.0 i.initial words i.front (listed name others.0 (word name ∷ []) f.front refl f.spelled refl refl) t.is i.value refl i.is;
+      front = words ++ symbol s.Colon ∷ (t.front ++ (i.front ++ symbol s.Semicolon ∷ []));
+      whole = declared_whole name f.front t.front i.front ts others.1 colon rest what.1 f.whole e1 t.whole i.whole;
+      spelled = declaration (name ∷ others.0) what.0 i.initial words t.front i.front (listed name others.0 (word name ∷ []) f.front refl f.spelled refl refl) t.spelled i.value refl i.is;
     }
 
 placed_whole : (name : List ℕ) (r : Region) (t : Lexeme) (y ts v colon w rest : List Lexeme) → ts ≡ address r ∷ v → v ≡ symbol s.Colon ∷ colon → colon ≡ t ∷ w → w ≡ y ++ symbol s.Semicolon ∷ rest

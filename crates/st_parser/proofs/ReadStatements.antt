@@ -9,9 +9,9 @@ use Rattle.st_tree.specs.View.{branches_of, choices_of}
 use Rattle.st_expressions.specs.Lexemes.{Lexeme, word, keyword, integer, symbol}
 use Rattle.st_expressions.specs.Phrases.{Each, Perhaps, absent, present, After, after, Listed, listed}
 use Rattle.st_expressions.specs.Grammar.{IsExpression}
-use Rattle.st_parser.specs.Statements.{IsArgument, for_input, for_output, Arguments, none, some, IsNumber, plain, negative, IsLabel, range, IsBranch, test, IsChoice, labelled, Otherwise, nothing, instead, Statement, bare, assignment, calling, branching, selecting, repeating, Ended, ended, Sequence, sequence, SpellsStmt, IsBody}
+use Rattle.st_parser.specs.Statements.{IsArgument, for_input, for_output, Arguments, none, some, IsNumber, plain, negative, IsLabel, range, IsBranch, test, IsChoice, labelled, Otherwise, nothing, instead, Statement, bare, assignment, storing, calling, branching, selecting, repeating, Ended, ended, Sequence, sequence, SpellsStmt, IsBody}
 use Rattle.st_expressions.specs.Reading.{is_symbol, is_keyword, after_symbol, after_keyword, expression_at}
-use Rattle.st_parser.specs.ReadingStatements.{called_at, assigned_at, argued_at, argument_at, arguments_at, number_at, label_at, is_label, is_statement, simple_at, branch_at, choice_at, otherwise_at, branches_at, choices_at, if_at, case_at, bounds_at, header_at, for_at, stmt_at, ended_at, as_body, item_at, sequence_at, body_at}
+use Rattle.st_parser.specs.ReadingStatements.{called_at, assigned_at, stored_at, targeted_at, argued_at, argument_at, arguments_at, number_at, label_at, is_label, is_statement, simple_at, branch_at, choice_at, otherwise_at, branches_at, choices_at, if_at, case_at, bounds_at, header_at, for_at, stmt_at, ended_at, as_body, item_at, sequence_at, body_at}
 use Rattle.st_expressions.proofs.Complete.{ends, expression_read}
 use Rattle.st_expressions.proofs.Many.{Reads, Begins, may_follow, all_read, perhaps_read, after_symbol_read, after_keyword_read, symbol_next, keyword_next, after_keyword_begins, listed_read, three_parts}
 
@@ -34,10 +34,10 @@ arguments_read x rest all (none is what) = rw (is, what) refl
 arguments_read x rest all (some l) = rw (arguments_begin x (symbol s.Close ∷ rest) all l) (listed_read IsArgument ends argument_at argument_read (λ ts. refl) all x (symbol s.Close ∷ rest) l refl refl)
 
 -- ---- labels
-abbrev anything : List Lexeme → Bool
+abbrev pub anything : List Lexeme → Bool
 anything ts = true
 
-number_read : Reads IsNumber number_at anything
+pub number_read : Reads IsNumber number_at anything
 unfolding number_at
 number_read x rest n (plain m small is what) h =
     let so : nat_le m 2147483647 ≡ true = grind (arith, nat_tests) in
@@ -163,9 +163,11 @@ module _ (P : List Lexeme → PlainBody (List ℕ) → Type 0) (inner : List Lex
       rw (expression_read w (keyword k.To ∷ (x ++ (y ++ after_do))) from is_from refl, expression_read x (y ++ after_do) to is_to (by_ends y (z ++ keyword k.EndFor ∷ rest) by is_by), step, reads z (keyword k.EndFor ∷ rest) body is_body refl) refl
 
   statement_read : (x rest : List Lexeme) (stmt : PlainStmt (List ℕ)) → Statement P x stmt → stmt_at inner (x ++ symbol s.Semicolon ∷ rest) ≡ Some (stmt, symbol s.Semicolon ∷ rest)
-  unfolding stmt_at simple_at called_at assigned_at
+  unfolding stmt_at simple_at called_at targeted_at stored_at assigned_at
   statement_read x rest stmt (bare is what) = rw (is, what) refl
   statement_read x rest stmt (assignment name e y spelled is what) = rw (is, expression_read y (symbol s.Semicolon ∷ rest) e spelled refl, what) refl
+  statement_read x rest stmt (storing name index value y z at to is what) =
+      rw (is, append_assoc y (symbol s.CloseBracket ∷ symbol s.Becomes ∷ z) (symbol s.Semicolon ∷ rest), expression_read y (symbol s.CloseBracket ∷ symbol s.Becomes ∷ (z ++ symbol s.Semicolon ∷ rest)) index at refl, expression_read z (symbol s.Semicolon ∷ rest) value to refl, what) refl
   statement_read x rest stmt (calling name all y spelled is what) = rw (is, append_assoc y (symbol s.Close ∷ []) (symbol s.Semicolon ∷ rest), arguments_read y (symbol s.Semicolon ∷ rest) all spelled, what) refl
   statement_read x rest stmt (branching first others last y z w is_first each is_last is what) = rw (is, three_parts y z w (keyword k.EndIf) (symbol s.Semicolon ∷ rest), what) (if_read y z w (symbol s.Semicolon ∷ rest) first others last is_first each is_last)
   statement_read x rest stmt (selecting e first others last v y z w selector is_first each is_last is what) =
@@ -182,6 +184,7 @@ module _ (P : List Lexeme → PlainBody (List ℕ) → Type 0) (inner : List Lex
 begins_so : (P : List Lexeme → PlainBody (List ℕ) → Type 0) (x rest : List Lexeme) (stmt : PlainStmt (List ℕ)) → Statement P x stmt → is_statement (x ++ symbol s.Semicolon ∷ rest) ≡ true
 begins_so P x rest stmt (bare is what) = rw is refl
 begins_so P x rest stmt (assignment name e y spelled is what) = rw is refl
+begins_so P x rest stmt (storing name index value y z at to is what) = rw is refl
 begins_so P x rest stmt (calling name all y spelled is what) = rw is refl
 begins_so P x rest stmt (branching first others last y z w is_first each is_last is what) = rw is refl
 begins_so P x rest stmt (selecting e first others last v y z w selector is_first each is_last is what) = rw is refl

@@ -1,6 +1,7 @@
 -- Declarations, blocks, programs and units that are spelled are read.
 use Rattle.std.proofs.Common.{◌≡◌, ℕ, ◌<◌, Bool, true, false, List, [], ◌∷◌, ◌++◌, append_assoc, append-nil, length, length-append, Option, Some, None, is_some, refl, sym, ap, ◌∙◌, arith, inl, inr}
 use Rattle.st_lexer.specs.declared.token.Keyword.TheVariants as k
+use Rattle.plant_types.specs.declared.values.Bounds.{Bounds}
 use Rattle.plant_types.specs.declared.values.Region.{Region}
 use Rattle.st_lexer.specs.declared.token.Symbol.TheVariants as s
 use Rattle.st_tree.specs.Plain.{PlainExpr, PlainBody}
@@ -8,10 +9,10 @@ use Rattle.st_expressions.specs.Lexemes.{Lexeme, word, keyword, symbol}
 use Rattle.st_expressions.specs.Phrases.{Each, Perhaps, After, after, listed}
 use Rattle.st_expressions.specs.Grammar.{IsExpression}
 use Rattle.st_parser.specs.Statements.{IsBody}
-use Rattle.st_parser.specs.Declarations.{IsName, sort_of, Declares, declaration, DeclaresGlobal, placed, anywhere, Globals, globals, section_of, IsSection, variables, opening_keyword, closing_keyword, IsPou, organised, SpellsUnit, unit}
+use Rattle.st_parser.specs.Declarations.{IsName, sort_of, IsBounds, between, IsSort, simple, array, Declares, declaration, DeclaresGlobal, placed, anywhere, Globals, globals, section_of, IsSection, variables, opening_keyword, closing_keyword, IsPou, organised, SpellsUnit, unit}
 use Rattle.st_expressions.specs.Reading.{word_at, is_symbol, is_keyword, is_word, keyword_at, all_at, after_symbol, expression_at}
 use Rattle.st_parser.specs.ReadingStatements.{is_statement, body_at}
-use Rattle.st_parser.specs.ReadingUnits.{initial_at, declared_at, placed_at, declaration_at, global_at, globals_at, is_section, section_at, pou_of, is_pou, pou_at, unit_at}
+use Rattle.st_parser.specs.ReadingUnits.{limits_at, array_at, sort_at, initial_at, declared_at, placed_at, declaration_at, global_at, globals_at, is_section, section_at, pou_of, is_pou, pou_at, unit_at}
 use Rattle.st_parser.specs.Units.{PlainDeclaration, PlainSection, PlainPou, PlainUnit}
 use Rattle.st_parser.specs.declared.unit.PouKind.{PouKind}
 use Rattle.st_parser.specs.declared.unit.PouKind.TheVariants as pou
@@ -19,10 +20,7 @@ use Rattle.st_parser.specs.declared.unit.Sort.{Sort}
 use Rattle.st_parser.specs.declared.unit.Sort.TheVariants as sort
 use Rattle.st_expressions.proofs.Complete.{ends, expression_read}
 use Rattle.st_expressions.proofs.Many.{Reads, Begins, all_read, perhaps_read, after_symbol_read, symbol_next, others_read, two_parts}
-use Rattle.st_parser.proofs.ReadStatements.{stops, body_begins, body_read}
-
-abbrev anything : List Lexeme → Bool
-anything ts = true
+use Rattle.st_parser.proofs.ReadStatements.{anything, number_read, stops, body_begins, body_read}
 
 -- ---- declarations
 initial_read : (names : List (List ℕ)) (region : Option Region) (what : Sort) (initial : Option (PlainExpr (List ℕ))) (y rest : List Lexeme) → Perhaps (After (symbol s.Becomes) IsExpression) y initial
@@ -35,12 +33,29 @@ initial_read names region what initial y rest p =
 word_read : Reads IsName word_at anything
 word_read x rest name is h = rw is refl
 
+limits_read : Reads IsBounds limits_at anything
+unfolding limits_at
+limits_read x rest bounds (between low high y z is_low is_high is what) h =
+    rw (is, append_assoc y (symbol s.Range ∷ (z ++ symbol s.CloseBracket ∷ [])) rest, append_assoc z (symbol s.CloseBracket ∷ []) rest, number_read y (symbol s.Range ∷ (z ++ symbol s.CloseBracket ∷ rest)) low is_low refl, number_read z (symbol s.CloseBracket ∷ rest) high is_high refl, what) refl
+
+-- what declares variables by itself is no ARRAY
+no_array : (t : Lexeme) (what : Sort) (ts : List Lexeme) → sort_of t ≡ Some what → is_keyword k.Array (t ∷ ts) ≡ false
+no_array (keyword k.Array) what ts is = absurd (cc)
+no_array (keyword _) what ts is = refl
+no_array _ what ts is = refl
+
+sort_read : Reads IsSort sort_at anything
+unfolding sort_at array_at
+sort_read x rest what (simple t is is_x) h = rw (is_x, no_array t what rest is, is) refl
+sort_read x rest what (array bounds t kind y is_y is is_x is_what) h =
+    rw (is_x, append_assoc y (keyword k.Of ∷ t ∷ []) rest, limits_read y (keyword k.Of ∷ t ∷ rest) bounds is_y refl, is, is_what) refl
+
 -- after the first name of a declaration
-declared_read : (name : List ℕ) (others : List (List ℕ)) (t : Lexeme) (what : Sort) (initial : Option (PlainExpr (List ℕ))) (x y rest : List Lexeme) → Each (After (symbol s.Comma) IsName) x others → sort_of t ≡ Some what → Perhaps (After (symbol s.Becomes) IsExpression) y initial
-    → declared_at name (x ++ symbol s.Colon ∷ t ∷ (y ++ symbol s.Semicolon ∷ rest)) ≡ Some (record { names = name ∷ others; region = None; sort = what; initial = initial }, rest)
+declared_read : (name : List ℕ) (others : List (List ℕ)) (what : Sort) (initial : Option (PlainExpr (List ℕ))) (x y z rest : List Lexeme) → Each (After (symbol s.Comma) IsName) x others → IsSort y what → Perhaps (After (symbol s.Becomes) IsExpression) z initial
+    → declared_at name (x ++ symbol s.Colon ∷ (y ++ (z ++ symbol s.Semicolon ∷ rest))) ≡ Some (record { names = name ∷ others; region = None; sort = what; initial = initial }, rest)
 unfolding declared_at
-declared_read name others t what initial x y rest each is p =
-    rw (others_read IsName anything word_at word_read (λ ts. refl) others x (symbol s.Colon ∷ t ∷ (y ++ symbol s.Semicolon ∷ rest)) each refl refl, is) (initial_read (name ∷ others) None what initial y rest p)
+declared_read name others what initial x y z rest each is p =
+    rw (others_read IsName anything word_at word_read (λ ts. refl) others x (symbol s.Colon ∷ (y ++ (z ++ symbol s.Semicolon ∷ rest))) each refl refl, sort_read y (z ++ symbol s.Semicolon ∷ rest) what is refl) (initial_read (name ∷ others) None what initial z rest p)
 
 -- the names of a declaration begin with a word, and no AT is after it
 no_at : (others : List (List ℕ)) (x rest : List Lexeme) → Each (After (symbol s.Comma) IsName) x others → is_keyword k.At (x ++ symbol s.Colon ∷ rest) ≡ false
@@ -56,15 +71,15 @@ record Parted (ts : List Lexeme) (d : PlainDeclaration) (rest : List Lexeme) : T
   pub alone : is_keyword k.At tail ≡ false
 
 parted : (ts : List Lexeme) (d : PlainDeclaration) (rest : List Lexeme) → Declares ts d → Parted ts d rest
-parted ts d rest (declaration names t what initial x y (listed name others v w first each is_x is_names) is_what p is_ts is_d) =
-    let tail = w ++ symbol s.Colon ∷ t ∷ (y ++ symbol s.Semicolon ∷ rest) in
-    let all : ts ++ rest ≡ word name ∷ tail = rw (is_ts, is_x, first, append_assoc w (symbol s.Colon ∷ t ∷ (y ++ symbol s.Semicolon ∷ [])) rest, append_assoc y (symbol s.Semicolon ∷ []) rest) refl in
+parted ts d rest (declaration names what initial x y z (listed name others v w first each is_x is_names) is_what p is_ts is_d) =
+    let tail = w ++ symbol s.Colon ∷ (y ++ (z ++ symbol s.Semicolon ∷ rest)) in
+    let all : ts ++ rest ≡ word name ∷ tail = rw (is_ts, is_x, first, append_assoc w (symbol s.Colon ∷ (y ++ (z ++ symbol s.Semicolon ∷ []))) rest, two_parts y z (symbol s.Semicolon) rest) refl in
     record {
       name = name;
       tail = tail;
       is = all;
-      read = rw (is_d, is_names) (declared_read name others t what initial w y rest each is_what p);
-      alone = no_at others w (t ∷ (y ++ symbol s.Semicolon ∷ rest)) each;
+      read = rw (is_d, is_names) (declared_read name others what initial w y z rest each is_what p);
+      alone = no_at others w (y ++ (z ++ symbol s.Semicolon ∷ rest)) each;
     }
 
 declaration_read : Reads Declares declaration_at anything

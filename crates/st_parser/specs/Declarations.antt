@@ -1,5 +1,6 @@
 -- Which lexemes spell which declarations, blocks, programs and units.
-use Rattle.std.specs.Prelude.{◌≡◌, ℕ, List, [], ◌∷◌, ◌++◌, Option, Some, None}
+use Rattle.std.specs.Prelude.{◌≡◌, ℕ, ℤ, List, [], ◌∷◌, ◌++◌, Option, Some, None}
+use Rattle.plant_types.specs.declared.values.Bounds.{Bounds}
 use Rattle.plant_types.specs.declared.values.Kind.{Kind}
 use Rattle.plant_types.specs.declared.values.Kind.TheVariants as kind
 use Rattle.st_lexer.specs.declared.token.Keyword.{Keyword}
@@ -10,7 +11,7 @@ use Rattle.st_tree.specs.Plain.{PlainExpr, PlainBody}
 use Rattle.st_expressions.specs.Lexemes.{Lexeme, word, keyword, address, symbol}
 use Rattle.st_expressions.specs.Phrases.{Each, Perhaps, After, Listed}
 use Rattle.st_expressions.specs.Grammar.{IsExpression}
-use Rattle.st_parser.specs.Statements.{IsBody}
+use Rattle.st_parser.specs.Statements.{IsNumber, IsBody}
 use Rattle.st_parser.specs.Units.{PlainDeclaration, PlainSection, PlainPou, PlainUnit}
 use Rattle.st_parser.specs.declared.unit.PouKind.{PouKind}
 use Rattle.st_parser.specs.declared.unit.PouKind.TheVariants as pou
@@ -30,7 +31,7 @@ kind_of_word (keyword k.Dint) = Some kind.Dint
 kind_of_word (keyword k.Time) = Some kind.Time
 kind_of_word _ = None
 
--- what variables may be declared as: of a kind, or as instances of a block type
+-- what a lexeme by itself declares variables as: of a kind, or as instances of a block type
 abbrev pub sort_of : Lexeme → Option Sort
 sort_of (keyword k.Bool) = Some (sort.Kind kind.Bool)
 sort_of (keyword k.Dint) = Some (sort.Kind kind.Dint)
@@ -38,10 +39,19 @@ sort_of (keyword k.Time) = Some (sort.Kind kind.Time)
 sort_of (word name) = Some (sort.Block name)
 sort_of _ = None
 
+-- the bounds of an array in their brackets
+pub data IsBounds (ts : List Lexeme) (bounds : Bounds) : Type 0 where
+  between : (low high : ℤ) (x y : List Lexeme) → IsNumber x low → IsNumber y high → ts ≡ symbol s.OpenBracket ∷ (x ++ symbol s.Range ∷ (y ++ symbol s.CloseBracket ∷ [])) → bounds ≡ record { low = low; high = high } → IsBounds ts bounds
+
+-- what variables may be declared as: what a lexeme by itself does, or as arrays
+pub data IsSort (ts : List Lexeme) (what : Sort) : Type 0 where
+  simple : (t : Lexeme) → sort_of t ≡ Some what → ts ≡ t ∷ [] → IsSort ts what
+  array : (bounds : Bounds) (t : Lexeme) (kind : Kind) (x : List Lexeme) → IsBounds x bounds → kind_of_word t ≡ Some kind → ts ≡ keyword k.Array ∷ (x ++ keyword k.Of ∷ t ∷ []) → what ≡ sort.Array bounds kind → IsSort ts what
+
 -- a declaration of names
 pub data Declares (ts : List Lexeme) (d : PlainDeclaration) : Type 0 where
-  declaration : (names : List (List ℕ)) (t : Lexeme) (what : Sort) (initial : Option (PlainExpr (List ℕ))) (x y : List Lexeme) → Listed IsName x names → sort_of t ≡ Some what → Perhaps (After (symbol s.Becomes) IsExpression) y initial
-      → ts ≡ x ++ symbol s.Colon ∷ t ∷ (y ++ symbol s.Semicolon ∷ []) → d ≡ record { names = names; region = None; sort = what; initial = initial } → Declares ts d
+  declaration : (names : List (List ℕ)) (what : Sort) (initial : Option (PlainExpr (List ℕ))) (x y z : List Lexeme) → Listed IsName x names → IsSort y what → Perhaps (After (symbol s.Becomes) IsExpression) z initial
+      → ts ≡ x ++ symbol s.Colon ∷ (y ++ (z ++ symbol s.Semicolon ∷ [])) → d ≡ record { names = names; region = None; sort = what; initial = initial } → Declares ts d
 
 -- a declaration of globals, one of which may have an address
 pub data DeclaresGlobal (ts : List Lexeme) (d : PlainDeclaration) : Type 0 where

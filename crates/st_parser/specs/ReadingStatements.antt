@@ -4,8 +4,9 @@ use Rattle.std.proofs.Common.{neg_ℤ}
 use Rattle.st_lexer.specs.declared.token.Keyword.TheVariants as k
 use Rattle.st_lexer.specs.declared.token.Symbol.TheVariants as s
 use Rattle.st_tree.specs.declared.tree.Label.{Label}
-use Rattle.st_tree.specs.Plain.{PlainExpr, PlainArgument, input, output, PlainStmt, empty, assign, call, if_else, case_of, for_to, PlainBody, done}
+use Rattle.st_tree.specs.Plain.{PlainExpr, PlainArgument, input, output, PlainStmt, empty, assign, store, call, if_else, case_of, for_to, PlainBody, done}
 use Rattle.st_tree.specs.View.{body_of, branches_of, choices_of}
+use Rattle.st_expressions.specs.Grammar.{unknown_bounds}
 use Rattle.st_expressions.specs.Lexemes.{Lexeme, word, keyword, integer, symbol}
 use Rattle.st_expressions.specs.Reading.{◌>>=◌, word_at, is_symbol, is_keyword, symbol_at, keyword_at, with_first, all_at, perhaps_at, after_symbol, after_keyword, listed_at, expression_at}
 
@@ -65,9 +66,18 @@ called_at name ts = arguments_at ts >>= λ all. symbol_at s.Close all.1 >>= λ r
 unfoldable pub assigned_at : List ℕ → List Lexeme → Option (PlainStmt (List ℕ) × List Lexeme)
 assigned_at name ts = symbol_at s.Becomes ts >>= λ right. expression_at right >>= λ e. Some (assign 0 name e.0, e.1)
 
+-- after an array's name and its bracket
+unfoldable pub stored_at : List ℕ → List Lexeme → Option (PlainStmt (List ℕ) × List Lexeme)
+stored_at name ts =
+    expression_at ts >>= λ index. symbol_at s.CloseBracket index.1 >>= λ closed. symbol_at s.Becomes closed >>= λ right. expression_at right >>= λ e. Some (store 0 name unknown_bounds index.0 e.0, e.1)
+
+-- after a word that no parenthesis follows
+unfoldable pub targeted_at : List ℕ → List Lexeme → Option (PlainStmt (List ℕ) × List Lexeme)
+targeted_at name ts = if is_symbol s.OpenBracket ts then stored_at name (drop 1 ts) else assigned_at name ts
+
 -- after a word
 unfoldable pub simple_at : List ℕ → List Lexeme → Option (PlainStmt (List ℕ) × List Lexeme)
-simple_at name ts = if is_symbol s.Open ts then called_at name (drop 1 ts) else assigned_at name ts
+simple_at name ts = if is_symbol s.Open ts then called_at name (drop 1 ts) else targeted_at name ts
 
 -- the first value, the bound and the step of a FOR
 unfoldable pub bounds_at : List Lexeme → Option ((PlainExpr (List ℕ) × PlainExpr (List ℕ) × Option (PlainExpr (List ℕ))) × List Lexeme)

@@ -1,12 +1,13 @@
 -- The declarations, blocks, programs and units at the front of lexemes, and the lexemes after them.
 use Rattle.std.specs.Prelude.{ℕ, Bool, List, [], ◌∷◌, drop, Option, Some, None, is_some, if◌then◌else◌}
 use Rattle.st_lexer.specs.declared.token.Keyword.TheVariants as k
+use Rattle.plant_types.specs.declared.values.Bounds.{Bounds}
 use Rattle.plant_types.specs.declared.values.Region.{Region}
 use Rattle.st_lexer.specs.declared.token.Symbol.TheVariants as s
 use Rattle.st_expressions.specs.Lexemes.{Lexeme, keyword, address}
 use Rattle.st_parser.specs.Declarations.{kind_of_word, sort_of, section_of, closing_keyword}
 use Rattle.st_expressions.specs.Reading.{◌>>=◌, word_at, is_symbol, is_keyword, is_word, symbol_at, keyword_at, with_first, all_at, perhaps_at, after_symbol, others_at, table_next, table_at, expression_at}
-use Rattle.st_parser.specs.ReadingStatements.{body_at}
+use Rattle.st_parser.specs.ReadingStatements.{number_at, body_at}
 use Rattle.st_parser.specs.Units.{PlainDeclaration, PlainSection, PlainPou, PlainUnit}
 use Rattle.st_parser.specs.declared.unit.PouKind.{PouKind}
 use Rattle.st_parser.specs.declared.unit.PouKind.TheVariants as pou
@@ -18,6 +19,20 @@ abbrev pub address_at : List Lexeme → Option (Region × List Lexeme)
 address_at (address r ∷ ts) = Some (r, ts)
 address_at _ = None
 
+-- the bounds of an array in their brackets
+unfoldable pub limits_at : List Lexeme → Option (Bounds × List Lexeme)
+limits_at ts =
+    symbol_at s.OpenBracket ts >>= λ opened. number_at opened >>= λ low. symbol_at s.Range low.1 >>= λ dots. number_at dots >>= λ high. symbol_at s.CloseBracket high.1 >>= λ rest.
+    Some (record { low = low.0; high = high.0 }, rest)
+
+-- after ARRAY
+unfoldable pub array_at : List Lexeme → Option (Sort × List Lexeme)
+array_at ts = limits_at ts >>= λ bounds. keyword_at k.Of bounds.1 >>= λ inside. table_at kind_of_word inside >>= λ kind. Some (sort.Array bounds.0 kind.0, kind.1)
+
+-- what variables are declared as
+unfoldable pub sort_at : List Lexeme → Option (Sort × List Lexeme)
+sort_at ts = if is_keyword k.Array ts then array_at (drop 1 ts) else table_at sort_of ts
+
 -- after what is declared: an initial value, and the semicolon
 unfoldable pub initial_at : List (List ℕ) → Option Region → Sort → List Lexeme → Option (PlainDeclaration × List Lexeme)
 initial_at names region what ts =
@@ -26,7 +41,7 @@ initial_at names region what ts =
 
 -- after the first name
 unfoldable pub declared_at : List ℕ → List Lexeme → Option (PlainDeclaration × List Lexeme)
-declared_at name ts = with_first (name ∷ []) (others_at word_at ts) >>= λ names. symbol_at s.Colon names.1 >>= λ colon. table_at sort_of colon >>= λ what. initial_at names.0 None what.0 what.1
+declared_at name ts = with_first (name ∷ []) (others_at word_at ts) >>= λ names. symbol_at s.Colon names.1 >>= λ colon. sort_at colon >>= λ what. initial_at names.0 None what.0 what.1
 
 -- after the name and AT
 unfoldable pub placed_at : List ℕ → List Lexeme → Option (PlainDeclaration × List Lexeme)

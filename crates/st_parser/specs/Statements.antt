@@ -4,11 +4,11 @@ use Rattle.std.proofs.Common.{neg_ℤ}
 use Rattle.st_lexer.specs.declared.token.Keyword.TheVariants as k
 use Rattle.st_lexer.specs.declared.token.Symbol.TheVariants as s
 use Rattle.st_tree.specs.declared.tree.Label.{Label}
-use Rattle.st_tree.specs.Plain.{PlainExpr, PlainArgument, input, output, PlainStmt, empty, assign, call, if_else, case_of, for_to, PlainBody, done}
+use Rattle.st_tree.specs.Plain.{PlainExpr, PlainArgument, input, output, PlainStmt, empty, assign, store, call, if_else, case_of, for_to, PlainBody, done}
 use Rattle.st_tree.specs.View.{body_of, branches_of, choices_of}
 use Rattle.st_expressions.specs.Lexemes.{Lexeme, word, keyword, integer, symbol}
 use Rattle.st_expressions.specs.Phrases.{Each, Perhaps, After, Listed}
-use Rattle.st_expressions.specs.Grammar.{IsExpression}
+use Rattle.st_expressions.specs.Grammar.{unknown_bounds, IsExpression}
 
 -- ---- calls
 -- an argument: a value for an input, or a variable for an output
@@ -22,7 +22,7 @@ pub data Arguments (ts : List Lexeme) (all : List (PlainArgument (List ℕ))) : 
   some : Listed IsArgument ts all → Arguments ts all
 
 -- ---- labels
--- a whole number of a label, with its minus
+-- a whole number of a label or a bound, with its minus
 pub data IsNumber (ts : List Lexeme) (n : ℤ) : Type 0 where
   plain : (m : ℕ) → m ≤ 2147483647 → ts ≡ integer m ∷ [] → n ≡ pos m → IsNumber ts n
   negative : (m : ℕ) → m ≤ 2147483648 → ts ≡ symbol s.Minus ∷ integer m ∷ [] → n ≡ neg_ℤ (pos m) → IsNumber ts n
@@ -51,6 +51,7 @@ module _ (P : List Lexeme → PlainBody (List ℕ) → Type 0) where
   pub data Statement (ts : List Lexeme) (stmt : PlainStmt (List ℕ)) : Type 0 where
     bare : ts ≡ [] → stmt ≡ empty 0 → Statement ts stmt
     assignment : (name : List ℕ) (e : PlainExpr (List ℕ)) (x : List Lexeme) → IsExpression x e → ts ≡ word name ∷ symbol s.Becomes ∷ x → stmt ≡ assign 0 name e → Statement ts stmt
+    storing : (name : List ℕ) (index value : PlainExpr (List ℕ)) (x y : List Lexeme) → IsExpression x index → IsExpression y value → ts ≡ word name ∷ symbol s.OpenBracket ∷ (x ++ symbol s.CloseBracket ∷ symbol s.Becomes ∷ y) → stmt ≡ store 0 name unknown_bounds index value → Statement ts stmt
     calling : (name : List ℕ) (all : List (PlainArgument (List ℕ))) (x : List Lexeme) → Arguments x all → ts ≡ word name ∷ symbol s.Open ∷ (x ++ symbol s.Close ∷ []) → stmt ≡ call 0 name all → Statement ts stmt
     branching : (first : PlainExpr (List ℕ) × PlainBody (List ℕ)) (others : List (PlainExpr (List ℕ) × PlainBody (List ℕ))) (last : PlainBody (List ℕ)) (x y z : List Lexeme) → IsBranch x first → Each (After (keyword k.Elsif) IsBranch) y others → Otherwise z last
         → ts ≡ keyword k.If ∷ (x ++ (y ++ (z ++ keyword k.EndIf ∷ []))) → stmt ≡ if_else 0 (branches_of (first ∷ others)) last → Statement ts stmt

@@ -4,12 +4,13 @@ ghost use Rattle.std.specs.Prelude.{◌≡◌, ◌∷◌, [], option_map};
 ghost use Rattle.st_parser.specs.Declarations.{kind_of_word, sort_of, section_of};
 ghost use Rattle.st_expressions.specs.Outcome.{Returns};
 ghost use Rattle.st_expressions.specs.Reading.{with_first, others_at, word_at, perhaps_at, is_symbol, after_symbol, expression_at, table_next, table_at};
-ghost use Rattle.st_parser.specs.ReadingUnits.{address_at, initial_at, declared_at, placed_at, declaration_at, global_at, globals_at, is_section, section_at};
+ghost use Rattle.st_parser.specs.ReadingUnits.{address_at, limits_at, array_at, sort_at, initial_at, declared_at, placed_at, declaration_at, global_at, globals_at, is_section, section_at};
 ghost use Rattle.st_parser.specs.Units.{view_declaration, view_section};
 ghost use Rattle.st_tree.specs.View.{view_expr};
 
+use crate::labels::number;
 use crate::unit::{Declaration, PouKind, Section, SectionKind, Sort};
-use plant_types::{Kind, Region, Text};
+use plant_types::{Bounds, Kind, Region, Text};
 use st_expressions::{Phrase, Reader, Stop, expression, parse_after, parse_all};
 use st_lexer::{Keyword, Symbol, TokenKind};
 use st_tree::Expr;
@@ -40,8 +41,45 @@ fn kind(reader: &mut Reader) -> Result<Kind, Stop>
     }
 }
 
-/// Parses a kind or the name of a block type.
+/// Parses the bounds of an array in their brackets.
+#[tactic(auto, unfolding(crate::specs::ReadingUnits::limits_at))]
+fn limits(reader: &mut Reader) -> Result<Bounds, Stop>
+    ensures { Returns (λ bounds. (bounds, reader.new)) result (limits_at reader.old) }
+{
+    reader.symbol(Symbol::OpenBracket)?;
+    let low = number(reader)?;
+    reader.symbol(Symbol::Range)?;
+    let high = number(reader)?;
+    reader.symbol(Symbol::CloseBracket)?;
+    Ok(Bounds { low, high })
+}
+
+/// Parses the rest of what arrays are declared as after `ARRAY`.
+#[tactic(auto, unfolding(crate::specs::ReadingUnits::array_at))]
+fn array(reader: &mut Reader) -> Result<Sort, Stop>
+    ensures { Returns (λ sort. (sort, reader.new)) result (array_at reader.old) }
+{
+    let bounds = limits(reader)?;
+    reader.keyword(Keyword::Of)?;
+    let kind = kind(reader)?;
+    Ok(Sort::Array(bounds, kind))
+}
+
+/// Parses what variables are declared as.
+#[tactic(auto, unfolding(crate::specs::ReadingUnits::sort_at))]
 fn sort(alloc: Global, reader: &mut Reader) -> Result<Sort, Stop>
+    ensures { Returns (λ sort. (sort, reader.new)) result (sort_at reader.old) }
+{
+    if reader.is_keyword(Keyword::Array) {
+        reader.advance();
+        array(reader)
+    } else {
+        simple_sort(alloc, reader)
+    }
+}
+
+/// Parses a kind or the name of a block type.
+fn simple_sort(alloc: Global, reader: &mut Reader) -> Result<Sort, Stop>
     ensures { Returns (λ sort. (sort, reader.new)) result (table_at sort_of reader.old) }
 {
     match reader.peek() {

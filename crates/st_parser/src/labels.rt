@@ -5,7 +5,7 @@ ghost use Rattle.st_expressions.specs.Outcome.{Returns};
 ghost use Rattle.st_expressions.specs.Reading.{listed_at, perhaps_at, is_symbol, after_symbol};
 ghost use Rattle.st_parser.specs.ReadingStatements.{number_at, label_at, is_label, negative_at};
 
-use st_expressions::{Phrase, Reader, Stop, parse_after};
+use st_expressions::{Phrase, Reader, Stop, negated, parse_after};
 use st_lexer::{Symbol, TokenKind};
 use st_tree::Label;
 use std::alloc::Global;
@@ -22,27 +22,27 @@ pub fn is_label(reader: &Reader) -> bool
 }
 
 /// Parses the integer after a minus, and returns the negative number.
-fn negative(reader: &mut Reader) -> Result<i64, Stop>
+fn negative(reader: &mut Reader) -> Result<i32, Stop>
     ensures { Returns (λ n. (n, reader.new)) result (negative_at reader.old) }
 {
     match reader.peek() {
         Some(TokenKind::Integer(n)) if n <= 2147483648 => {
             reader.advance();
-            Ok(-i64::from(n))
+            Ok(negated(n))
         }
         _ => Err(reader.stop()),
     }
 }
 
-/// Parses an integer, with its minus if it has one.
+/// Parses an integer of a label or a bound, with its minus if it has one.
 #[tactic(auto, unfolding(crate::specs::ReadingStatements::number_at))]
-fn number(reader: &mut Reader) -> Result<i64, Stop>
+pub fn number(reader: &mut Reader) -> Result<i32, Stop>
     ensures { Returns (λ n. (n, reader.new)) result (number_at reader.old) }
 {
     match reader.peek() {
         Some(TokenKind::Integer(n)) if n <= 2147483647 => {
             reader.advance();
-            Ok(i64::from(n))
+            Ok(n as i32)
         }
         Some(TokenKind::Symbol(Symbol::Minus)) => {
             reader.advance();
@@ -59,7 +59,7 @@ fn range_end(reader: &mut Reader) -> Result<Option<i64>, Stop>
     if reader.is_symbol(Symbol::Range) {
         reader.symbol(Symbol::Range)?;
         let high = number(reader)?;
-        Ok(Some(high))
+        Ok(Some(i64::from(high)))
     } else {
         Ok(None)
     }
@@ -70,7 +70,7 @@ fn range_end(reader: &mut Reader) -> Result<Option<i64>, Stop>
 fn label(reader: &mut Reader) -> Result<Label, Stop>
     ensures { Returns (λ label. (label, reader.new)) result (label_at reader.old) }
 {
-    let low = number(reader)?;
+    let low = i64::from(number(reader)?);
     let high = range_end(reader)?.unwrap_or(low);
     Ok(Label { low, high })
 }

@@ -3,14 +3,14 @@
 ghost use Rattle.std.specs.Prelude.{◌≡◌, ◌∷◌, [], map, ◌<◌};
 ghost use Rattle.st_expressions.specs.Outcome.{Returns};
 ghost use Rattle.st_expressions.specs.Reading.{all_at, with_first, perhaps_at, is_keyword, after_keyword, expression_at};
-ghost use Rattle.st_parser.specs.ReadingStatements.{assigned_at, called_at, simple_at, branch_at, branches_at, choice_at, choices_at, otherwise_at, if_at, case_at, bounds_at, header_at, for_at, stmt_at, item_at, sequence_at, body_at, is_statement, is_label};
+ghost use Rattle.st_parser.specs.ReadingStatements.{assigned_at, stored_at, called_at, simple_at, branch_at, branches_at, choice_at, choices_at, otherwise_at, if_at, case_at, bounds_at, header_at, for_at, stmt_at, item_at, sequence_at, body_at, is_statement, is_label};
 ghost use Rattle.st_tree.specs.Plain.{for_to};
 ghost use Rattle.st_tree.specs.View.{view_expr, view_option, view_stmt, view_body, view_branch, view_choice};
 
 use crate::calls::arguments;
 use crate::labels::{is_label, labels};
 use plant_types::Text;
-use st_expressions::{Reader, Stop, expression};
+use st_expressions::{Reader, Stop, expression, unknown_bounds};
 use st_lexer::{Keyword, Symbol, TokenKind};
 use st_tree::{Branch, Choice, Expr, Stmt};
 use std::alloc::Global;
@@ -49,6 +49,30 @@ fn assignment(alloc: Global, word: Text, reader: &mut Reader) -> Result<Stmt<Tex
     Ok(Stmt::Assign(0, word, value))
 }
 
+/// Parses the rest of an assignment to an element after the array's name and its bracket.
+#[tactic(auto, unfolding(crate::specs::ReadingStatements::stored_at))]
+fn storing(alloc: Global, word: Text, reader: &mut Reader) -> Result<Stmt<Text>, Stop>
+    ensures { Returns (λ s. (view_stmt s, reader.new)) result (stored_at word reader.old) }
+{
+    let index = expression(alloc, reader)?;
+    let index = reader.symbol_after(index, Symbol::CloseBracket)?;
+    let index = reader.symbol_after(index, Symbol::Becomes)?;
+    match expression(alloc, reader) {
+        Ok(value) => Ok(Stmt::Store {
+            number: 0,
+            array: word,
+            bounds: unknown_bounds(),
+            index,
+            value,
+        }),
+        Err(stop) => {
+            drop(word);
+            drop(index);
+            Err(stop)
+        }
+    }
+}
+
 /// Parses the rest of a call after the instance's name and its parenthesis.
 #[tactic(auto, unfolding(crate::specs::ReadingStatements::called_at))]
 fn call(alloc: Global, word: Text, reader: &mut Reader) -> Result<Stmt<Text>, Stop>
@@ -60,13 +84,16 @@ fn call(alloc: Global, word: Text, reader: &mut Reader) -> Result<Stmt<Text>, St
 }
 
 /// Parses the rest of a statement after its first word.
-#[tactic(auto, unfolding(crate::specs::ReadingStatements::simple_at))]
+#[tactic(auto, unfolding(crate::specs::ReadingStatements::simple_at, crate::specs::ReadingStatements::targeted_at))]
 fn simple(alloc: Global, word: Text, reader: &mut Reader) -> Result<Stmt<Text>, Stop>
     ensures { Returns (λ s. (view_stmt s, reader.new)) result (simple_at word reader.old) }
 {
     if reader.is_symbol(Symbol::Open) {
         reader.advance();
         call(alloc, word, reader)
+    } else if reader.is_symbol(Symbol::OpenBracket) {
+        reader.advance();
+        storing(alloc, word, reader)
     } else {
         assignment(alloc, word, reader)
     }

@@ -1,13 +1,14 @@
 //! A unit: what a source declares. Names are as they are spelled.
 
-use plant_types::{Kind, Region, Text};
+use plant_types::{Bounds, Kind, Region, Text};
 use st_tree::{Expr, Stmt};
 
-/// What variables are declared as: variables of a kind, or instances of a block type.
+/// What variables are declared as: variables of a kind, instances of a block type, or arrays with these bounds of elements of a kind.
 #[derive(Drop)]
 pub enum Sort {
     Kind(Kind),
     Block(Text),
+    Array(Bounds, Kind),
 }
 
 /// Variables that are declared together.

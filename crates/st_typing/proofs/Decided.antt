@@ -6,7 +6,7 @@ use Rattle.st_parser.specs.Units.{PlainUnit}
 use Rattle.block_order.proofs.Decided.{holder_or_none, deep_or_none}
 use Rattle.st_names.specs.Faults.{first_misnamed}
 use Rattle.st_typing.specs.Blocks.{blocks_of, block_places}
-use Rattle.st_typing.specs.Faults.{first_misfit, first_inconstant, some_long, too_many, AreNamed, AreKinded, AreApart, AreConstant, AreShort, AreShallow, AreTyped, IsTypeFault}
+use Rattle.st_typing.specs.Faults.{first_misfit, first_inconstant, some_long, too_many, some_wide, AreNamed, AreKinded, AreApart, AreConstant, AreShort, AreShallow, AreFew, AreTyped, IsTypeFault}
 use Rattle.st_typing.specs.declared.fault.TypeFault.{TypeFault}
 use Rattle.st_typing.specs.declared.fault.TypeFault.TheVariants as fault
 use Rattle.st_typing.proofs.Places.{as_many_places}
@@ -75,12 +75,19 @@ module _ (units : List PlainUnit) where
         | inr found ↦ inr (fault.BlockDepth, (are, found), λ e. cc e)
       ]
 
-  few : AreShallow units → AreTyped units ⊎ Fails
+  few : AreShallow units → AreFew units ⊎ Fails
   few are =
       elim (cases_Bool (too_many units)) [
         | inl so ↦ inr (fault.Programs, (are, so), λ e. cc e)
         | inr not_so ↦ inl (record { are_shallow = are; few = not_so })
       ]
 
+  small : AreFew units → AreTyped units ⊎ Fails
+  small are =
+      elim (cases_Bool (some_wide units)) [
+        | inl so ↦ inr (fault.Elements, (are, so), λ e. cc e)
+        | inr not_so ↦ inl (record { are_few = are; small = not_so })
+      ]
+
   pub typed_or_not : AreTyped units ⊎ Fails
-  typed_or_not = then (then (then (then (then (then named kinded) apart) constant) short) shallow) few
+  typed_or_not = then (then (then (then (then (then (then named kinded) apart) constant) short) shallow) few) small

@@ -7,7 +7,7 @@ use Rattle.block_order.proofs.Decided as order
 use Rattle.st_names.specs.declared.place.UnitPlace.{UnitPlace}
 use Rattle.st_names.specs.Faults.{first_misnamed}
 use Rattle.st_typing.specs.Blocks.{blocks_of, block_places}
-use Rattle.st_typing.specs.Faults.{first_misfit, first_inconstant, some_long, too_many, FirstToHoldItself, AreNamed, AreKinded, AreApart, AreConstant, AreShort, AreTyped, IsTypeFault}
+use Rattle.st_typing.specs.Faults.{first_misfit, first_inconstant, some_long, too_many, some_wide, FirstToHoldItself, AreNamed, AreKinded, AreApart, AreConstant, AreShort, AreShallow, AreTyped, IsTypeFault}
 use Rattle.st_typing.specs.declared.fault.TypeFault.{TypeFault}
 use Rattle.st_typing.specs.declared.fault.TypeFault.TheVariants as fault
 use Rattle.st_typing.proofs.Settled.{settled}
@@ -42,8 +42,14 @@ module _ (units : List PlainUnit) where
   abbrev Programs : TypeFault → Type 0
   Programs f = (f ≡ fault.Programs) × IsTypeFault units fault.Programs
 
+  abbrev Elements : TypeFault → Type 0
+  Elements f = (f ≡ fault.Elements) × IsTypeFault units fault.Elements
+
+  abbrev FromPrograms : TypeFault → Type 0
+  FromPrograms f = Programs f ⊎ Elements f
+
   abbrev FromDepth : TypeFault → Type 0
-  FromDepth f = BlockDepth f ⊎ Programs f
+  FromDepth f = BlockDepth f ⊎ FromPrograms f
 
   abbrev FromTurns : TypeFault → Type 0
   FromTurns f = Turns f ⊎ FromDepth f
@@ -58,9 +64,13 @@ module _ (units : List PlainUnit) where
   FromKinds f = Kind f ⊎ FromHolders f
 
   -- what a later fault says of the stages before it
+  are_shallow : (f : TypeFault) → FromPrograms f → AreShallow units
+  are_shallow f (inl is) = is.1.0
+  are_shallow f (inr is) = is.1.0.are_shallow
+
   are_short : (f : TypeFault) → FromDepth f → AreShort units
   are_short f (inl is) = is.1.0
-  are_short f (inr is) = is.1.0.are_short
+  are_short f (inr is) = (are_shallow f is).are_short
 
   are_constant : (f : TypeFault) → FromTurns f → AreConstant units
   are_constant f (inl is) = is.1.0
@@ -86,8 +96,11 @@ module _ (units : List PlainUnit) where
       let place = same_Some a.1.0 b.1.0 (sym first.1 ∙ ap (slice_get (block_places 0 units)) same ∙ second.1) in
       a.1.1 ∙ ap (λ place. fault.HoldsItself place) place ∙ sym b.1.1
 
+  from_programs : (f g : TypeFault) → FromPrograms f → FromPrograms g → f ≡ g
+  from_programs = settled (λ f g. f ≡ g) Programs Elements (λ f g a b. a.0 ∙ sym b.0) (λ f g a b. both_ways (too_many units) b.1.0.few a.1.1) (λ f g a b. a.0 ∙ sym b.0)
+
   from_depth : (f g : TypeFault) → FromDepth f → FromDepth g → f ≡ g
-  from_depth = settled (λ f g. f ≡ g) BlockDepth Programs (λ f g a b. a.0 ∙ sym b.0) (λ f g a b. b.1.0.shallow a.1.1.0 a.1.1.1 a.1.1.2 a.1.1.3) (λ f g a b. a.0 ∙ sym b.0)
+  from_depth = settled (λ f g. f ≡ g) BlockDepth FromPrograms (λ f g a b. a.0 ∙ sym b.0) (λ f g a b. (are_shallow g b).shallow a.1.1.0 a.1.1.1 a.1.1.2 a.1.1.3) from_programs
 
   from_turns : (f g : TypeFault) → FromTurns f → FromTurns g → f ≡ g
   from_turns = settled (λ f g. f ≡ g) Turns FromDepth (λ f g a b. a.0 ∙ sym b.0) (λ f g a b. both_ways (some_long units) (are_short g b).short a.1.1) from_depth
@@ -115,7 +128,8 @@ module _ (units : List PlainUnit) where
   staged (fault.Constant place) is other = inr (inr (inr (inl (is.0, (place, refl, is.1)))))
   staged fault.Turns is other = inr (inr (inr (inr (inl (refl, is)))))
   staged fault.BlockDepth is other = inr (inr (inr (inr (inr (inl (refl, is))))))
-  staged fault.Programs is other = inr (inr (inr (inr (inr (inr (refl, is))))))
+  staged fault.Programs is other = inr (inr (inr (inr (inr (inr (inl (refl, is)))))))
+  staged fault.Elements is other = inr (inr (inr (inr (inr (inr (inr (refl, is)))))))
 
   pub one_fault : (f g : TypeFault) → IsTypeFault units f → IsTypeFault units g → f ≢ fault.Memory → g ≢ fault.Memory → f ≡ g
   one_fault f g a b some other = from_names f g (staged f a some) (staged g b other)
@@ -123,12 +137,13 @@ module _ (units : List PlainUnit) where
   -- well-formed units have no fault
   pub apart : (f : TypeFault) → AreTyped units → IsTypeFault units f → f ≡ fault.Memory
   apart fault.Memory typed is = refl
-  apart (fault.Name place) typed is = absurd (not_both _ place is typed.are_shallow.are_short.constant.are_apart.kinded.named.names)
-  apart (fault.Kind place) typed is = absurd (not_both _ place is.1 typed.are_shallow.are_short.constant.are_apart.kinded.kinds)
+  apart (fault.Name place) typed is = absurd (not_both _ place is typed.are_few.are_shallow.are_short.constant.are_apart.kinded.named.names)
+  apart (fault.Kind place) typed is = absurd (not_both _ place is.1 typed.are_few.are_shallow.are_short.constant.are_apart.kinded.kinds)
   apart (fault.HoldsItself place) typed is =
       let found = is.1.2.0 in
-      absurd (typed.are_shallow.are_short.constant.are_apart.apart is.1.0 found.0 found.1 found.2)
-  apart (fault.Constant place) typed is = absurd (not_both _ place is.1 typed.are_shallow.are_short.constant.constants)
-  apart fault.Turns typed is = absurd (both_ways (some_long units) typed.are_shallow.are_short.short is.1)
-  apart fault.BlockDepth typed is = absurd (typed.are_shallow.shallow is.1.0 is.1.1 is.1.2 is.1.3)
-  apart fault.Programs typed is = absurd (both_ways (too_many units) typed.few is.1)
+      absurd (typed.are_few.are_shallow.are_short.constant.are_apart.apart is.1.0 found.0 found.1 found.2)
+  apart (fault.Constant place) typed is = absurd (not_both _ place is.1 typed.are_few.are_shallow.are_short.constant.constants)
+  apart fault.Turns typed is = absurd (both_ways (some_long units) typed.are_few.are_shallow.are_short.short is.1)
+  apart fault.BlockDepth typed is = absurd (typed.are_few.are_shallow.shallow is.1.0 is.1.1 is.1.2 is.1.3)
+  apart fault.Programs typed is = absurd (both_ways (too_many units) typed.are_few.few is.1)
+  apart fault.Elements typed is = absurd (both_ways (some_wide units) typed.small is.1)

@@ -1,9 +1,10 @@
--- Units with an initial value, a bound or a step that isn't constant or traps, or with a control variable that isn't allowed; and FORs of too many turns.
-use Rattle.std.specs.Prelude.{ℕ, pos, Bool, true, false, not, ◌&&◌, ◌||◌, nat_lt, List, [], ◌∷◌, length, Option, Some, None, Result, Ok, Err}
+-- Units with an initial value, a bound or a step that isn't constant or traps, with a control variable that isn't allowed, or with an array whose low bound is above its high one; and FORs of too many turns.
+use Rattle.std.specs.Prelude.{ℕ, pos, Bool, true, false, not, ◌&&◌, ◌||◌, nat_lt, int_lt, List, [], ◌∷◌, length, Option, Some, None, Result, Ok, Err}
 use Rattle.std.specs.List.{list_all}
 use Rattle.std.specs.Option.{option_map_or}
 use Rattle.std.specs.Ordering.{int_eq}
 use Rattle.plant_types.specs.Words.{same_word}
+use Rattle.plant_types.specs.declared.values.Bounds.{Bounds}
 use Rattle.plant_types.specs.declared.values.Kind.{Kind}
 use Rattle.plant_types.specs.declared.values.Kind.TheVariants as kind
 use Rattle.plant_types.specs.declared.values.Trap.{Trap}
@@ -14,6 +15,8 @@ use Rattle.st_tree.specs.Controls.{control_values, span_of}
 use Rattle.st_tree.specs.declared.controls.Span.{Span}
 use Rattle.st_tree.specs.Constants.{constant_of}
 use Rattle.st_tree.specs.Kinds.{KindsOf, resolved_expr}
+use Rattle.st_parser.specs.declared.unit.Sort.{Sort}
+use Rattle.st_parser.specs.declared.unit.Sort.TheVariants as sort
 use Rattle.st_parser.specs.Units.{PlainSection, PlainPou}
 use Rattle.st_names.specs.DeclaredNames.{PlainDeclared, declared_in}
 use Rattle.st_names.specs.Scopes.{is_control}
@@ -98,13 +101,26 @@ is_initial e = option_map_or (λ e. has_value (meant_constant e)) e true
 abbrev pub initial_constant : PlainDeclared → Bool
 initial_constant d = is_initial d.initial
 
--- a global's initial value isn't constant, or traps
-abbrev pub globals_inconstant : List PlainSection → Bool
-globals_inconstant sections = not (list_all initial_constant (declared_in sections))
+-- the low bound isn't above the high one
+abbrev pub in_order : Bounds → Bool
+in_order bounds = not (int_lt bounds.high bounds.low)
 
--- an initial value of a block or program isn't constant or traps, or a FOR of it isn't allowed
+abbrev pub sort_in_order : Sort → Bool
+sort_in_order (sort.Kind k) = true
+sort_in_order (sort.Block word) = true
+sort_in_order (sort.Array bounds k) = in_order bounds
+
+-- a declaration's initial value, where one is written, is constant and doesn't trap, and the low bound of an array isn't above its high one
+abbrev pub declared_constant : PlainDeclared → Bool
+declared_constant d = initial_constant d && sort_in_order d.sort
+
+-- a global's initial value isn't constant or traps, or the low bound of a global array is above its high one
+abbrev pub globals_inconstant : List PlainSection → Bool
+globals_inconstant sections = not (list_all declared_constant (declared_in sections))
+
+-- an initial value of a block or program isn't constant or traps, the low bound of an array of it is above its high one, or a FOR of it isn't allowed
 abbrev pub pou_inconstant : PlainPou → Bool
-pou_inconstant p = not (list_all initial_constant (declared_in p.sections) && every (stmt_allowed (declared_in p.sections)) p.body)
+pou_inconstant p = not (list_all declared_constant (declared_in p.sections) && every (stmt_allowed (declared_in p.sections)) p.body)
 
 -- a FOR of a block or program has too many turns
 abbrev pub pou_long : PlainPou → Bool

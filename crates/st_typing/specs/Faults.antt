@@ -1,14 +1,18 @@
 -- Why sources aren't well formed: the fault of least number, in the first unit, in order of text, that has it.
-use Rattle.std.specs.Prelude.{◌≡◌, ⊤, ℕ, ◌+◌, Bool, true, false, if◌then◌else◌, nat_lt, List, [], ◌∷◌, length, Option, Some, None, slice_get, Vec}
+use Rattle.std.specs.Prelude.{◌≡◌, ⊤, ℕ, ◌+◌, Bool, true, false, ◌||◌, if◌then◌else◌, nat_lt, List, [], ◌∷◌, length, Option, Some, None, slice_get, Vec}
 use Rattle.std.specs.Global.{Global}
 use Rattle.std.specs.List.{list_any}
+use Rattle.plant_types.specs.Values.{row_length}
 use Rattle.st_parser.specs.declared.unit.PouKind.{PouKind}
 use Rattle.st_parser.specs.declared.unit.PouKind.TheVariants as pou_kind
-use Rattle.st_parser.specs.Units.{PlainPou, PlainUnit}
+use Rattle.st_parser.specs.declared.unit.Sort.{Sort}
+use Rattle.st_parser.specs.declared.unit.Sort.TheVariants as sort
+use Rattle.st_parser.specs.Units.{PlainSection, PlainPou, PlainUnit}
 use Rattle.block_order.specs.Blocks.{PlainBlock, NoneHoldsItself, NoneTooDeep, TooDeep, AreOrdered}
 use Rattle.block_order.specs.Faults.{IsNestingFault}
 use Rattle.block_order.specs.declared.faults.NestingFault.TheVariants as order_fault
 use Rattle.st_names.specs.declared.place.UnitPlace.{UnitPlace}
+use Rattle.st_names.specs.DeclaredNames.{PlainDeclared, declared_in}
 use Rattle.st_names.specs.Shared.{is_block}
 use Rattle.st_names.specs.Faults.{first_unit, first_misnamed}
 use Rattle.st_typing.specs.Kinds.{globals_misfit, pou_misfit}
@@ -21,7 +25,7 @@ use Rattle.st_typing.specs.declared.fault.TypeFault.TheVariants as fault
 abbrev pub first_misfit : List PlainUnit → Option UnitPlace
 first_misfit units = first_unit (globals_misfit units) (pou_misfit units) 0 units
 
--- the first unit with an initial value, a bound or a step that isn't constant or traps, or a control variable that isn't allowed
+-- the first unit with an initial value, a bound or a step that isn't constant or traps, a control variable that isn't allowed, or an array whose low bound is above its high one
 abbrev pub first_inconstant : List PlainUnit → Option UnitPlace
 first_inconstant units = first_unit globals_inconstant pou_inconstant 0 units
 
@@ -43,6 +47,27 @@ program_count (u ∷ us) = programs_among u.pous + program_count us
 abbrev pub too_many : List PlainUnit → Bool
 too_many units = nat_lt 512 (program_count units)
 
+-- what is declared is an array of more than 4,096 elements
+abbrev pub sort_wide : Sort → Bool
+sort_wide (sort.Kind k) = false
+sort_wide (sort.Block word) = false
+sort_wide (sort.Array bounds k) = nat_lt 4096 (row_length bounds)
+
+abbrev pub is_wide : PlainDeclared → Bool
+is_wide d = sort_wide d.sort
+
+-- sections declare such an array
+abbrev pub sections_wide : List PlainSection → Bool
+sections_wide sections = list_any is_wide (declared_in sections)
+
+-- a source does, among its globals or in a block or program
+abbrev pub unit_wide : PlainUnit → Bool
+unit_wide u = sections_wide u.globals || list_any (λ p. sections_wide p.sections) u.pous
+
+-- an array has more than 4,096 elements
+abbrev pub some_wide : List PlainUnit → Bool
+some_wide units = list_any unit_wide units
+
 -- the first function block that holds itself
 abbrev pub FirstToHoldItself : List PlainUnit → UnitPlace → Type 0
 FirstToHoldItself units place = (i : ℕ) × (slice_get (block_places 0 units) i ≡ Some place) × IsNestingFault (blocks_of units) (order_fault.HoldsItself i)
@@ -61,7 +86,7 @@ pub record AreApart (units : List PlainUnit) : Type 0 where
   pub kinded : AreKinded units
   pub apart : NoneHoldsItself (blocks_of units)
 
--- and initial values, bounds and steps are constant and allowed, and so are control variables
+-- and initial values, bounds and steps are constant and allowed, so are control variables, and no low bound of an array is above its high one
 pub record AreConstant (units : List PlainUnit) : Type 0 where
   pub are_apart : AreApart units
   pub constants : first_inconstant units ≡ None
@@ -76,10 +101,15 @@ pub record AreShallow (units : List PlainUnit) : Type 0 where
   pub are_short : AreShort units
   pub shallow : NoneTooDeep (blocks_of units)
 
--- and there are not too many programs: the sources are well formed
-pub record AreTyped (units : List PlainUnit) : Type 0 where
+-- and there are not too many programs
+pub record AreFew (units : List PlainUnit) : Type 0 where
   pub are_shallow : AreShallow units
   pub few : too_many units ≡ false
+
+-- and no array has too many elements: the sources are well formed
+pub record AreTyped (units : List PlainUnit) : Type 0 where
+  pub are_few : AreFew units
+  pub small : some_wide units ≡ false
 
 -- sources are well formed, and their function blocks are in an order in which each stands after those that it declares
 pub record IsTyped (units : List PlainUnit) (order : List ℕ) : Type 0 where
@@ -100,6 +130,7 @@ IsTypeFault units (fault.Constant place) = AreApart units × (first_inconstant u
 IsTypeFault units fault.Turns = AreConstant units × (some_long units ≡ true)
 IsTypeFault units fault.BlockDepth = AreShort units × SomeTooDeep (blocks_of units)
 IsTypeFault units fault.Programs = AreShallow units × (too_many units ≡ true)
+IsTypeFault units fault.Elements = AreFew units × (some_wide units ≡ true)
 
 -- the function blocks are in an order in which each stands after those that it declares, or one of them is nested too deep
 abbrev pub OrderedOrDeep : List PlainBlock → Option (Vec ℕ Global) → Type 0

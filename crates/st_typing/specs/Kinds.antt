@@ -1,12 +1,13 @@
 -- Units with something of another kind than it must have.
 use Rattle.std.specs.Prelude.{ℕ, Bool, true, false, not, ◌&&◌, if◌then◌else◌, List, [], Option, Some, None, is_some, is_none}
 use Rattle.std.specs.List.{list_all}
+use Rattle.std.specs.Ordering.{int_eq}
 use Rattle.std.specs.Option.{option_map_or}
 use Rattle.plant_types.specs.declared.values.Bounds.{Bounds}
 use Rattle.plant_types.specs.declared.values.Kind.{Kind}
 use Rattle.plant_types.specs.declared.values.Kind.TheVariants as kind
 use Rattle.st_tree.specs.Plain.{PlainExpr, PlainStmt, empty, assign, store, call, if_else, case_of, for_to}
-use Rattle.st_tree.specs.Kinds.{is_kind}
+use Rattle.st_tree.specs.Kinds.{same_kind, is_kind}
 use Rattle.st_tree.specs.Fits.{Context, is_of, option_is_of, fits_option, takes, argument_fits, all_fit}
 use Rattle.st_parser.specs.declared.unit.SectionKind.{SectionKind}
 use Rattle.st_parser.specs.declared.unit.SectionKind.TheVariants as section
@@ -15,13 +16,9 @@ use Rattle.st_parser.specs.declared.unit.Sort.TheVariants as sort
 use Rattle.st_parser.specs.Units.{PlainSection, PlainPou, PlainUnit}
 use Rattle.st_names.specs.Every.{tests_of}
 use Rattle.st_names.specs.DeclaredNames.{PlainDeclared, declared_in}
-use Rattle.st_names.specs.Scopes.{variable_kind, instance_type, input_kind, output_kind, global_kind, is_assignable, is_external}
+use Rattle.st_names.specs.Scopes.{variable_kind, element_kind, instance_type, input_kind, output_kind, global_kind, global_array, is_assignable, is_external}
 
--- the kind of an array's elements, if there is such an array with these bounds; no declaration makes one
-abbrev pub element_kind : List ℕ → Bounds → Option Kind
-element_kind name bounds = None
-
--- what a body's names are declared as
+-- what a body's names are declared as; the bounds that a tree has for an array don't count, since a parser knows no declarations
 abbrev pub context_of : List PlainUnit → List PlainDeclared → Context (List ℕ)
 context_of units own = record {
   variable_kind = variable_kind units own;
@@ -29,7 +26,7 @@ context_of units own = record {
   is_instance = λ name. is_some (instance_type units own name);
   input_kind = input_kind units own;
   output_kind = output_kind units own;
-  element_kind = element_kind;
+  element_kind = λ name bounds. element_kind units own name;
 }
 
 module _ (context : Context (List ℕ)) where
@@ -62,11 +59,29 @@ variable_fits units own d k =
     if is_external d.section then is_none d.initial && is_kind k (global_kind units d.name)
     else initial_fits units own (Some k) d.initial
 
+-- there is an array, and it has these bounds and elements of this kind
+abbrev pub is_array : Bounds → Kind → Option (Bounds × Kind) → Bool
+is_array bounds k None = false
+is_array bounds k (Some found) = int_eq bounds.low found.0.low && (int_eq bounds.high found.0.high && same_kind k found.1)
+
+-- an array of a name stands in VAR or VAR_GLOBAL, or in VAR_EXTERNAL where the global of the name is an array of the same bounds and kind
+abbrev pub array_stands : List PlainUnit → List ℕ → Bounds → Kind → SectionKind → Bool
+array_stands units name bounds k section.Global = true
+array_stands units name bounds k section.Local = true
+array_stands units name bounds k section.Input = false
+array_stands units name bounds k section.Output = false
+array_stands units name bounds k section.External = is_array bounds k (global_array units name)
+
+-- an array stands where it may, and has no initial value
+abbrev pub array_fits : List PlainUnit → PlainDeclared → Bounds → Kind → Bool
+array_fits units d bounds k = is_none d.initial && array_stands units d.name bounds k d.section
+
 abbrev pub sort_fits : List PlainUnit → List PlainDeclared → PlainDeclared → Sort → Bool
 sort_fits units own d (sort.Kind k) = variable_fits units own d k
 sort_fits units own d (sort.Block word) = instance_fits d.section d.initial
+sort_fits units own d (sort.Array bounds k) = array_fits units d bounds k
 
--- a declaration fits: an instance stands in VAR and has no initial value, and a variable fits
+-- a declaration fits: an instance stands in VAR and has no initial value, and a variable and an array fit
 abbrev pub declared_fits : List PlainUnit → List PlainDeclared → PlainDeclared → Bool
 declared_fits units own d = sort_fits units own d d.sort
 

@@ -8,7 +8,7 @@ use crate::blocks::blocks_of;
 use crate::constants::{globals_inconstant, pou_inconstant};
 use crate::fault::{Mistyped, TypeFault};
 use crate::kinds::{globals_misfit, pou_misfit};
-use crate::limits::{some_long, too_many};
+use crate::limits::{some_long, some_wide, too_many};
 use crate::typed::Typed;
 use block_order::{NestingFault, order_blocks};
 use st_names::{BodyScope, Judge, SharedNames, first_misnamed, first_unit};
@@ -39,7 +39,7 @@ impl<'a> Judge for Misfit<'a> {
     }
 }
 
-/// Judges units by their constants and control variables.
+/// Judges units by their constants, the bounds of their arrays and their control variables.
 #[derive(Drop)]
 struct Inconstant<'a> {
     shared: &'a SharedNames<'a>,
@@ -91,7 +91,7 @@ fn block_order(alloc: Global, units: &[Unit]) -> Result<Option<Vec<usize>>, Type
     }
 }
 
-/// Fails for the first unit with a constant or control variable that isn't allowed, or if allocation fails.
+/// Fails for the first unit with a constant, bounds of an array or a control variable that isn't allowed, or if allocation fails.
 fn check_constants(alloc: Global, shared: &SharedNames<'_>) -> Result<(), TypeFault>
     requires { AreApart shared.now }
     ensures { MatchResult result (λ _. AreConstant shared.now) (IsTypeFault shared.now) }
@@ -102,8 +102,8 @@ fn check_constants(alloc: Global, shared: &SharedNames<'_>) -> Result<(), TypeFa
     Ok(())
 }
 
-/// The order of the function blocks, if the sources keep the limits. Fails for too many turns, blocks nested too deep or too many programs,
-/// or if allocation fails.
+/// The order of the function blocks, if the sources keep the limits. Fails for too many turns, blocks nested too deep, too many programs or
+/// an array of too many elements, or if allocation fails.
 fn check_limits(
     alloc: Global,
     units: &[Unit],
@@ -121,6 +121,9 @@ fn check_limits(
     };
     if too_many(units) {
         return Err(TypeFault::Programs);
+    }
+    if some_wide(units) {
+        return Err(TypeFault::Elements);
     }
     Ok(order)
 }
@@ -143,8 +146,8 @@ fn order_of(alloc: Global, units: &[Unit]) -> Result<Vec<usize>, TypeFault>
     check_limits(alloc, units, order)
 }
 
-/// Checks all sources of a plant: names (C6), kinds (C7), blocks that hold themselves (C8), constants (C9), then turns, depth of blocks
-/// and the number of programs (C10). What is well formed keeps the sources, and copies nothing of them.
+/// Checks all sources of a plant: names (C6), kinds (C7), blocks that hold themselves (C8), constants (C9), then turns, depth of blocks,
+/// the number of programs and the elements of arrays (C10). What is well formed keeps the sources, and copies nothing of them.
 ///
 /// Fails for the first of these rules that is broken, at the first unit, in order of text, that breaks it, or if allocation fails; and gives the
 /// sources back.

@@ -1,4 +1,4 @@
-//! Initial values, and the control variables, bounds, steps and turns of FOR statements (C9, C10).
+//! Initial values, the order of bounds of arrays, and the control variables, bounds, steps and turns of FOR statements (C9, C10).
 
 ghost use Rattle.std.specs.Prelude.{◌≡◌, IfOk, map, option_map, IfSome, ℕ, List};
 ghost use Rattle.std.specs.List.{list_all};
@@ -10,11 +10,11 @@ ghost use Rattle.st_tree.specs.Meaning.{then_one, then_two};
 ghost use Rattle.st_tree.specs.Operators.{eval_unary, eval_binary};
 ghost use Rattle.st_parser.specs.Units.{view_declaration, view_section, view_pou};
 ghost use Rattle.st_names.specs.DeclaredNames.{declared_together, declared_by, declared_in};
-ghost use Rattle.st_typing.specs.Constants.{has_value, is_step, outputs_assign, stmt_assigns, never_assigns, turns_of, for_turns, meant_constant, bounds_allowed, is_initial, constant_step, initial_constant, globals_inconstant, pou_inconstant, pou_long};
+ghost use Rattle.st_typing.specs.Constants.{has_value, is_step, outputs_assign, stmt_assigns, never_assigns, turns_of, for_turns, meant_constant, bounds_allowed, is_initial, constant_step, in_order, sort_in_order, declared_constant, globals_inconstant, pou_inconstant, pou_long};
 
-use plant_types::{Kind, Text, Trap, same_word};
+use plant_types::{Bounds, Kind, Text, Trap, same_word};
 use st_names::{Rule, Scope, every};
-use st_parser::{Declaration, Pou, Section};
+use st_parser::{Declaration, Pou, Section, Sort};
 use st_tree::{
     Argument, Binary, Expr, Stmt, Unary, binary_result, count_turns, eval_binary, eval_unary,
     resolved_binary, resolved_unary, span_of, unary_result,
@@ -242,11 +242,29 @@ fn is_initial(initial: &Option<Expr<Text>>) -> bool
     }
 }
 
-/// Whether the initial value of each name of a declaration, if one is written, is constant and doesn't trap.
-fn declaration_constant(declaration: &Declaration) -> bool
-    ensures { (section : SectionKind) → result ≡ list_all initial_constant (declared_together section (view_declaration declaration.now)) }
+/// Whether the low bound isn't above the high one.
+fn in_order(bounds: Bounds) -> bool
+    ensures { result ≡ in_order bounds }
 {
-    let constant = is_initial(&declaration.initial);
+    bounds.low <= bounds.high
+}
+
+/// Whether the low bound of an array isn't above its high one; what is no array has no bounds.
+fn sort_in_order(sort: &Sort) -> bool
+    ensures { result ≡ sort_in_order sort.now }
+{
+    match sort {
+        Sort::Array(bounds, _) => in_order(*bounds),
+        Sort::Kind(_) | Sort::Block(_) => true,
+    }
+}
+
+/// Whether the initial value of each name of a declaration, if one is written, is constant and doesn't trap, and the low bound of an array
+/// isn't above its high one.
+fn declaration_constant(declaration: &Declaration) -> bool
+    ensures { (section : SectionKind) → result ≡ list_all declared_constant (declared_together section (view_declaration declaration.now)) }
+{
+    let constant = is_initial(&declaration.initial) && sort_in_order(&declaration.sort);
     for _name in &declaration.names {
         if !constant {
             return false;
@@ -255,9 +273,9 @@ fn declaration_constant(declaration: &Declaration) -> bool
     true
 }
 
-/// Whether each initial value of a section is constant and doesn't trap.
+/// Whether each initial value of a section is constant and doesn't trap, and the bounds of each array are in order.
 fn section_constant(section: &Section) -> bool
-    ensures { result ≡ list_all initial_constant (declared_by (view_section section.now)) }
+    ensures { result ≡ list_all declared_constant (declared_by (view_section section.now)) }
 {
     for declaration in &section.declarations {
         if !declaration_constant(declaration) {
@@ -267,9 +285,9 @@ fn section_constant(section: &Section) -> bool
     true
 }
 
-/// Whether each initial value of sections is constant and doesn't trap.
+/// Whether each initial value of sections is constant and doesn't trap, and the bounds of each array are in order.
 fn sections_constant(sections: &[Section]) -> bool
-    ensures { result ≡ list_all initial_constant (declared_in (map view_section sections.now)) }
+    ensures { result ≡ list_all declared_constant (declared_in (map view_section sections.now)) }
 {
     for section in sections {
         if !section_constant(section) {
@@ -279,14 +297,15 @@ fn sections_constant(sections: &[Section]) -> bool
     true
 }
 
-/// Whether a global's initial value isn't constant, or traps.
+/// Whether a global's initial value isn't constant or traps, or the low bound of a global array is above its high one.
 pub fn globals_inconstant(sections: &[Section]) -> bool
     ensures { result ≡ globals_inconstant (map view_section sections.now) }
 {
     !sections_constant(sections)
 }
 
-/// Whether a block or program has an initial value that isn't constant or traps, or a FOR that isn't allowed. Fails if allocation fails.
+/// Whether a block or program has an initial value that isn't constant or traps, an array whose low bound is above its high one, or a FOR
+/// that isn't allowed. Fails if allocation fails.
 pub fn pou_inconstant<S: Scope>(alloc: Global, scope: &S, pou: &Pou) -> Result<bool, AllocError>
     requires { S.own scope.now ≡ declared_in (view_pou pou.now).sections }
     ensures { IfOk result (λ wrong. wrong ≡ pou_inconstant (view_pou pou.now)) }

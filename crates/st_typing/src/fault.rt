@@ -12,12 +12,14 @@ pub enum TypeFault {
     /// C6: a name that isn't declared, or is declared twice (the later unit), or is a standard block's; an input of a call given twice, or an output
     /// taken twice.
     Name(UnitPlace),
-    /// C7: something of another kind than it must have, or an assigned input; an instance where a variable has to be, or among globals, inputs or
-    /// outputs; a call of what is no instance; an initial value of an instance or of a VAR_EXTERNAL.
+    /// C7: something of another kind than it must have, or an assigned input; an instance or an array where a variable has to be; an instance
+    /// among globals, inputs or outputs, or an array among inputs or outputs; a call of what is no instance, or an index of what is no array;
+    /// an initial value of an instance, an array or a VAR_EXTERNAL; a VAR_EXTERNAL that isn't as its global.
     Kind(UnitPlace),
     /// C8: a function block that contains itself, directly or through others.
     HoldsItself(UnitPlace),
-    /// C9: an initial value, or a bound or step of a FOR, that reads a variable or traps, a step 0, or a control variable that isn't allowed.
+    /// C9: an initial value, or a bound or step of a FOR, that reads a variable or traps, a step 0, a control variable that isn't allowed, or an
+    /// array whose low bound is above its high one.
     Constant(UnitPlace),
     /// C10: a FOR of more than 10,000 turns.
     Turns,
@@ -25,6 +27,8 @@ pub enum TypeFault {
     BlockDepth,
     /// C10: more than 512 programs.
     Programs,
+    /// C10: an array of more than 4,096 elements.
+    Elements,
 }
 
 impl From<AllocError> for TypeFault {

@@ -8,7 +8,8 @@ ghost use Rattle.st_tree.specs.Fits.{sorts_of, is_of, option_is_of, fits_option,
 ghost use Rattle.st_parser.specs.Units.{view_declaration, view_section, view_pou};
 ghost use Rattle.st_names.specs.DeclaredNames.{declared_as, declared_together, declared_by, declared_in, sort_kind};
 ghost use Rattle.st_names.specs.Every.{tests_of};
-ghost use Rattle.st_typing.specs.Kinds.{element_kind, context_of, parts_fit, initial_fits, instance_fits, declared_fits, is_global, globals_misfit, pou_misfit};
+ghost use Rattle.st_names.specs.Scopes.{element_kind};
+ghost use Rattle.st_typing.specs.Kinds.{context_of, parts_fit, initial_fits, instance_fits, is_array, array_stands, declared_fits, is_global, globals_misfit, pou_misfit};
 
 use plant_types::{Bounds, Kind, Text};
 use st_names::{Rule, Scope, every, sort_kind};
@@ -16,11 +17,14 @@ use st_parser::{Declaration, Pou, Section, SectionKind, Sort};
 use st_tree::{Argument, Branch, Expr, Stmt, binary_kind, is_bit, unary_kind};
 use std::alloc::{AllocError, Global};
 
-/// The kind of an array's elements, if there is such an array with these bounds. No declaration makes one.
-fn element_kind(_name: &Text, _bounds: Bounds) -> Option<Kind>
-    ensures { result ≡ element_kind _name.now _bounds }
+/// The kind of the elements of the array of a name; `None` if there is none of the name.
+fn element_kind<S: Scope>(scope: &S, name: &Text) -> Option<Kind>
+    ensures { result ≡ element_kind (S.units scope.now) (S.own scope.now) name.now }
 {
-    None
+    match scope.array(name) {
+        Some((_, kind)) => Some(kind),
+        None => None,
+    }
 }
 
 /// The kind of an expression; `None` if an operator doesn't take its operands, an index isn't a DINT, or a name has no kind.
@@ -31,9 +35,9 @@ fn kind_of_expr<S: Scope>(scope: &S, expr: &Expr<Text>) -> Option<Kind>
         Expr::Literal(literal) => Some(literal.kind()),
         Expr::Read(name) => scope.variable_kind(name),
         Expr::Output(instance, name) => scope.output_kind(instance, name),
-        Expr::Element(name, bounds, index) => {
+        Expr::Element(name, _, index) => {
             if is_kind(Kind::Dint, kind_of_expr(scope, index)) {
-                element_kind(name, *bounds)
+                element_kind(scope, name)
             } else {
                 None
             }
@@ -155,13 +159,12 @@ impl<'a, S: Scope> Rule for PartsFit<'a, S> {
             Stmt::Assign(_, name, expr) => takes(scope, name, expr),
             Stmt::Store {
                 array,
-                bounds,
                 index,
                 value,
                 ..
             } => {
                 is_of(scope, Kind::Dint, index)
-                    && fits_option(scope, element_kind(array, *bounds), value)
+                    && fits_option(scope, element_kind(scope, array), value)
             }
             Stmt::Call(_, instance, arguments) => {
                 scope.is_instance(instance) && arguments_fit(scope, instance, arguments)
@@ -187,8 +190,38 @@ fn initial_fits<S: Scope>(scope: &S, kind: Option<Kind>, initial: &Option<Expr<T
     }
 }
 
+/// Whether there is an array, and it has these bounds and elements of this kind.
+fn is_array(bounds: Bounds, kind: Kind, found: Option<(Bounds, Kind)>) -> bool
+    ensures { result ≡ is_array bounds kind found }
+{
+    match found {
+        Some((other, of)) => {
+            bounds.low == other.low && bounds.high == other.high && is_kind(kind, Some(of))
+        }
+        None => false,
+    }
+}
+
+/// Whether an array of a name stands in a section: in VAR and VAR_GLOBAL, and in VAR_EXTERNAL where the global of the name is an array of
+/// the same bounds and kind.
+fn array_stands<S: Scope>(
+    scope: &S,
+    section: SectionKind,
+    bounds: Bounds,
+    kind: Kind,
+    name: &Text,
+) -> bool
+    ensures { result ≡ array_stands (S.units scope.now) name.now bounds kind section }
+{
+    match section {
+        SectionKind::Global | SectionKind::Local => true,
+        SectionKind::External => is_array(bounds, kind, scope.global_array(name)),
+        SectionKind::Input | SectionKind::Output => false,
+    }
+}
+
 /// Whether a name of a declaration fits, by whether the initial value, which all its names share, suits it: an instance stands in VAR and
-/// has no initial value, and a VAR_EXTERNAL has the kind of its global and no initial value.
+/// has no initial value, an array stands where it may and has none, and a VAR_EXTERNAL has the kind of its global and none.
 fn name_fits<S: Scope>(
     scope: &S,
     section: SectionKind,
@@ -202,6 +235,9 @@ fn name_fits<S: Scope>(
     match (&declaration.sort, section) {
         (Sort::Block(_), SectionKind::Local) => declaration.initial.is_none(),
         (Sort::Block(_), _) => false,
+        (Sort::Array(bounds, kind), _) => {
+            declaration.initial.is_none() && array_stands(scope, section, *bounds, *kind, name)
+        }
         (Sort::Kind(kind), SectionKind::External) => {
             declaration.initial.is_none() && is_kind(*kind, scope.global_kind(name))
         }

@@ -9,6 +9,12 @@ decreases-climb l = 4 * l.limit
 abbrev pub decreases-operand : goal.decreases-operand
 decreases-operand l = 4 * l.deeper + 3
 
+abbrev pub decreases-reference : goal.decreases-reference
+decreases-reference l = 4 * l.deeper + 2
+
+abbrev pub decreases-indexed : goal.decreases-indexed
+decreases-indexed l = 4 * l.deeper + 1
+
 abbrev pub decreases-minus : goal.decreases-minus
 decreases-minus l = 4 * l.deeper + 2
 

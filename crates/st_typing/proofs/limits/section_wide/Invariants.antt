@@ -1,0 +1,11 @@
+use Rattle.std.proofs.Common.{◌≡◌, drop, map}
+use Rattle.std.specs.Prelude.{flat_map}
+use Rattle.std.specs.List.{list_any}
+use Rattle.st_parser.specs.Units.{view_declaration}
+use Rattle.st_names.specs.DeclaredNames.{declared_together}
+use Rattle.st_typing.specs.Faults.{is_wide}
+use Rattle.st_typing.proofs.limits.section_wide.Given as goal
+
+abbrev pub invariant-loop-declaration : goal.invariant-loop-declaration
+invariant-loop-declaration l =
+    list_any is_wide (flat_map (declared_together l.section.kind) (map view_declaration (drop l.declaration-index l.section.declarations.items))) ≡ list_any is_wide (flat_map (declared_together l.section.kind) (map view_declaration l.section.declarations.items))
