@@ -11,6 +11,7 @@ use Rattle.st_names.specs.declared.place.UnitPlace.{UnitPlace}
 abbrev pub sort_types : Sort → List (List ℕ)
 sort_types (sort.Kind kind) = []
 sort_types (sort.Block word) = word ∷ []
+sort_types (sort.Array bounds kind) = []
 
 abbrev pub declaration_types : PlainDeclaration → List (List ℕ)
 declaration_types d = sort_types d.sort

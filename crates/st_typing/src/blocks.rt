@@ -29,8 +29,9 @@ fn push_types<'a>(section: &'a Section, words: &mut Vec<&'a str>) -> Result<(), 
     ensures { IfOk result (λ _. map (λ word. word.now) words.new.items ≡ map (λ word. word.now) words.old.items ++ section_types (view_section section.now)) }
 {
     for declaration in &section.declarations {
-        if let Sort::Block(word) = &declaration.sort {
-            words.push(word.as_str())?;
+        match &declaration.sort {
+            Sort::Block(word) => words.push(word.as_str())?,
+            Sort::Kind(_) | Sort::Array(_, _) => {}
         }
     }
     Ok(())
