@@ -1,10 +1,8 @@
 -- Why sources aren't well formed: the fault of least number, in the first unit, in order of text, that has it.
-use Rattle.std.specs.Prelude.{◌≡◌, ⊤, ℕ, ◌+◌, Bool, true, false, ◌||◌, if◌then◌else◌, nat_lt, List, [], ◌∷◌, length, Option, Some, None, slice_get, Vec}
+use Rattle.std.specs.Prelude.{◌≡◌, ⊤, ℕ, ◌+◌, Bool, true, false, ◌||◌, if◌then◌else◌, nat_lt, List, [], ◌∷◌, Option, Some, None, slice_get, Vec}
 use Rattle.std.specs.Global.{Global}
 use Rattle.std.specs.List.{list_any}
 use Rattle.plant_types.specs.Values.{row_length}
-use Rattle.st_parser.specs.declared.unit.PouKind.{PouKind}
-use Rattle.st_parser.specs.declared.unit.PouKind.TheVariants as pou_kind
 use Rattle.st_parser.specs.declared.unit.Sort.{Sort}
 use Rattle.st_parser.specs.declared.unit.Sort.TheVariants as sort
 use Rattle.st_parser.specs.Units.{PlainSection, PlainPou, PlainUnit}

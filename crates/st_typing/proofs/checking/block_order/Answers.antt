@@ -1,6 +1,6 @@
-use Rattle.std.proofs.Common.{◌≡◌, ◌∙◌, ◌<◌, subst, sym, ap, refl, length, map, ℕ, List, Some, slice_get, arith}
+use Rattle.std.proofs.Common.{◌≡◌, ◌∙◌, subst, sym, ap, length, map, Some, slice_get, arith}
 use Rattle.std.proofs.lemmas.Option.{slice_get_within, slice_get_read}
-use Rattle.block_order.specs.Blocks.{PlainBlock, AreOrdered}
+use Rattle.block_order.specs.Blocks.{AreOrdered}
 use Rattle.block_order.specs.Faults.{IsNestingFault}
 use Rattle.block_order.specs.declared.faults.NestingFault.TheVariants as order_fault
 use Rattle.st_parser.specs.Units.{view_unit}

@@ -1,5 +1,4 @@
-use Rattle.std.proofs.Common.{◌≡◌, subst, map}
-use Rattle.st_parser.specs.Units.{view_unit}
+use Rattle.std.proofs.Common.{subst}
 use Rattle.st_typing.specs.Faults.{IsTypeFault}
 use Rattle.st_typing.proofs.checking.order_of.Goals as goal
 
