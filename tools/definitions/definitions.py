@@ -34,8 +34,8 @@ ROOTS = {
 DEFINITION = re.compile(r"(?:abbrev pub|abbrev|pub record|record|unfoldable pub|unfoldable|pub data|data) (?!mutual)([^\s:]+)")
 MEMBER = re.compile(r"pub ([^\s:]+) :")  # a definition inside a `mutual` block
 BLOCK = re.compile(r"(?:abbrev |unfoldable )?mutual\b|module .*where$")
-USE = re.compile(r"use Rattle\.(\w+)\.specs\.([\w.]+?)(?:\.\{([^}]*)\})?(?: as (\w+))?\s*;?$")
-WORD = re.compile(r"[\w₀₁₂◌']+(?:\.[\w◌]+)?")
+USE = re.compile(r"(?:pub )?use Rattle\.(\w+)\.specs\.([\w.]+?)(?:\.\{([^}]*)\})?(?: as (\w+))?\s*;?$")
+WORD = re.compile(r"[\w₀₁₂◌']+(?:\.[\w◌]+)?|[^\w\s(){}\[\],;:.\"]+")  # a name, or an operator between two
 
 Definition = collections.namedtuple("Definition", "rule lines number")
 Example = collections.namedtuple("Example", "names text shown")
@@ -120,12 +120,20 @@ class Specs:
         keys = set()
         for word in words:
             first, _, second = word.partition(".")
-            if home and home + (first,) in self.found:
-                keys.add(home + (first,))
-            elif first in named:
-                crate, file, name = named[first]
-                keys.add((crate, file, name or second))
+            for one in (first, "◌%s◌" % first):
+                if home and home + (one,) in self.found:
+                    keys.add(home + (one,))
+                elif one in named:
+                    crate, file, name = named[one]
+                    keys.add(self.origin((crate, file, name or second)))
         return {key for key in keys if key in self.found}
+
+    def origin(self, key):
+        """The definition itself, where a file hands on that of another one."""
+        while key not in self.found and key[2] in self.named.get(key[:2], {}):
+            crate, file, name = self.named[key[:2]][key[2]]
+            key = (crate, file, name or key[2])
+        return key
 
     def closure(self, keys):
         """These definitions and all to which they lead."""
