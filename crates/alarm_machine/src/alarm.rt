@@ -1,34 +1,52 @@
 ghost use Rattle.std.specs.Prelude.{◌≡◌, ◌≤◌, ◌↔◌, IsTrue, IfOk, true};
 ghost use Rattle.alarm_machine.specs.Codes.{code_of, change_between};
 ghost use Rattle.alarm_machine.specs.Transitions.{resume, on_scan};
-ghost use Rattle.alarm_machine.specs.Alarms.{new_alarm, after_scan, after_order, on_order, end_of, is_settled, AnswersOrder, EndsInRange};
+ghost use Rattle.alarm_machine.specs.Alarms.{IsAlarm, new_alarm, after_scan, after_order, on_order, end_of, is_settled, AnswersOrder, EndsInRange};
+ghost use Rattle.alarm_machine.specs.Kept.{kept_end};
 ghost use Rattle.alarm_machine.specs.declared.limits.TheConstants.{LAST_MOMENT, LONGEST_SHELVE_MS};
 
 use crate::change::Change;
-use crate::states::{AlarmState, OrderFault, Verb};
+use crate::states::{AlarmState, Code, OrderFault, Verb};
 use std::marker::Model;
 
 /// One alarm: whether it latches, its longest shelving, its state, and the condition and suppression of the last scan.
-// The fields stand in this order, and the longest shelving in 32 bits, so that an alarm takes 24 bytes: a plant has many.
+// The state is kept as its code and the end of its shelf, which is 0 where the alarm isn't shelved, and the longest shelving in 32 bits; the fields stand in
+// this order. So an alarm takes 16 bytes: a plant has many.
 #[derive(Clone, Copy, PartialEq, Eq, Drop)]
 pub struct Alarm {
+    end: u64,
+    max_shelve_ms: u32,
+    code: Code,
     latching: bool,
     condition: bool,
     suppressed: bool,
-    max_shelve_ms: u32,
-    state: AlarmState,
 }
 
 impl Model for Alarm {
+    ghost use Rattle.std.specs.Prelude.{◌≡◌};
+    ghost use Rattle.alarm_machine.specs.Codes.{code_of};
     ghost use Rattle.alarm_machine.specs.Alarms.{PlainAlarm, IsAlarm};
+    ghost use Rattle.alarm_machine.specs.Kept.{state_of, kept_end, code_back};
 
     ghost Value = { PlainAlarm };
 
-    ghost view = { λ a. record { latching = a.latching; max_shelve_ms = a.max_shelve_ms; state = a.state; condition = a.condition; suppressed = a.suppressed } };
+    ghost view = { λ a. record { latching = a.latching; max_shelve_ms = a.max_shelve_ms; state = state_of a.code a.end; condition = a.condition; suppressed = a.suppressed } };
 
-    ghost invariant = { λ a. IsAlarm (record { latching = a.latching; max_shelve_ms = a.max_shelve_ms; state = a.state; condition = a.condition; suppressed = a.suppressed }) };
+    ghost invariant = { λ a. IsAlarm (record { latching = a.latching; max_shelve_ms = a.max_shelve_ms; state = state_of a.code a.end; condition = a.condition; suppressed = a.suppressed }) × (kept_end (state_of a.code a.end) ≡ a.end) };
 
-    ghost inverse = { λ a. record { latching = a.latching; max_shelve_ms = a.max_shelve_ms; state = a.state; condition = a.condition; suppressed = a.suppressed } };
+    ghost inverse = { λ a. record { end = kept_end a.state; max_shelve_ms = a.max_shelve_ms; code = code_of a.state; latching = a.latching; condition = a.condition; suppressed = a.suppressed } };
+
+    ghost inverse_ok = { λ a h. λ i. record { end = h.1 i; max_shelve_ms = a.max_shelve_ms; code = code_back a.code a.end i; latching = a.latching; condition = a.condition; suppressed = a.suppressed } };
+}
+
+/// The end of a state's shelf; 0 where it has none.
+fn kept_end(state: AlarmState) -> u64
+    ensures { result ≡ kept_end state }
+{
+    match state {
+        AlarmState::Shelved(end) => end,
+        _ => 0,
+    }
 }
 
 /// The state of an alarm that is no longer shelved, suppressed or out of service.
@@ -77,9 +95,10 @@ impl Alarm {
         ensures { result ≡ new_alarm latching max_shelve_ms }
     {
         Alarm {
-            latching,
+            end: 0,
             max_shelve_ms: max_shelve_ms as u32,
-            state: AlarmState::Norm,
+            code: Code::Norm,
+            latching,
             condition: false,
             suppressed: false,
         }
@@ -89,7 +108,17 @@ impl Alarm {
     pub fn state(&self) -> AlarmState
         ensures { result ≡ self.now.state }
     {
-        self.state
+        match self.code {
+            Code::Norm => AlarmState::Norm,
+            Code::Unack => AlarmState::Unack,
+            Code::Acked => AlarmState::Acked,
+            Code::Rtnun => AlarmState::Rtnun,
+            Code::Latun => AlarmState::Latun,
+            Code::Latak => AlarmState::Latak,
+            Code::Shelved => AlarmState::Shelved(self.end),
+            Code::Suppr => AlarmState::Suppr,
+            Code::Oos => AlarmState::Oos,
+        }
     }
 
     /// Whether the alarm stays latched after its condition has gone, until it is reset.
@@ -128,18 +157,33 @@ impl Alarm {
         ensures in_range { EndsInRange self.now.state }
         ensures settled { is_settled self.now.state self.now.condition self.now.suppressed ≡ true }
     {
-        self.state.end()
+        match self.code {
+            Code::Shelved => Some(self.end),
+            _ => None,
+        }
     }
 
     /// Whether a scan would change nothing of the alarm: its condition and suppression are those of the last scan, and no shelf ends.
     pub fn rests(&self, condition: bool, suppressed: bool, moment: u64) -> bool
         ensures { IsTrue result ↔ (after_scan condition suppressed moment self.now ≡ self.now) }
     {
-        let shelf_ends = match self.state {
-            AlarmState::Shelved(end) => end <= moment,
+        let shelf_ends = match self.code {
+            Code::Shelved => self.end <= moment,
             _ => false,
         };
         self.condition == condition && self.suppressed == suppressed && !shelf_ends
+    }
+
+    /// Takes a state, with the condition and the suppression of a scan.
+    #[tactic(auto, using(crate::proofs::Kept::state_back))]
+    fn put(&mut self, state: AlarmState, condition: bool, suppressed: bool)
+        requires { IsAlarm (record { latching = self.old.latching; max_shelve_ms = self.old.max_shelve_ms; state = state; condition = condition; suppressed = suppressed }) }
+        ensures { self.new ≡ record { latching = self.old.latching; max_shelve_ms = self.old.max_shelve_ms; state = state; condition = condition; suppressed = suppressed } }
+    {
+        self.code = state.code();
+        self.end = kept_end(state);
+        self.condition = condition;
+        self.suppressed = suppressed;
     }
 
     /// Takes a scan at a moment in milliseconds, with the alarm's condition and suppression after the scan's programs.
@@ -148,11 +192,10 @@ impl Alarm {
         ensures alarm { self.new ≡ after_scan condition suppressed moment self.old }
         ensures change { result ≡ change_between (code_of self.old.state) (code_of self.new.state) }
     {
-        let before = self.state.code();
-        self.state = on_scan(self.latching, self.state, condition, suppressed, moment);
-        self.condition = condition;
-        self.suppressed = suppressed;
-        Change::between(before, self.state.code())
+        let before = self.code;
+        let state = on_scan(self.latching, self.state(), condition, suppressed, moment);
+        self.put(state, condition, suppressed);
+        Change::between(before, state.code())
     }
 
     /// The state after an order, or the order's refusal.
@@ -161,7 +204,7 @@ impl Alarm {
         ensures state { result ≡ on_order verb last self.now }
         ensures stays { IfOk result (λ s. EndsInRange s × (is_settled s self.now.condition self.now.suppressed ≡ true)) }
     {
-        match (verb, self.state) {
+        match (verb, self.state()) {
             (Verb::Ack, AlarmState::Unack) => Ok(AlarmState::Acked),
             (Verb::Ack, AlarmState::Rtnun) => Ok(AlarmState::Norm),
             (Verb::Ack, AlarmState::Latun) => Ok(AlarmState::Latak),
@@ -191,8 +234,9 @@ impl Alarm {
         ensures { AnswersOrder (after_order verb last self.old) self.old self.new result }
     {
         let state = self.on_order(verb, last)?;
-        let before = self.state.code();
-        self.state = state;
+        let before = self.code;
+        self.code = state.code();
+        self.end = kept_end(state);
         Ok(Change::between(before, state.code()))
     }
 }

@@ -4,7 +4,7 @@ ghost use Rattle.alarm_machine.specs.Codes.{code_of, code_text, rank};
 ghost use Rattle.alarm_machine.specs.Orders.{order_fault_text, verb_text};
 
 /// The name of a state, as it is printed and counted (this profile's codes), in the order in which codes are listed.
-#[derive(Clone, Copy, Drop)]
+#[derive(Clone, Copy, PartialEq, Eq, Drop)]
 pub enum Code {
     /// Normal.
     Norm,
