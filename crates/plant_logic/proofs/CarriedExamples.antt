@@ -22,8 +22,9 @@ held name block = record { name = name; of = block }
 abbrev plant_of : List ℕ → List ℕ → Kind → BlockRef → Source
 plant_of name other k block = record {
   globals = [];
+  rows = [];
   starts = done;
-  programs = record { name = name; locals = variable (codes "n") kind.Dint ∷ variable other k ∷ []; instances = held (codes "t") block ∷ []; starts = done; body = done } ∷ [];
+  programs = record { name = name; locals = variable (codes "n") kind.Dint ∷ variable other k ∷ []; rows = []; instances = held (codes "t") block ∷ []; starts = done; body = done } ∷ [];
   blocks = [];
 }
 

@@ -5,6 +5,7 @@ pub mod Apart
 mod Made
 pub mod Belows
 pub mod Paths
+pub mod Rows
 pub mod Layouts
 pub mod Levels
 pub mod Agreeing

@@ -1,12 +1,14 @@
 //! A source that was parsed: global variables, programs and block types.
 
-use plant_types::{Kind, Region, Text};
+use plant_types::{Bounds, Kind, Region, Text};
 use st_tree::Stmt;
 
 /// The global variables, the programs and the block types of a plant.
 pub struct Logic {
     /// In order of declaration.
     pub globals: Vec<Variable>,
+    /// The global arrays, in order of declaration.
+    pub rows: Vec<Row>,
     /// An assignment for each initial value that is written for a global.
     pub starts: Vec<Stmt<Text>>,
     /// In order of text.
@@ -19,6 +21,7 @@ impl Drop for Logic {
     fn drop(self) {
         let Logic {
             globals: _,
+            rows: _,
             starts: _,
             programs: _,
             blocks: _,
@@ -56,6 +59,24 @@ impl Drop for Local {
     }
 }
 
+/// An array (IEC 61131-3), with its name as declared.
+pub struct Row {
+    pub name: Text,
+    /// That of each element.
+    pub kind: Kind,
+    pub bounds: Bounds,
+}
+
+impl Drop for Row {
+    fn drop(self) {
+        let Row {
+            name: _,
+            kind: _,
+            bounds: _,
+        } = self;
+    }
+}
+
 /// What an instance is of: a standard block (IEC 61131-3), or the declared block type of a number.
 #[derive(Clone, Copy, Drop)]
 pub enum BlockRef {
@@ -86,6 +107,8 @@ pub struct Routine {
     pub name: Text,
     /// Its own variables in order of declaration: those of VAR, VAR_INPUT and VAR_OUTPUT.
     pub locals: Vec<Local>,
+    /// Its own arrays, in order of declaration.
+    pub rows: Vec<Row>,
     /// Its instances in order of declaration.
     pub instances: Vec<Instance>,
     /// An assignment for each initial value that is written for one of its own variables.
@@ -98,6 +121,7 @@ impl Drop for Routine {
         let Routine {
             name: _,
             locals: _,
+            rows: _,
             instances: _,
             starts: _,
             body: _,
