@@ -7,7 +7,6 @@ use Rattle.std.proofs.lemmas.Bool.{and_parts}
 use Rattle.std.proofs.lemmas.List.Elements.{All-nil, All-from_recursion}
 use Rattle.std.proofs.lemmas.List.Folds.{list_all-append}
 use Rattle.plant_types.specs.Words.{folded}
-use Rattle.plant_types.specs.declared.values.Bounds.{Bounds}
 use Rattle.plant_types.specs.declared.values.Kind.{Kind}
 use Rattle.plant_types.specs.declared.values.Kind.TheVariants as kind
 use Rattle.plant_types.specs.Values.{is_in_range}
@@ -31,7 +30,7 @@ use Rattle.st_names.specs.Scopes.{or_other, is_external, variable_kind, output_k
 use Rattle.st_names.specs.Shared.{global, pou, shared_by, shared_in, find_shared, as_global, global_named}
 use Rattle.st_names.specs.Taken.{or_place, repeats}
 use Rattle.st_typing.specs.Faults.{AreTyped}
-use Rattle.st_typing.specs.Kinds.{context_of, initial_fits, instance_fits, array_section_fits, sort_fits, declared_fits, is_global, pou_misfit}
+use Rattle.st_typing.specs.Kinds.{context_of, initial_fits, instance_fits, array_stands, sort_fits, declared_fits, is_global, pou_misfit}
 use Rattle.plant_logic.specs.declared.logic.Instance.{Instance}
 use Rattle.plant_logic.specs.declared.logic.BlockRef.{BlockRef}
 use Rattle.plant_logic.specs.declared.logic.BlockRef.TheVariants.{Ton, Tof, RTrig, Declared}
@@ -65,14 +64,6 @@ instance_none sections.Output e h = absurd (cc)
 instance_none sections.External e h = absurd (cc)
 instance_none sections.Global e h = absurd (cc)
 
--- an array has none either
-array_none : {P : Type 0} (s : SectionKind) (bounds : Bounds) (k : Kind) (a : Option (Bounds × Kind)) (e : PlainExpr (List ℕ)) → array_section_fits s (Some e) bounds k a ≡ true → P
-array_none sections.Local bounds k a e h = absurd (cc)
-array_none sections.Input bounds k a e h = absurd (cc)
-array_none sections.Output bounds k a e h = absurd (cc)
-array_none sections.External bounds k a e h = absurd (cc)
-array_none sections.Global bounds k a e h = absurd (cc)
-
 -- a statement is an assignment of an initial value
 abbrev is_start : PlainStmt (List ℕ) → Bool
 is_start (assign number v e) = true
@@ -95,7 +86,7 @@ module _ (units : List PlainUnit) (own : List PlainDeclared) where
   sort_start d (sort.Kind k) e is h =
       variable_start (is_external d.section) (is_kind k (scopes.global_kind units d.name)) k e
       (ap (λ o. if is_external d.section then is_none o && is_kind k (scopes.global_kind units d.name) else initial_fits units own (Some k) o) (sym is) ∙ h)
-  sort_start d (sort.Array bounds k) e is h = array_none d.section bounds k (scopes.global_array units d.name) e (ap (λ o. array_section_fits d.section o bounds k (scopes.global_array units d.name)) (sym is) ∙ h)
+  sort_start d (sort.Array bounds k) e is h = (let none = (and_parts (is_none d.initial) (array_stands units d.name bounds k d.section) h).0 in let some : is_none d.initial ≡ false = ap is_none is in absurd (cc))
   sort_start d (sort.Block word) e is h = instance_none d.section e (ap (instance_fits d.section) (sym is) ∙ h)
 
   abbrev free : Context (List ℕ)

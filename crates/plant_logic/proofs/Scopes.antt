@@ -3,6 +3,7 @@ use Rattle.std.proofs.Common.{◌≡◌, ◌∙◌, ap, sym, subst, refl, ℕ, �
 use Rattle.std.specs.Prelude.{◌&&◌, if◌then◌else◌, is_some, is_none, option_map, option_and_then, unwrap_or, flat_map, filter_map}
 use Rattle.std.specs.List.{list_all, cons_option}
 use Rattle.std.specs.Option.{option_map_or}
+use Rattle.std.specs.Ordering.{int_eq}
 use Rattle.std.specs.Str.{bytes_eq}
 use Rattle.std.specs.Cmp.Lexicographic.{bytes_decides}
 use Rattle.std.proofs.lemmas.Bool.{cases_Bool, and_parts}
@@ -13,7 +14,6 @@ use Rattle.plant_types.specs.declared.values.Kind.{Kind}
 use Rattle.plant_types.specs.declared.values.Kind.TheVariants as kind
 use Rattle.block_order.specs.Chains.{Among}
 use Rattle.st_tree.specs.Kinds.{is_kind, same_kind}
-use Rattle.st_tree.specs.Plain.{PlainExpr}
 use Rattle.st_tree.proofs.FittedLaws.{kind_is}
 use Rattle.st_parser.specs.declared.unit.SectionKind.{SectionKind}
 use Rattle.st_parser.specs.declared.unit.SectionKind.TheVariants as sections
@@ -26,7 +26,7 @@ use Rattle.st_names.specs.Shared.{Shared, global, pou, shared_name, shared_in, f
 use Rattle.st_names.specs.Scopes as scopes
 use Rattle.st_names.specs.Scopes.{or_other, is_external, sort_type, variable_kind, element_kind, instance_type, input_kind, output_kind, can_control, is_control}
 use Rattle.st_names.specs.Taken.{repeats}
-use Rattle.st_typing.specs.Kinds.{initial_fits, is_array, array_section_fits, sort_fits, declared_fits}
+use Rattle.st_typing.specs.Kinds.{initial_fits, is_array, array_stands, sort_fits, declared_fits}
 use Rattle.plant_logic.specs.declared.logic.Variable.{Variable}
 use Rattle.plant_logic.specs.declared.logic.Local.{Local}
 use Rattle.plant_logic.specs.declared.logic.Row.{Row}
@@ -34,7 +34,7 @@ use Rattle.plant_logic.specs.declared.logic.Instance.{Instance}
 use Rattle.plant_logic.specs.Source.{PlainRoutine, Source}
 use Rattle.plant_logic.specs.Pous.{pous_of, block_pous, block_names, pou_word}
 use Rattle.plant_logic.specs.Units.{local_by, local_of, row_by, own_row_of, block_ref, instance_by, instance_of, routine_of, source_in}
-use Rattle.plant_logic.specs.Names.{own_words, row_words, find_word, own_kind, global_kind, kind_named, row_named, array_named, same_bounds, element_kind_named, bounds_named}
+use Rattle.plant_logic.specs.Names.{own_words, row_words, find_word, own_kind, global_kind, kind_named, row_named, array_named, element_kind_named, bounds_named}
 use Rattle.plant_logic.specs.Worlds.{Path, words_of, path_of, path_in, index_word, element_path, globals_routine}
 use Rattle.plant_logic.specs.Ranges.{kind_at, element_at, local_kinds, row_kinds, own_kinds, all_kinds}
 use Rattle.plant_logic.proofs.Apart.{shared_word, pick_block}
@@ -352,21 +352,24 @@ module _ (units : List PlainUnit) (apart : repeats (map shared_word (shared_in u
     -- the global of a VAR_EXTERNAL array is an array of the same kind
     array_kind : (bounds : Bounds) (k : Kind) (o : Option (Bounds × Kind)) → is_array bounds k o ≡ true → option_map (λ (a : Bounds × Kind). a.1) o ≡ Some k
     array_kind bounds k None is = absurd (cc)
-    array_kind bounds k (Some a) is = kind_is k (Some a.1) (and_parts (same_bounds bounds a.0) (same_kind k a.1) is).1
+    array_kind bounds k (Some a) is =
+        let high = (and_parts (int_eq bounds.low a.0.low) (int_eq bounds.high a.0.high && same_kind k a.1) is).1 in
+        kind_is k (Some a.1) (and_parts (int_eq bounds.high a.0.high) (same_kind k a.1) high).1
 
-    external_section : (s : SectionKind) (o : Option (PlainExpr (List ℕ))) (bounds : Bounds) (k : Kind) (a : Option (Bounds × Kind)) → is_external s ≡ true → array_section_fits s o bounds k a ≡ true → is_array bounds k a ≡ true
-    external_section sections.Local o bounds k a outside fits = absurd (cc)
-    external_section sections.Input o bounds k a outside fits = absurd (cc)
-    external_section sections.Output o bounds k a outside fits = absurd (cc)
-    external_section sections.External o bounds k a outside fits = (and_parts (is_none o) (is_array bounds k a) fits).1
-    external_section sections.Global o bounds k a outside fits = absurd (cc)
+    external_section : (s : SectionKind) (name : List ℕ) (bounds : Bounds) (k : Kind) → is_external s ≡ true → array_stands units name bounds k s ≡ true → is_array bounds k (scopes.global_array units name) ≡ true
+    external_section sections.Local name bounds k outside stands = absurd (cc)
+    external_section sections.Input name bounds k outside stands = absurd (cc)
+    external_section sections.Output name bounds k outside stands = absurd (cc)
+    external_section sections.External name bounds k outside stands = stands
+    external_section sections.Global name bounds k outside stands = absurd (cc)
 
     external_array : (d : PlainDeclared) (s : Sort) (k : Kind) → is_external d.section ≡ true → option_map (λ (a : Bounds × Kind). a.1) (sort_array s) ≡ Some k → sort_fits units own d s ≡ true → option_map (λ (a : Bounds × Kind). a.1) (scopes.global_array units d.name) ≡ Some k
     external_array d (sort.Kind j) k outside is fits = absurd (cc)
     external_array d (sort.Block word) k outside is fits = absurd (cc)
     external_array d (sort.Array bounds j) k outside is fits =
         let same : j ≡ k = cc in
-        array_kind bounds j (scopes.global_array units d.name) (external_section d.section d.initial bounds j (scopes.global_array units d.name) outside fits) ∙ ap Some same
+        let stands = (and_parts (is_none d.initial) (array_stands units d.name bounds j d.section) fits).1 in
+        array_kind bounds j (scopes.global_array units d.name) (external_section d.section d.name bounds j outside stands) ∙ ap Some same
 
     declared_array : (name : List ℕ) (k : Kind) (d : PlainDeclared) → find_declared own name ≡ Some d → option_map (λ (a : Bounds × Kind). a.1) (sort_array d.sort) ≡ Some k → IsArray name k
     declared_array name k d found is =

@@ -19,5 +19,5 @@ pub use laws::{
     program_values_stand, typed_names_are_distinct, typed_types_are_there, value_of_number,
     value_written, values_stand_once,
 };
-pub use logic::{BlockRef, Instance, Local, Logic, Routine, Row, Variable};
+pub use logic::{BlockRef, Instance, Local, Logic, Routine, Row, Variable, row_cells};
 pub use units::logic_of;

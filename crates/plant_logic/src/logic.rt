@@ -1,5 +1,9 @@
 //! A source that was parsed: global variables, programs and block types.
 
+ghost use Rattle.std.specs.Prelude.{◌≡◌, ◌<◌, ◌^◌};
+ghost use Rattle.plant_types.specs.Values.{row_length};
+ghost use Rattle.plant_logic.specs.Source.{row_cells};
+
 use plant_types::{Bounds, Kind, Region, Text};
 use st_tree::Stmt;
 
@@ -75,6 +79,27 @@ impl Drop for Row {
             bounds: _,
         } = self;
     }
+}
+
+impl Row {
+    /// How many elements it has: an index from the low bound to the high one each.
+    pub fn elements(&self) -> usize
+        ensures { result ≡ row_length self.now.bounds }
+    {
+        self.bounds.high.abs_diff(self.bounds.low) as usize + 1
+    }
+}
+
+/// How many cells arrays have together: one for each element. There are no more than a number has room for.
+pub fn row_cells(rows: &[Row]) -> usize
+    requires { row_cells rows.now < 2 ^ 64 }
+    ensures { result ≡ row_cells rows.now }
+{
+    let mut total = 0;
+    for row in rows {
+        total += row.elements();
+    }
+    total
 }
 
 /// What an instance is of: a standard block (IEC 61131-3), or the declared block type of a number.
