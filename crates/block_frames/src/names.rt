@@ -1,25 +1,69 @@
-//! The names of variables and of instances, which are found without a look at each.
+//! The names of variables, of arrays and of instances, which are found without a look at each.
 
-ghost use Rattle.std.specs.Prelude.{◌≡◌, [], false, map, IfOk, IfSome, ◌<◌, length};
+ghost use Rattle.std.specs.Prelude.{◌≡◌, [], false, map, IfOk, IfSome, ◌<◌, ◌^◌, length};
 ghost use Rattle.st_names.specs.Taken.{repeats};
 ghost use Rattle.word_index.specs.Names.{find_name};
-ghost use Rattle.plant_logic.specs.Names.{global_words, own_words, instance_words};
-ghost use Rattle.block_frames.specs.Scoped.{kind_among, block_among, local_names, local_kinds, global_names, global_kinds, own_variables, global_variables, AreVariables, AreInstances};
+ghost use Rattle.plant_logic.specs.Names.{global_words, own_words, row_words, instance_words};
+ghost use Rattle.plant_logic.specs.Source.{row_cells};
+ghost use Rattle.block_frames.specs.Scoped.{kind_among, array_among, block_among, row_names, laid_from, local_names, local_kinds, global_names, global_kinds, own_variables, global_variables, AreVariables, AreArrays, AreInstances};
 
-use plant_logic::{BlockRef, Instance, Local, Variable};
-use plant_types::Kind;
+use plant_logic::{BlockRef, Instance, Local, Row, Variable};
+use plant_types::{Bounds, Kind};
 use std::alloc::{AllocError, Global};
 use word_index::Names;
 
-/// Names of variables as declared, and the kind of each.
+/// An array, as bodies are numbered by it.
+#[derive(Clone, Copy, Drop)]
+pub struct Laid {
+    /// That of each element.
+    pub kind: Kind,
+    pub bounds: Bounds,
+    /// The number of its first element, counted from the first of all that stand in a list with it.
+    pub first: u32,
+}
+
+/// Names of arrays as declared, what is known of each, and how many elements they have together.
+pub struct Arrays {
+    pub names: Names,
+    pub laid: Vec<Laid>,
+    pub cells: u32,
+}
+
+impl Drop for Arrays {
+    fn drop(self) {
+        let Arrays {
+            names: _,
+            laid: _,
+            cells: _,
+        } = self;
+    }
+}
+
+impl Arrays {
+    /// The array of a name, in any letter case; `None` if there is none. It takes no memory.
+    pub fn find(&self, name: &str) -> Option<Laid>
+        ensures { result ≡ array_among self.now name.now }
+    {
+        let number = self.names.find(name)?;
+        self.laid.get(number).copied()
+    }
+}
+
+/// Names of variables as declared, and the kind of each; and the arrays beside them. Of a block type's arrays nothing is known where only its
+/// members are asked for.
 pub struct Variables {
     pub names: Names,
     pub kinds: Vec<Kind>,
+    pub arrays: Arrays,
 }
 
 impl Drop for Variables {
     fn drop(self) {
-        let Variables { names: _, kinds: _ } = self;
+        let Variables {
+            names: _,
+            kinds: _,
+            arrays: _,
+        } = self;
     }
 }
 
@@ -81,24 +125,90 @@ fn kinds_of_locals(alloc: Global, locals: &[Local]) -> Result<Vec<Kind>, AllocEr
     Ok(kinds)
 }
 
-/// A routine's own variables, of which no two have one name. Fails if allocation fails.
-pub fn own_variables(alloc: Global, locals: &[Local]) -> Result<Variables, AllocError>
-    requires { repeats (own_words locals.now) ≡ false }
-    ensures { IfOk result (AreVariables (own_variables locals.now)) }
+/// The names of arrays, of which no two are the same word. Fails if allocation fails.
+fn names_of_rows(alloc: Global, rows: &[Row]) -> Result<Names, AllocError>
+    requires { repeats (row_words rows.now) ≡ false }
+    ensures { IfOk result (λ names. names ≡ row_names rows.now) }
+{
+    let mut names = Names::new(alloc);
+    for row in rows {
+        let _is_new = names.add(alloc, row.name.as_str())?;
+    }
+    Ok(names)
+}
+
+/// Arrays one after another, in order, and how many elements they have together: no more than a number of 32 bits has room for. Fails if
+/// allocation fails.
+fn laid_of(alloc: Global, rows: &[Row]) -> Result<(Vec<Laid>, u32), AllocError>
+    requires { row_cells rows.now < 2 ^ 32 }
+    ensures laid { IfOk result (λ made. made.0.items ≡ laid_from 0 rows.now) }
+    ensures cells { IfOk result (λ made. made.1 ≡ row_cells rows.now) }
+{
+    let mut laid = Vec::new(alloc);
+    let mut first = 0;
+    for row in rows {
+        let (kind, bounds) = (row.kind, row.bounds);
+        laid.push(Laid {
+            kind,
+            bounds,
+            first,
+        })?;
+        let next = first as usize + row.elements();
+        first = next as u32;
+    }
+    Ok((laid, first))
+}
+
+/// Arrays, of which no two have one name, and which have few elements. Fails if allocation fails.
+fn arrays_of(alloc: Global, rows: &[Row]) -> Result<Arrays, AllocError>
+    requires apart { repeats (row_words rows.now) ≡ false }
+    requires few { row_cells rows.now < 2 ^ 32 }
+    ensures { IfOk result (AreArrays rows.now) }
+{
+    let names = names_of_rows(alloc, rows)?;
+    let (laid, cells) = laid_of(alloc, rows)?;
+    Ok(Arrays { names, laid, cells })
+}
+
+/// No arrays.
+fn no_arrays(alloc: Global) -> Arrays
+    ensures { AreArrays [] result }
+{
+    Arrays {
+        names: Names::new(alloc),
+        laid: Vec::new(alloc),
+        cells: 0,
+    }
+}
+
+/// A routine's own variables and its own arrays, of which no two have one name, and the arrays few elements. Fails if allocation fails.
+pub fn own_variables(
+    alloc: Global,
+    locals: &[Local],
+    rows: &[Row],
+) -> Result<Variables, AllocError>
+    requires locals { repeats (own_words locals.now) ≡ false }
+    requires rows { repeats (row_words rows.now) ≡ false }
+    requires few { row_cells rows.now < 2 ^ 32 }
+    ensures variables { IfOk result (AreVariables (own_variables locals.now)) }
+    ensures arrays { IfOk result (λ variables. AreArrays rows.now variables.arrays) }
 {
     Ok(Variables {
         names: names_of_locals(alloc, locals)?,
         kinds: kinds_of_locals(alloc, locals)?,
+        arrays: arrays_of(alloc, rows)?,
     })
 }
 
-/// No variables.
+/// No variables and no arrays.
 pub fn no_variables(alloc: Global) -> Variables
-    ensures { AreVariables (own_variables []) result }
+    ensures variables { AreVariables (own_variables []) result }
+    ensures arrays { AreArrays [] result.arrays }
 {
     Variables {
         names: Names::new(alloc),
         kinds: Vec::new(alloc),
+        arrays: no_arrays(alloc),
     }
 }
 
@@ -125,14 +235,22 @@ fn kinds_of_globals(alloc: Global, globals: &[Variable]) -> Result<Vec<Kind>, Al
     Ok(kinds)
 }
 
-/// The globals, of which no two have one name. Fails if allocation fails.
-pub fn global_variables(alloc: Global, globals: &[Variable]) -> Result<Variables, AllocError>
-    requires { repeats (global_words globals.now) ≡ false }
-    ensures { IfOk result (AreVariables (global_variables globals.now)) }
+/// The globals and the global arrays, of which no two have one name, and the arrays few elements. Fails if allocation fails.
+pub fn global_variables(
+    alloc: Global,
+    globals: &[Variable],
+    rows: &[Row],
+) -> Result<Variables, AllocError>
+    requires globals { repeats (global_words globals.now) ≡ false }
+    requires rows { repeats (row_words rows.now) ≡ false }
+    requires few { row_cells rows.now < 2 ^ 32 }
+    ensures variables { IfOk result (AreVariables (global_variables globals.now)) }
+    ensures arrays { IfOk result (λ variables. AreArrays rows.now variables.arrays) }
 {
     Ok(Variables {
         names: names_of_globals(alloc, globals)?,
         kinds: kinds_of_globals(alloc, globals)?,
+        arrays: arrays_of(alloc, rows)?,
     })
 }
 

@@ -1,5 +1,5 @@
 -- What the names of a routine of well-formed units are: its variables, its instances and their members, with their kinds and paths.
-use Rattle.std.proofs.Common.{◌≡◌, ◌∙◌, ap, sym, subst, refl, ℕ, ℤ, zero, suc, pos, Bool, true, false, List, [], ◌∷◌, ◌++◌, map, Option, Some, None, slice_get, inl, inr}
+use Rattle.std.proofs.Common.{◌≡◌, ◌∙◌, ap, sym, subst, refl, ℕ, ℤ, zero, suc, pos, ◌+◌, length, take, Bool, true, false, List, [], ◌∷◌, ◌++◌, map, Option, Some, None, slice_get, inl, inr}
 use Rattle.std.specs.Prelude.{◌&&◌, if◌then◌else◌, is_some, is_none, option_map, option_and_then, unwrap_or, flat_map, filter_map}
 use Rattle.std.specs.List.{list_all, cons_option}
 use Rattle.std.specs.Option.{option_map_or}
@@ -31,7 +31,8 @@ use Rattle.plant_logic.specs.declared.logic.Variable.{Variable}
 use Rattle.plant_logic.specs.declared.logic.Local.{Local}
 use Rattle.plant_logic.specs.declared.logic.Row.{Row}
 use Rattle.plant_logic.specs.declared.logic.Instance.{Instance}
-use Rattle.plant_logic.specs.Source.{PlainRoutine, Source}
+use Rattle.plant_logic.specs.Source.{PlainRoutine, Source, row_cells}
+use Rattle.plant_logic.specs.Seats.{own_or_global, row_first, row_number}
 use Rattle.plant_logic.specs.Pous.{pous_of, block_pous, block_names, pou_word}
 use Rattle.plant_logic.specs.Units.{local_by, local_of, row_by, own_row_of, block_ref, instance_by, instance_of, routine_of, source_in}
 use Rattle.plant_logic.specs.Names.{own_words, row_words, find_word, own_kind, global_kind, kind_named, row_named, array_named, element_kind_named, bounds_named}
@@ -293,6 +294,7 @@ module _ (units : List PlainUnit) (apart : repeats (map shared_word (shared_in u
     -- an array whose elements are of a kind: its kind and its bounds are those by which bodies are meant, and each element is one of the kind where the routine's own values are
     pub record IsArray (name : List ℕ) (k : Kind) : Type 0 where
       pub kind_is : element_kind_named source r name ≡ k
+      pub numbered : (base : ℕ) → is_some (row_number source r base name) ≡ true
       pub stands : (path : Path) (i : ℤ) → Within (all_kinds source) (own_kinds r (words_of path)) → has_index (bounds_named source r name) i ≡ true → Among (all_kinds source) (element_at k (bounds_named source r name) (element_path r path name i))
 
     own_array : (name : List ℕ) (row : Row) → first_that (λ (row : Row). same_word row.name name) r.rows ≡ Some row → IsArray name row.kind
@@ -304,6 +306,7 @@ module _ (units : List PlainUnit) (apart : repeats (map shared_word (shared_in u
         let bounds : bounds_named source r name ≡ row.bounds = ap (λ o. option_map_or (λ (row : Row). row.bounds) o (record { low = pos 0; high = pos 0 })) whole in
         record {
           kind_is = ap (λ o. option_map_or (λ (row : Row). row.kind) o kind.Bool) whole;
+          numbered = λ base. ap (λ o. is_some (own_or_global (base + length r.locals) (option_map (λ k. row_cells (take k r.rows)) o) (option_map (λ n. length source.globals + n) (row_first source.rows name)))) f.1;
           stands = λ path i within inside.
               let element = element_at row.kind row.bounds (index_word i ∷ folded row.name ∷ words_of path) in
               let here = within element (own_row_among r (words_of path) f.0 row i f.2 (ap (λ b. has_index b i) (sym bounds) ∙ inside)) in
@@ -325,6 +328,7 @@ module _ (units : List PlainUnit) (apart : repeats (map shared_word (shared_in u
         let bounds : bounds_named source r name ≡ row.bounds = ap (λ o. option_map_or (λ (row : Row). row.bounds) o (record { low = pos 0; high = pos 0 })) whole in
         record {
           kind_is = ap (λ o. option_map_or (λ (row : Row). row.kind) o kind.Bool) whole;
+          numbered = λ base. λ i. is_some (own_or_global (base + length r.locals) (option_map (λ k. row_cells (take k r.rows)) (absent i)) (option_map (λ n. length source.globals + n) (option_map (λ k. row_cells (take k source.rows)) (f.1 i))));
           stands = λ path i within inside.
               let here = global_row_among source f.0 row i f.2 (ap (λ b. has_index b i) (sym bounds) ∙ inside) in
               subst (λ o. Among (all_kinds source) (element_at row.kind (bounds_named source r name) (index_word i ∷ (if is_some o then folded name ∷ words_of path else path_of name)))) (sym absent)

@@ -265,7 +265,7 @@ mapped_at f (Some a) b is = (a, refl, cc)
 
 -- ---- elements of arrays
 -- the array of a number is the one that the name finds
-row_of_number : (rows : List Row) (name : List ℕ) (k : ℕ) → find_word (row_words rows) name ≡ Some k → (row : Row) × (slice_get rows k ≡ Some row) × (folded row.name ≡ folded name)
+pub row_of_number : (rows : List Row) (name : List ℕ) (k : ℕ) → find_word (row_words rows) name ≡ Some k → (row : Row) × (slice_get rows k ≡ Some row) × (folded row.name ≡ folded name)
 row_of_number rows name k found =
     let word = λ (row : Row). folded row.name in
     mapped_at word (slice_get rows k) (folded name) (sym (slice_get-map word rows k) ∙ word_at (row_words rows) name k found)
