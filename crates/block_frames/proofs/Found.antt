@@ -1,21 +1,18 @@
 -- What a name that has a number is, in the routine at a base.
-use Rattle.std.proofs.Common.{◌≡◌, ap, sym, refl, arith, ℕ, zero, suc, ◌+◌, ◌-◌, ◌<◌, true, false, List, [], ◌∷◌, length, take, Option, Some, None, slice_get}
+use Rattle.std.proofs.Common.{◌≡◌, ap, sym, refl, arith, ℕ, ◌+◌, ◌-◌, ◌<◌, true, false, List, length, take, Option, Some, None, slice_get}
 use Rattle.std.specs.Prelude.{is_some, nat_lt, option_map, option_and_then, unwrap_or}
 use Rattle.std.specs.Str.{bytes_eq}
 use Rattle.std.proofs.lemmas.Bool.Decides.{nat_tests}
 use Rattle.std.proofs.lemmas.List.{length-map}
-use Rattle.std.proofs.lemmas.List.Sums.{sum_by-cons}
 use Rattle.std.proofs.lemmas.List.Quantifiers.{position-Some}
-use Rattle.plant_types.specs.Values.{row_length}
 use Rattle.plant_types.specs.Words.{folded}
 use Rattle.plant_logic.specs.declared.logic.Variable.{Variable}
-use Rattle.plant_logic.specs.declared.logic.Row.{Row}
 use Rattle.plant_logic.specs.declared.logic.Instance.{Instance}
 use Rattle.plant_logic.specs.declared.logic.BlockRef.{BlockRef}
 use Rattle.plant_logic.specs.Source.{PlainRoutine, Source, row_cells, global_cells}
 use Rattle.plant_logic.specs.Names.{global_words, own_words, row_words, find_word, instance_named, block_named}
 use Rattle.plant_logic.specs.Seats.{own_or_global, value_number, row_number}
-use Rattle.plant_logic.proofs.Seats.{row_of_number}
+use Rattle.plant_logic.proofs.Seats.{row_of_number, row_ends}
 use Rattle.plant_logic.proofs.Members.{instance_of_number}
 use Rattle.block_walk.specs.declared.frame.Base.{Base}
 use Rattle.block_walk.specs.Walks.{slot_of}
@@ -47,16 +44,6 @@ pub slot_is : (source : Source) (r : PlainRoutine) (base : Base) (name : List �
 slot_is source r base name there =
     slot_by (global_cells source) base (find_word (own_words r.locals) name) (find_word (global_words source.globals) name) (λ j found. let less = global_within source.globals name j found in omega (arith, less)) there
 
--- the number of the first element of a global array is one of a global's cell
-row_below : (rows : List Row) (k : ℕ) (row : Row) → slice_get rows k ≡ Some row → row_cells (take k rows) < row_cells rows
-row_below [] k row at = absurd (cc)
-row_below (r ∷ rows) zero row at = let sum = sum_by-cons (λ (row : Row). row_length row.bounds) r rows in omega (arith, sum)
-row_below (r ∷ rows) (suc k) row at =
-    let rest = row_below rows k row at in
-    let sum = sum_by-cons (λ (row : Row). row_length row.bounds) r rows in
-    let less = sum_by-cons (λ (row : Row). row_length row.bounds) r (take k rows) in
-    omega (arith, rest, sum, less)
-
 module _ (source : Source) (r : PlainRoutine) (base : Base) (name : List ℕ) where
   abbrev globals : ℕ
   globals = global_cells source
@@ -78,7 +65,7 @@ module _ (source : Source) (r : PlainRoutine) (base : Base) (name : List ℕ) wh
   row_slot_by None None within there = absurd (cc)
 
   global_row_below : (k : ℕ) → find_word (row_words source.rows) name ≡ Some k → row_cells (take k source.rows) < row_cells source.rows
-  global_row_below k found = let row = row_of_number source.rows name k found in row_below source.rows k row.0 row.1
+  global_row_below k found = let row = row_of_number source.rows name k found in let ends = row_ends source.rows k row.0 row.1 in omega (arith, ends)
 
   -- an array that has a number in a body has one in the cells
   pub row_slot_is : is_some (array_number source r name) ≡ true → row_number source r base.values name ≡ Some (slot_of (global_cells source) base (unwrap_or (array_number source r name) 0))

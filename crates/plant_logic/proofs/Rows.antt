@@ -126,13 +126,16 @@ element_of_number i (suc n) (suc k) path within =
     let same : (i +ℤ pos 1) +ℤ pos k ≡ i +ℤ pos (suc k) = omega (arith, ints) in
     element_of_number (i +ℤ pos 1) n k path (omega (arith, within)) ∙ ap (λ j. Some (index_word j ∷ path)) same
 
+pub element_numbered : (bounds : Bounds) (k : ℕ) (path : Path) → k < row_length bounds → slice_get (element_values bounds path) k ≡ Some (index_word (bounds.low +ℤ pos k) ∷ path)
+element_numbered bounds k path within = element_of_number bounds.low (row_length bounds) k path within
+
 -- an index within the bounds is that of an element
 pub within_row : (bounds : Bounds) (i : ℤ) → has_index bounds i ≡ true → nat_abs (i -ℤ bounds.low) < row_length bounds
 within_row bounds i within = grind (arith, ints, within)
 
-counted_from : (bounds : Bounds) (i : ℤ) → has_index bounds i ≡ true → bounds.low +ℤ pos (nat_abs (i -ℤ bounds.low)) ≡ i
+pub counted_from : (bounds : Bounds) (i : ℤ) → has_index bounds i ≡ true → bounds.low +ℤ pos (nat_abs (i -ℤ bounds.low)) ≡ i
 counted_from bounds i within = grind (arith, ints, within)
 
 pub element_at_index : (bounds : Bounds) (i : ℤ) (path : Path) → has_index bounds i ≡ true → slice_get (element_values bounds path) (nat_abs (i -ℤ bounds.low)) ≡ Some (index_word i ∷ path)
 element_at_index bounds i path within =
-    element_of_number bounds.low (row_length bounds) (nat_abs (i -ℤ bounds.low)) path (within_row bounds i within) ∙ ap (λ j. Some (index_word j ∷ path)) (counted_from bounds i within)
+    element_numbered bounds (nat_abs (i -ℤ bounds.low)) path (within_row bounds i within) ∙ ap (λ j. Some (index_word j ∷ path)) (counted_from bounds i within)

@@ -1,5 +1,5 @@
 -- What stands where in the lists of all values and all standard blocks.
-use Rattle.std.proofs.Common.{◌≡◌, ◌∙◌, ap, sym, subst, refl, arith, ℕ, ℤ, zero, suc, pos, ◌+◌, ◌-ℤ◌, nat_abs, take, true, List, [], ◌∷◌, ◌++◌, map, length, get_or, Option, Some, None, slice_get}
+use Rattle.std.proofs.Common.{◌≡◌, ◌∙◌, ap, sym, subst, refl, arith, ℕ, ℤ, zero, suc, pos, ◌+◌, ◌<◌, ◌≤◌, ◌+ℤ◌, ◌-ℤ◌, nat_abs, take, true, List, [], ◌∷◌, ◌++◌, map, length, get_or, Option, Some, None, slice_get}
 use Rattle.std.specs.Prelude.{is_some, option_map, option_and_then, if◌then◌else◌, slice_set}
 use Rattle.std.specs.Option.{option_map_or}
 use Rattle.std.specs.Str.{bytes_eq}
@@ -28,7 +28,7 @@ use Rattle.plant_logic.specs.Layout.{ClockAt, block_values, instance_values, loc
 use Rattle.plant_logic.specs.Seats.{StandsFrom, value_count, clock_count, values_before, clocks_before, value_offset, program_values_before, program_clocks_before, program_values_base, program_clocks_base, own_or_global, value_number, row_number}
 use Rattle.plant_logic.proofs.Paths.{written}
 use Rattle.plant_logic.proofs.Layouts.{cells_once, clocks_once}
-use Rattle.plant_logic.proofs.Rows.{row_count, rows_count, element_at_index}
+use Rattle.plant_logic.proofs.Rows.{row_count, rows_count, within_row, counted_from, element_numbered}
 
 -- two lists, one after the other, in a third
 pub at_front : {A : Type 0} (xs ys : List A) (i : ℕ) (a : A) → slice_get xs i ≡ Some a → slice_get (xs ++ ys) i ≡ Some a
@@ -270,46 +270,68 @@ row_of_number rows name k found =
     let word = λ (row : Row). folded row.name in
     mapped_at word (slice_get rows k) (folded name) (sym (slice_get-map word rows k) ∙ word_at (row_words rows) name k found)
 
--- where an element stands among those of arrays
-row_at : (rows : List Row) (path : Path) (k : ℕ) (row : Row) (i : ℤ) → slice_get rows k ≡ Some row → has_index row.bounds i ≡ true
-    → slice_get (row_values rows path) (row_cells (take k rows) + nat_abs (i -ℤ row.bounds.low)) ≡ Some (index_word i ∷ folded row.name ∷ path)
-row_at [] path k row i at within = absurd (cc)
-row_at (r ∷ rows) path zero row i at within =
+-- where an element stands among those of arrays, by its number in its array
+row_numbered : (rows : List Row) (path : Path) (k : ℕ) (row : Row) (j : ℕ) → slice_get rows k ≡ Some row → j < row_length row.bounds
+    → slice_get (row_values rows path) (row_cells (take k rows) + j) ≡ Some (index_word (row.bounds.low +ℤ pos j) ∷ folded row.name ∷ path)
+row_numbered [] path k row j at within = absurd (cc)
+row_numbered (r ∷ rows) path zero row j at within =
     let same : r ≡ row = cc in
-    let here = at_front (element_values row.bounds (folded row.name ∷ path)) (row_values rows path) (nat_abs (i -ℤ row.bounds.low)) (index_word i ∷ folded row.name ∷ path) (element_at_index row.bounds i (folded row.name ∷ path) within) in
-    let first : 0 + nat_abs (i -ℤ row.bounds.low) ≡ nat_abs (i -ℤ row.bounds.low) = omega arith in
-    ap (λ (x : Row). slice_get (row_values (x ∷ rows) path) (0 + nat_abs (i -ℤ row.bounds.low))) same ∙ ap (slice_get (row_values (row ∷ rows) path)) first ∙ here
-row_at (r ∷ rows) path (suc k) row i at within =
+    let element = index_word (row.bounds.low +ℤ pos j) ∷ folded row.name ∷ path in
+    let here = at_front (element_values row.bounds (folded row.name ∷ path)) (row_values rows path) j element (element_numbered row.bounds j (folded row.name ∷ path) within) in
+    let first : 0 + j ≡ j = omega arith in
+    ap (λ (x : Row). slice_get (row_values (x ∷ rows) path) (0 + j)) same ∙ ap (slice_get (row_values (row ∷ rows) path)) first ∙ here
+row_numbered (r ∷ rows) path (suc k) row j at within =
     let here = element_values r.bounds (folded r.name ∷ path) in
     let many = row_count r.bounds (folded r.name ∷ path) in
     let sum = sum_by-cons (λ (row : Row). row_length row.bounds) r (take k rows) in
-    at_back here (row_values rows path) (row_cells (r ∷ take k rows) + nat_abs (i -ℤ row.bounds.low)) (row_cells (take k rows) + nat_abs (i -ℤ row.bounds.low)) (omega (arith, many, sum))
-    ∙ row_at rows path k row i at within
+    at_back here (row_values rows path) (row_cells (r ∷ take k rows) + j) (row_cells (take k rows) + j) (omega (arith, many, sum)) ∙ row_numbered rows path k row j at within
+
+-- an array ends where all end, or before
+pub row_ends : (rows : List Row) (k : ℕ) (row : Row) → slice_get rows k ≡ Some row → row_cells (take k rows) + row_length row.bounds ≤ row_cells rows
+row_ends [] k row at = absurd (cc)
+row_ends (r ∷ rows) zero row at =
+    let same : r ≡ row = cc in
+    let long : row_length r.bounds ≡ row_length row.bounds = ap (λ (x : Row). row_length x.bounds) same in
+    let sum = sum_by-cons (λ (row : Row). row_length row.bounds) r rows in
+    omega (arith, long, sum)
+row_ends (r ∷ rows) (suc k) row at =
+    let rest = row_ends rows k row at in
+    let sum = sum_by-cons (λ (row : Row). row_length row.bounds) r rows in
+    let less = sum_by-cons (λ (row : Row). row_length row.bounds) r (take k rows) in
+    omega (arith, rest, sum, less)
+
+-- the same among the values of a routine
+pub own_row_numbered : (blocks : List PlainRoutine) (r : PlainRoutine) (path : Path) (k : ℕ) (row : Row) (j : ℕ) → slice_get r.rows k ≡ Some row → j < row_length row.bounds
+    → slice_get (values_rule (routine_values blocks) r path) (length r.locals + (row_cells (take k r.rows) + j)) ≡ Some (index_word (row.bounds.low +ℤ pos j) ∷ folded row.name ∷ path)
+own_row_numbered blocks r path k row j at within =
+    let m = row_cells (take k r.rows) + j in
+    let p = index_word (row.bounds.low +ℤ pos j) ∷ folded row.name ∷ path in
+    let many = locals_count r.locals path in
+    at_front (own_values r path) (instance_values (routine_values blocks) r.instances path) (length r.locals + m) p
+    (at_back (local_values r.locals path) (row_values r.rows path) (length r.locals + m) m (omega (arith, many)) ∙ row_numbered r.rows path k row j at within)
 
 module _ (source : Source) (r : PlainRoutine) (path : Path) (base : ℕ) (name : List ℕ) (i : ℤ) (stands : StandsFrom (cell_paths source) base (values_rule (routine_values source.blocks) r (words_of path))) where
   own_element : (k : ℕ) (row : Row) → slice_get r.rows k ≡ Some row → folded row.name ≡ folded name → has_index row.bounds i ≡ true
       → slice_get (cell_paths source) (row_place (base + length r.locals + row_cells (take k r.rows)) row.bounds i) ≡ Some (index_word i ∷ folded name ∷ words_of path)
   own_element k row at word within =
-      let locals = local_values r.locals (words_of path) in
-      let rows = row_values r.rows (words_of path) in
-      let m = row_cells (take k r.rows) + nat_abs (i -ℤ row.bounds.low) in
-      let p = index_word i ∷ folded row.name ∷ words_of path in
-      let many = locals_count r.locals (words_of path) in
-      let among = at_back locals rows (length r.locals + m) m (omega (arith, many)) ∙ row_at r.rows (words_of path) k row i at within in
-      let whole = at_front (own_values r (words_of path)) (instance_values (routine_values source.blocks) r.instances (words_of path)) (length r.locals + m) p among in
-      let same : row_place (base + length r.locals + row_cells (take k r.rows)) row.bounds i ≡ base + (length r.locals + m) = omega arith in
-      ap (slice_get (cell_paths source)) same ∙ stands (length r.locals + m) p whole ∙ ap (λ w. Some (index_word i ∷ w ∷ words_of path)) word
+      let j = nat_abs (i -ℤ row.bounds.low) in
+      let m = length r.locals + (row_cells (take k r.rows) + j) in
+      let p = index_word (row.bounds.low +ℤ pos j) ∷ folded row.name ∷ words_of path in
+      let same : row_place (base + length r.locals + row_cells (take k r.rows)) row.bounds i ≡ base + m = omega arith in
+      ap (slice_get (cell_paths source)) same ∙ stands m p (own_row_numbered source.blocks r (words_of path) k row j at (within_row row.bounds i within))
+      ∙ (λ x. Some (index_word (counted_from row.bounds i within x) ∷ word x ∷ words_of path))
 
   global_element : (k : ℕ) (row : Row) → slice_get source.rows k ≡ Some row → folded row.name ≡ folded name → has_index row.bounds i ≡ true
       → slice_get (cell_paths source) (row_place (length source.globals + row_cells (take k source.rows)) row.bounds i) ≡ Some (index_word i ∷ path_of name)
   global_element k row at word within =
-      let m = row_cells (take k source.rows) + nat_abs (i -ℤ row.bounds.low) in
-      let p = index_word i ∷ folded row.name ∷ [] in
+      let j = nat_abs (i -ℤ row.bounds.low) in
+      let m = row_cells (take k source.rows) + j in
+      let p = index_word (row.bounds.low +ℤ pos j) ∷ folded row.name ∷ [] in
       let many = variables_count source.globals in
-      let among = at_back (variable_values source.globals) (row_values source.rows []) (length source.globals + m) m (omega (arith, many)) ∙ row_at source.rows [] k row i at within in
+      let among = at_back (variable_values source.globals) (row_values source.rows []) (length source.globals + m) m (omega (arith, many)) ∙ row_numbered source.rows [] k row j at (within_row row.bounds i within) in
       let whole = at_front (global_values source) (program_values source.blocks source.programs) (length source.globals + m) p among in
       let same : row_place (length source.globals + row_cells (take k source.rows)) row.bounds i ≡ length source.globals + m = omega arith in
-      ap (slice_get (cell_paths source)) same ∙ whole ∙ ap (λ w. Some (index_word i ∷ w ∷ [])) word
+      ap (slice_get (cell_paths source)) same ∙ whole ∙ (λ x. Some (index_word (counted_from row.bounds i within x) ∷ word x ∷ []))
 
   abbrev bounds_by : Option Row → Bounds
   bounds_by row = option_map_or (λ (row : Row). row.bounds) row (record { low = pos 0; high = pos 0 })
