@@ -77,19 +77,19 @@ laid_at n (r ∷ rows) (suc k) =
     laid_at (n + row_length r.bounds) rows k ∙ ap (λ m. option_map (λ (row : Row). laid row m) (slice_get rows k)) same
 
 -- the array of a name, and the number of its first element
-record IsFound (rows : List Row) (arrays : Arrays) (name : List ℕ) : Type 0 where
+record IsFound (from : ℕ) (rows : List Row) (arrays : Arrays) (name : List ℕ) : Type 0 where
   it : Option (Row × ℕ)
-  among : array_among arrays name ≡ option_map (λ (p : Row × ℕ). laid p.0 p.1) it
+  among : array_among arrays name ≡ option_map (λ (p : Row × ℕ). laid p.0 (from + p.1)) it
   named : row_named rows name ≡ option_map (λ (p : Row × ℕ). p.0) it
   first : row_first rows name ≡ option_map (λ (p : Row × ℕ). p.1) it
 
-array_found : (rows : List Row) (arrays : Arrays) (name : List ℕ) → AreArrays rows arrays → IsFound rows arrays name
-array_found rows arrays name are = by_number (find_word (row_words rows) name) refl
+array_found : (from : ℕ) (rows : List Row) (arrays : Arrays) (name : List ℕ) → AreArrays from rows arrays → IsFound from rows arrays name
+array_found from rows arrays name are = by_number (find_word (row_words rows) name) refl
   where
     name_found : find_name arrays.names name ≡ find_word (row_words rows) name
     name_found = ap (λ ns. find_name ns name) are.names_are ∙ found (λ (row : Row). row.name) rows name
 
-    by_number : (o : Option ℕ) → find_word (row_words rows) name ≡ o → IsFound rows arrays name
+    by_number : (o : Option ℕ) → find_word (row_words rows) name ≡ o → IsFound from rows arrays name
     by_number None none = record {
       it = None;
       among = ap (option_and_then (slice_get arrays.laid.items)) (name_found ∙ none);
@@ -98,33 +98,35 @@ array_found rows arrays name are = by_number (find_word (row_words rows) name) r
     }
     by_number (Some k) at =
         let row = row_of_number rows name k at in
-        let same : 0 + row_cells (take k rows) ≡ row_cells (take k rows) = omega arith in
         record {
           it = Some (row.0, row_cells (take k rows));
-          among = ap (option_and_then (slice_get arrays.laid.items)) (name_found ∙ at) ∙ ap (λ l. slice_get l k) are.laid_are ∙ laid_at 0 rows k ∙ ap (option_map (λ (row : Row). laid row (0 + row_cells (take k rows)))) row.1
-              ∙ ap (λ n. Some (laid row.0 n)) same;
+          among = ap (option_and_then (slice_get arrays.laid.items)) (name_found ∙ at) ∙ ap (λ l. slice_get l k) are.laid_are ∙ laid_at from rows k ∙ ap (option_map (λ (row : Row). laid row (from + row_cells (take k rows)))) row.1;
           named = ap (option_and_then (slice_get rows)) at ∙ row.1;
           first = ap (option_map (λ k. row_cells (take k rows))) at;
         }
 
-first_of_both : (o : Option (Row × ℕ)) → option_map (λ (l : Laid). l.first) (option_map (λ (p : Row × ℕ). laid p.0 p.1) o) ≡ option_map (λ (p : Row × ℕ). p.1) o
-first_of_both None = refl
-first_of_both (Some p) = refl
+abbrev laid_both : ℕ → Option (Row × ℕ) → Option Laid
+laid_both from o = option_map (λ (p : Row × ℕ). laid p.0 (from + p.1)) o
 
-first_is : (rows : List Row) (arrays : Arrays) (name : List ℕ) → AreArrays rows arrays → first_among arrays name ≡ row_first rows name
-first_is rows arrays name are = let f = array_found rows arrays name are in ap (option_map (λ (l : Laid). l.first)) f.among ∙ first_of_both f.it ∙ sym f.first
+abbrev row_of_both : Option (Row × ℕ) → Option Row
+row_of_both o = option_map (λ (p : Row × ℕ). p.0) o
 
-kind_of_both : (o q : Option (Row × ℕ)) → option_map_or (λ (l : Laid). l.kind) (or_other (option_map (λ (p : Row × ℕ). laid p.0 p.1) o) (option_map (λ (p : Row × ℕ). laid p.0 p.1) q)) kind.Bool
-    ≡ option_map_or (λ (row : Row). row.kind) (or_other (option_map (λ (p : Row × ℕ). p.0) o) (option_map (λ (p : Row × ℕ). p.0) q)) kind.Bool
-kind_of_both None None = refl
-kind_of_both None (Some p) = refl
-kind_of_both (Some p) q = refl
+number_of_both : (globals variables locals : ℕ) (o q : Option (Row × ℕ)) → own_or_global globals (option_map (λ (l : Laid). l.first) (laid_both locals o)) (option_map (λ (l : Laid). l.first) (laid_both variables q))
+    ≡ own_or_global (globals + locals) (option_map (λ (p : Row × ℕ). p.1) o) (option_map (λ n. variables + n) (option_map (λ (p : Row × ℕ). p.1) q))
+number_of_both globals variables locals None None = refl
+number_of_both globals variables locals None (Some p) = refl
+number_of_both globals variables locals (Some p) q = ap Some (omega arith)
 
-bounds_of_both : (o q : Option (Row × ℕ)) → option_map_or (λ (l : Laid). l.bounds) (or_other (option_map (λ (p : Row × ℕ). laid p.0 p.1) o) (option_map (λ (p : Row × ℕ). laid p.0 p.1) q)) (record { low = pos 0; high = pos 0 })
-    ≡ option_map_or (λ (row : Row). row.bounds) (or_other (option_map (λ (p : Row × ℕ). p.0) o) (option_map (λ (p : Row × ℕ). p.0) q)) (record { low = pos 0; high = pos 0 })
-bounds_of_both None None = refl
-bounds_of_both None (Some p) = refl
-bounds_of_both (Some p) q = refl
+kind_of_both : (m n : ℕ) (o q : Option (Row × ℕ)) → option_map_or (λ (l : Laid). l.kind) (or_other (laid_both m o) (laid_both n q)) kind.Bool ≡ option_map_or (λ (row : Row). row.kind) (or_other (row_of_both o) (row_of_both q)) kind.Bool
+kind_of_both m n None None = refl
+kind_of_both m n None (Some p) = refl
+kind_of_both m n (Some p) q = refl
+
+bounds_of_both : (m n : ℕ) (o q : Option (Row × ℕ))
+    → option_map_or (λ (l : Laid). l.bounds) (or_other (laid_both m o) (laid_both n q)) (record { low = pos 0; high = pos 0 }) ≡ option_map_or (λ (row : Row). row.bounds) (or_other (row_of_both o) (row_of_both q)) (record { low = pos 0; high = pos 0 })
+bounds_of_both m n None None = refl
+bounds_of_both m n None (Some p) = refl
+bounds_of_both m n (Some p) q = refl
 
 -- the variables of the block type of a number
 module _ (blocks : List PlainRoutine) (members : List Variables) (are : AreMembers blocks members) where
@@ -140,33 +142,35 @@ module _ (blocks : List PlainRoutine) (members : List Variables) (are : AreMembe
       record { names_are = cc; kinds_are = cc }
 
 module _ (source : Source) (r : PlainRoutine) (scope : Scope) (is : IsScope source r scope) where
-  globals_long : length scope.globals.now.names ≡ length source.globals
-  globals_long = ap length is.globals_are.names_are ∙ length-map source.globals (λ (g : Variable). g.name)
-
-  own_long : length scope.own.now.names ≡ length r.locals
-  own_long = ap length is.own_are.names_are ∙ length-map r.locals (λ (l : Local). l.name)
-
   long : scope_globals scope ≡ global_cells source
-  long = λ i. globals_long i + is.global_arrays_are.cells_is i
+  long = is.global_arrays_are.end_is
+
+  own_array : (name : List ℕ) → IsFound (length r.locals) r.rows scope.own.now.arrays name
+  own_array name = array_found (length r.locals) r.rows scope.own.now.arrays name is.own_arrays_are
+
+  global_array : (name : List ℕ) → IsFound (length source.globals) source.rows scope.globals.now.arrays name
+  global_array name = array_found (length source.globals) source.rows scope.globals.now.arrays name is.global_arrays_are
 
   array_is : (name : List ℕ) → scope_array scope name ≡ (numbers source r).array name
   array_is name =
-      let own = first_is r.rows scope.own.now.arrays name is.own_arrays_are in
-      let other = first_is source.rows scope.globals.now.arrays name is.global_arrays_are in
-      λ i. unwrap_or (own_or_global (long i + own_long i) (own i) (option_map (λ n. globals_long i + n) (other i))) 0
+      let own = own_array name in
+      let other = global_array name in
+      (λ i. unwrap_or (own_or_global (long i) (option_map (λ (l : Laid). l.first) (own.among i)) (option_map (λ (l : Laid). l.first) (other.among i))) 0)
+      ∙ ap (λ o. unwrap_or o 0) (number_of_both (global_cells source) (length source.globals) (length r.locals) own.it other.it)
+      ∙ (λ i. unwrap_or (own_or_global (global_cells source + length r.locals) (sym own.first i) (option_map (λ n. length source.globals + n) (sym other.first i))) 0)
 
   element_kind_is : (name : List ℕ) → scope_element_kind scope name ≡ element_kind_named source r name
   element_kind_is name =
-      let own = array_found r.rows scope.own.now.arrays name is.own_arrays_are in
-      let other = array_found source.rows scope.globals.now.arrays name is.global_arrays_are in
-      (λ i. option_map_or (λ (l : Laid). l.kind) (or_other (own.among i) (other.among i)) kind.Bool) ∙ kind_of_both own.it other.it
+      let own = own_array name in
+      let other = global_array name in
+      (λ i. option_map_or (λ (l : Laid). l.kind) (or_other (own.among i) (other.among i)) kind.Bool) ∙ kind_of_both (length r.locals) (length source.globals) own.it other.it
       ∙ (λ i. option_map_or (λ (row : Row). row.kind) (or_other (sym own.named i) (sym other.named i)) kind.Bool)
 
   bounds_is : (name : List ℕ) → scope_bounds scope name ≡ bounds_named source r name
   bounds_is name =
-      let own = array_found r.rows scope.own.now.arrays name is.own_arrays_are in
-      let other = array_found source.rows scope.globals.now.arrays name is.global_arrays_are in
-      (λ i. option_map_or (λ (l : Laid). l.bounds) (or_other (own.among i) (other.among i)) (record { low = pos 0; high = pos 0 })) ∙ bounds_of_both own.it other.it
+      let own = own_array name in
+      let other = global_array name in
+      (λ i. option_map_or (λ (l : Laid). l.bounds) (or_other (own.among i) (other.among i)) (record { low = pos 0; high = pos 0 })) ∙ bounds_of_both (length r.locals) (length source.globals) own.it other.it
       ∙ (λ i. option_map_or (λ (row : Row). row.bounds) (or_other (sym own.named i) (sym other.named i)) (record { low = pos 0; high = pos 0 }))
 
   variable_is : (name : List ℕ) → scope_variable scope name ≡ (numbers source r).variable name

@@ -13,7 +13,7 @@ use Rattle.block_order.specs.Chains.{Among}
 use Rattle.plant_logic.specs.declared.logic.Instance.{Instance}
 use Rattle.plant_logic.specs.declared.logic.BlockRef.{BlockRef}
 use Rattle.plant_logic.specs.declared.logic.BlockRef.TheVariants.{Ton, Tof, RTrig, Declared}
-use Rattle.plant_logic.specs.Source.{PlainRoutine, Source, row_cells}
+use Rattle.plant_logic.specs.Source.{PlainRoutine, Source, own_cells}
 use Rattle.plant_logic.specs.Blocks.{Declares, DeclaresThere, HasItsTypes, AreBelow}
 use Rattle.plant_logic.specs.Paths.{is_called, block_paths, instance_paths, paths_rule, type_paths}
 use Rattle.plant_logic.specs.Worlds.{Path}
@@ -124,7 +124,7 @@ module _ (blocks : List PlainRoutine) (run : List Bool) (table : List Callee) wh
         let all = length-append (own_values r []) (instance_values (routine_values blocks) r.instances []) in
         let own = own_count r [] in
         record {
-          rows = omega (arith, few, all, own);
+          own = omega (arith, few, all, own);
           seats = record { values = omega (arith, values, few); clocks = omega (arith, clocks, few'); paths = omega (arith, paths, few'') };
           starts = cells.starts;
           statements = steps.statements;
@@ -163,9 +163,9 @@ pub starts_fit : (table : List Callee) (b : Bool) (r : PlainRoutine) → IsFitti
 starts_fit table true r fits = fits.starts
 starts_fit table false r fits = fits.starts
 
-pub rows_fit : (table : List Callee) (b : Bool) (r : PlainRoutine) → IsFitting table (framed b r) → row_cells r.rows < 2 ^ 32
-rows_fit table true r fits = fits.rows
-rows_fit table false r fits = fits.rows
+pub own_fit : (table : List Callee) (b : Bool) (r : PlainRoutine) → IsFitting table (framed b r) → own_cells r < 2 ^ 32
+own_fit table true r fits = fits.own
+own_fit table false r fits = fits.own
 
 -- a table that knows the first so many block types of an order, of those that programs reach
 module _ (blocks : List PlainRoutine) (order : List ℕ) (used run : List Bool) where

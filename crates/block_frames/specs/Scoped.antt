@@ -40,7 +40,7 @@ block_among instances name = option_and_then (slice_get instances.blocks.items) 
 abbrev pub array_among : Arrays → List ℕ → Option Laid
 array_among arrays name = option_and_then (slice_get arrays.laid.items) (find_name arrays.names name)
 
--- the number of its first element, counted from the first of all these arrays
+-- the number of its first element, counted from the first of the variables that the arrays stand behind
 abbrev pub first_among : Arrays → List ℕ → Option ℕ
 first_among arrays name = option_map (λ (l : Laid). l.first) (array_among arrays name)
 
@@ -86,11 +86,11 @@ laid_from n (row ∷ rows) = laid row n ∷ laid_from (n + row_length row.bounds
 abbrev pub row_names : List Row → List (List ℕ)
 row_names rows = map (λ (row : Row). row.name) rows
 
--- what the code knows of arrays is that of these, in order, and how many elements they have together
-pub record AreArrays (rows : List Row) (arrays : Arrays) : Type 0 where
+-- what the code knows of arrays is that of these, in order, behind so many variables
+pub record AreArrays (variables : ℕ) (rows : List Row) (arrays : Arrays) : Type 0 where
   pub names_are : arrays.names ≡ row_names rows
-  pub laid_are : arrays.laid.items ≡ laid_from 0 rows
-  pub cells_is : arrays.cells ≡ row_cells rows
+  pub laid_are : arrays.laid.items ≡ laid_from variables rows
+  pub end_is : arrays.end ≡ variables + row_cells rows
 
 -- names and blocks are those of instances, in order
 pub record AreInstances (list : List Instance) (instances : Instances) : Type 0 where
@@ -99,7 +99,7 @@ pub record AreInstances (list : List Instance) (instances : Instances) : Type 0 
 
 -- how many cells the globals have: one for each variable, and one for each element of an array
 abbrev pub scope_globals : Scope → ℕ
-scope_globals scope = length scope.globals.now.names + scope.globals.now.arrays.cells
+scope_globals scope = scope.globals.now.arrays.end
 
 -- the number of the variable of a name, where the globals have the first numbers and the routine's own variables those after them
 abbrev pub scope_variable : Scope → List ℕ → ℕ
@@ -112,7 +112,7 @@ scope_kind scope name = unwrap_or (or_other (kind_among scope.own.now name) (kin
 -- the number of the array of a name, that of its first element: the global arrays follow the global variables, and the routine's own arrays its own variables
 abbrev pub scope_array : Scope → List ℕ → ℕ
 scope_array scope name =
-    unwrap_or (own_or_global (scope_globals scope + length scope.own.now.names) (first_among scope.own.now.arrays name) (option_map (λ n. length scope.globals.now.names + n) (first_among scope.globals.now.arrays name))) 0
+    unwrap_or (own_or_global (scope_globals scope) (first_among scope.own.now.arrays name) (first_among scope.globals.now.arrays name)) 0
 
 -- the array of a name: one of the routine's own hides a global one
 abbrev pub array_in : Scope → List ℕ → Option Laid
@@ -217,9 +217,9 @@ pub record AreMembers (blocks : List PlainRoutine) (members : List Variables) : 
 -- a scope is that of a routine of a source
 pub record IsScope (source : Source) (r : PlainRoutine) (scope : Scope) : Type 0 where
   pub globals_are : AreVariables (global_variables source.globals) scope.globals.now
-  pub global_arrays_are : AreArrays source.rows scope.globals.now.arrays
+  pub global_arrays_are : AreArrays (length source.globals) source.rows scope.globals.now.arrays
   pub own_are : AreVariables (own_variables r.locals) scope.own.now
-  pub own_arrays_are : AreArrays r.rows scope.own.now.arrays
+  pub own_arrays_are : AreArrays (length r.locals) r.rows scope.own.now.arrays
   pub instances_are : AreInstances r.instances scope.instances.now
   pub members_are : AreMembers source.blocks scope.members.now
 

@@ -4,7 +4,7 @@ ghost use Rattle.std.specs.Prelude.{◌≡◌, ◌<◌, ◌+◌, ◌^◌, ℕ, t
 ghost use Rattle.std.specs.List.{All};
 ghost use Rattle.st_tree.specs.Numbers.{count_body};
 ghost use Rattle.st_tree.specs.View.{view_body};
-ghost use Rattle.plant_logic.specs.Source.{Source, row_cells, view_routine, source_of};
+ghost use Rattle.plant_logic.specs.Source.{Source, own_cells, global_cells, view_routine, source_of};
 ghost use Rattle.plant_logic.specs.Paths.{is_called};
 ghost use Rattle.plant_logic.specs.Blocks.{AreBelow, DeclaresThere, HasItsTypes};
 ghost use Rattle.plant_logic.specs.Layout.{AreNamedApart, IsDistinctlyNamed};
@@ -16,7 +16,8 @@ ghost use Rattle.block_seats.specs.Seats.{Fits, seats_by, ends_by};
 ghost use Rattle.block_frames.specs.Built.{first_of, AreOf, IsMeasured, IsSized, IsFitting, AllMade, AllBuilt, AllBegun, IsStartIn};
 
 use crate::names::{
-    Variables, global_variables, instances_of, no_instances, no_variables, own_variables,
+    Variables, global_variables, instances_of, member_variables, no_instances, no_variables,
+    own_variables,
 };
 use crate::reached::{flagged, reached};
 use crate::resolve::resolve_body;
@@ -42,7 +43,7 @@ fn members_of(alloc: Global, blocks: &[Routine]) -> Result<Vec<Variables>, Alloc
 {
     let mut members = Vec::new(alloc);
     for block in blocks {
-        members.push(own_variables(alloc, &block.locals, &[])?)?;
+        members.push(member_variables(alloc, &block.locals)?)?;
     }
     Ok(members)
 }
@@ -76,7 +77,7 @@ fn seats_of(
     routine: &Routine,
     is_run: bool,
 ) -> Result<(Vec<Seat>, Extent), AllocError>
-    requires rows { row_cells (view_routine routine.now).rows < 2 ^ 32 }
+    requires own { own_cells (view_routine routine.now) < 2 ^ 32 }
     requires seats { Fits (ends_by table.now (is_called (framed is_run (view_routine routine.now))) (first_of (view_routine routine.now)) (view_routine routine.now).instances) }
     ensures seats { IfOk result (λ made. made.0.items ≡ seats_by table.now (is_called (framed is_run (view_routine routine.now))) (first_of (view_routine routine.now)) (view_routine routine.now).instances) }
     ensures end { IfOk result (λ made. made.1 ≡ ends_by table.now (is_called (framed is_run (view_routine routine.now))) (first_of (view_routine routine.now)) (view_routine routine.now).instances) }
@@ -99,7 +100,7 @@ fn frame_in(
     is_run: bool,
 ) -> Result<(Frame, Extent), AllocError>
     requires own { AreVariables (own_variables (view_routine routine.now).locals) scope.now.own.now }
-    requires arrays { AreArrays (view_routine routine.now).rows scope.now.own.now.arrays }
+    requires arrays { AreArrays (length (view_routine routine.now).locals) (view_routine routine.now).rows scope.now.own.now.arrays }
     requires instances { AreInstances (view_routine routine.now).instances scope.now.instances.now }
     requires fitting { IsFitting table.now (framed is_run (view_routine routine.now)) }
     ensures few { IfOk result (λ made. made.1.paths < 2 ^ 32) }
@@ -250,7 +251,7 @@ fn add_programs(
 /// The variables of a source: the globals, with the global arrays, and those of each block type. Fails if allocation fails.
 fn variables_of(alloc: Global, logic: &Logic) -> Result<(Variables, Vec<Variables>), AllocError>
     requires named { IsDistinctlyNamed (source_of logic.now) }
-    requires few { row_cells (source_of logic.now).rows < 2 ^ 32 }
+    requires few { global_cells (source_of logic.now) < 2 ^ 32 }
     ensures { IfOk result (λ known. AreOf (source_of logic.now) known.0 known.1.items) }
 {
     let globals = global_variables(alloc, &logic.globals, &logic.rows)?;
@@ -339,7 +340,7 @@ fn start_by(
 /// The frame of the globals' initial values, as `block_walk` assigns them. Fails if allocation fails.
 pub fn start_of(alloc: Global, logic: &Logic) -> Result<Frame, AllocError>
     requires named { IsDistinctlyNamed (source_of logic.now) }
-    requires rows { row_cells (source_of logic.now).rows < 2 ^ 32 }
+    requires cells { global_cells (source_of logic.now) < 2 ^ 32 }
     requires few { 1 + count_body (source_of logic.now).starts < 2 ^ 32 }
     ensures { IfOk result (IsStart (source_of logic.now)) }
 {

@@ -1,6 +1,6 @@
 //! The names of variables, of arrays and of instances, which are found without a look at each.
 
-ghost use Rattle.std.specs.Prelude.{◌≡◌, [], false, map, IfOk, IfSome, ◌<◌, ◌^◌, length};
+ghost use Rattle.std.specs.Prelude.{◌≡◌, [], false, map, IfOk, IfSome, ◌<◌, ◌+◌, ◌^◌, length};
 ghost use Rattle.st_names.specs.Taken.{repeats};
 ghost use Rattle.word_index.specs.Names.{find_name};
 ghost use Rattle.plant_logic.specs.Names.{global_words, own_words, row_words, instance_words};
@@ -18,15 +18,15 @@ pub struct Laid {
     /// That of each element.
     pub kind: Kind,
     pub bounds: Bounds,
-    /// The number of its first element, counted from the first of all that stand in a list with it.
+    /// The number of its first element, counted from the first of the variables that it stands behind.
     pub first: u32,
 }
 
-/// Names of arrays as declared, what is known of each, and how many elements they have together.
+/// Names of arrays as declared, what is known of each, and the number at which the last one ends.
 pub struct Arrays {
     pub names: Names,
     pub laid: Vec<Laid>,
-    pub cells: u32,
+    pub end: u32,
 }
 
 impl Drop for Arrays {
@@ -34,7 +34,7 @@ impl Drop for Arrays {
         let Arrays {
             names: _,
             laid: _,
-            cells: _,
+            end: _,
         } = self;
     }
 }
@@ -49,8 +49,8 @@ impl Arrays {
     }
 }
 
-/// Names of variables as declared, and the kind of each; and the arrays beside them. Of a block type's arrays nothing is known where only its
-/// members are asked for.
+/// Names of variables as declared, and the kind of each; and the arrays that stand behind them. Arrays can't be seen from outside a block, so
+/// the members of a block type have none.
 pub struct Variables {
     pub names: Names,
     pub kinds: Vec<Kind>,
@@ -137,15 +137,15 @@ fn names_of_rows(alloc: Global, rows: &[Row]) -> Result<Names, AllocError>
     Ok(names)
 }
 
-/// Arrays one after another, in order, and how many elements they have together: no more than a number of 32 bits has room for. Fails if
+/// Arrays one after another, in order, from a number on, and the number at which the last one ends, which is one of 32 bits. Fails if
 /// allocation fails.
-fn laid_of(alloc: Global, rows: &[Row]) -> Result<(Vec<Laid>, u32), AllocError>
-    requires { row_cells rows.now < 2 ^ 32 }
-    ensures laid { IfOk result (λ made. made.0.items ≡ laid_from 0 rows.now) }
-    ensures cells { IfOk result (λ made. made.1 ≡ row_cells rows.now) }
+fn laid_of(alloc: Global, from: u32, rows: &[Row]) -> Result<(Vec<Laid>, u32), AllocError>
+    requires { from + row_cells rows.now < 2 ^ 32 }
+    ensures laid { IfOk result (λ made. made.0.items ≡ laid_from from rows.now) }
+    ensures end { IfOk result (λ made. made.1 ≡ from + row_cells rows.now) }
 {
     let mut laid = Vec::new(alloc);
-    let mut first = 0;
+    let mut first = from;
     for row in rows {
         let (kind, bounds) = (row.kind, row.bounds);
         laid.push(Laid {
@@ -159,29 +159,42 @@ fn laid_of(alloc: Global, rows: &[Row]) -> Result<(Vec<Laid>, u32), AllocError>
     Ok((laid, first))
 }
 
-/// Arrays, of which no two have one name, and which have few elements. Fails if allocation fails.
-fn arrays_of(alloc: Global, rows: &[Row]) -> Result<Arrays, AllocError>
+/// Arrays behind so many variables. No two of the arrays have one name, and together they have few cells. Fails if allocation fails.
+fn arrays_of(alloc: Global, variables: usize, rows: &[Row]) -> Result<Arrays, AllocError>
     requires apart { repeats (row_words rows.now) ≡ false }
-    requires few { row_cells rows.now < 2 ^ 32 }
-    ensures { IfOk result (AreArrays rows.now) }
+    requires few { variables + row_cells rows.now < 2 ^ 32 }
+    ensures { IfOk result (AreArrays variables rows.now) }
 {
     let names = names_of_rows(alloc, rows)?;
-    let (laid, cells) = laid_of(alloc, rows)?;
-    Ok(Arrays { names, laid, cells })
+    let (laid, end) = laid_of(alloc, variables as u32, rows)?;
+    Ok(Arrays { names, laid, end })
 }
 
-/// No arrays.
+/// No arrays, behind no variables.
 fn no_arrays(alloc: Global) -> Arrays
-    ensures { AreArrays [] result }
+    ensures { AreArrays 0 [] result }
 {
     Arrays {
         names: Names::new(alloc),
         laid: Vec::new(alloc),
-        cells: 0,
+        end: 0,
     }
 }
 
-/// A routine's own variables and its own arrays, of which no two have one name, and the arrays few elements. Fails if allocation fails.
+/// A block type's variables, of which no two have one name, as they are seen from outside: its arrays aren't. Fails if allocation fails.
+pub fn member_variables(alloc: Global, locals: &[Local]) -> Result<Variables, AllocError>
+    requires { repeats (own_words locals.now) ≡ false }
+    ensures { IfOk result (AreVariables (own_variables locals.now)) }
+{
+    Ok(Variables {
+        names: names_of_locals(alloc, locals)?,
+        kinds: kinds_of_locals(alloc, locals)?,
+        arrays: no_arrays(alloc),
+    })
+}
+
+/// A routine's own variables, and behind them its own arrays. No two of either have one name, and together they have few cells. Fails if
+/// allocation fails.
 pub fn own_variables(
     alloc: Global,
     locals: &[Local],
@@ -189,21 +202,21 @@ pub fn own_variables(
 ) -> Result<Variables, AllocError>
     requires locals { repeats (own_words locals.now) ≡ false }
     requires rows { repeats (row_words rows.now) ≡ false }
-    requires few { row_cells rows.now < 2 ^ 32 }
+    requires few { length locals.now + row_cells rows.now < 2 ^ 32 }
     ensures variables { IfOk result (AreVariables (own_variables locals.now)) }
-    ensures arrays { IfOk result (λ variables. AreArrays rows.now variables.arrays) }
+    ensures arrays { IfOk result (λ variables. AreArrays (length locals.now) rows.now variables.arrays) }
 {
     Ok(Variables {
         names: names_of_locals(alloc, locals)?,
         kinds: kinds_of_locals(alloc, locals)?,
-        arrays: arrays_of(alloc, rows)?,
+        arrays: arrays_of(alloc, locals.len(), rows)?,
     })
 }
 
 /// No variables and no arrays.
 pub fn no_variables(alloc: Global) -> Variables
     ensures variables { AreVariables (own_variables []) result }
-    ensures arrays { AreArrays [] result.arrays }
+    ensures arrays { AreArrays 0 [] result.arrays }
 {
     Variables {
         names: Names::new(alloc),
@@ -235,7 +248,8 @@ fn kinds_of_globals(alloc: Global, globals: &[Variable]) -> Result<Vec<Kind>, Al
     Ok(kinds)
 }
 
-/// The globals and the global arrays, of which no two have one name, and the arrays few elements. Fails if allocation fails.
+/// The globals, and behind them the global arrays. No two of either have one name, and together they have few cells. Fails if allocation
+/// fails.
 pub fn global_variables(
     alloc: Global,
     globals: &[Variable],
@@ -243,14 +257,14 @@ pub fn global_variables(
 ) -> Result<Variables, AllocError>
     requires globals { repeats (global_words globals.now) ≡ false }
     requires rows { repeats (row_words rows.now) ≡ false }
-    requires few { row_cells rows.now < 2 ^ 32 }
+    requires few { length globals.now + row_cells rows.now < 2 ^ 32 }
     ensures variables { IfOk result (AreVariables (global_variables globals.now)) }
-    ensures arrays { IfOk result (λ variables. AreArrays rows.now variables.arrays) }
+    ensures arrays { IfOk result (λ variables. AreArrays (length globals.now) rows.now variables.arrays) }
 {
     Ok(Variables {
         names: names_of_globals(alloc, globals)?,
         kinds: kinds_of_globals(alloc, globals)?,
-        arrays: arrays_of(alloc, rows)?,
+        arrays: arrays_of(alloc, globals.len(), rows)?,
     })
 }
 

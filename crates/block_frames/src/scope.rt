@@ -119,7 +119,7 @@ impl<'a> Scope<'a> {
     fn global_cells(&self) -> usize
         ensures { result ≡ scope_globals self.now }
     {
-        self.globals.names.len() + self.globals.arrays.cells as usize
+        self.globals.arrays.end as usize
     }
 
     /// The number of the variable of a name, in any letter case: the globals have the first numbers, and the routine's own variables those
@@ -160,12 +160,10 @@ impl<'a> Scope<'a> {
     pub fn array(&self, name: &str) -> usize
         ensures { result ≡ (mapping_of self.now).array name.now }
     {
-        let globals = self.globals.names.len();
-        let own = self.global_cells() + self.own.names.len();
         match self.own.arrays.find(name) {
-            Some(array) => own + array.first as usize,
+            Some(array) => self.global_cells() + array.first as usize,
             None => match self.globals.arrays.find(name) {
-                Some(array) => globals + array.first as usize,
+                Some(array) => array.first as usize,
                 None => 0,
             },
         }

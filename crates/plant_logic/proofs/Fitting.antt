@@ -176,8 +176,12 @@ module _ {V : Type 0} (context : Context V) (kinds : KindsOf V) (agrees : AreSor
   takes_kept : (v : V) (e : PlainExpr V) → takes context v e ≡ true → takes free v (chosen e) ≡ true
   takes_kept v e h = fits_kept (context.variable_kind v) e (and_parts (context.may_assign v) (fits_option context (context.variable_kind v) e) h).1
 
+  output_fits : (o : Option Kind) (instance name : V) → fits_option context o (output_of instance name) ≡ true → fits_option free o (output_of instance name) ≡ true
+  output_fits None instance name h = h
+  output_fits (Some k) instance name h = h
+
   output_takes : (v instance name : V) → takes context v (output_of instance name) ≡ true → takes free v (output_of instance name) ≡ true
-  output_takes v instance name h = (and_parts (context.may_assign v) (fits_option context (context.variable_kind v) (output_of instance name)) h).1
+  output_takes v instance name h = output_fits (context.variable_kind v) instance name (and_parts (context.may_assign v) (fits_option context (context.variable_kind v) (output_of instance name)) h).1
 
   arguments_kept : (instance : V) (arguments : List (PlainArgument V)) → list_all (argument_fits context instance) arguments ≡ true → list_all (argument_fits free instance) (map (resolved_argument kinds) arguments) ≡ true
   arguments_kept instance [] h = refl

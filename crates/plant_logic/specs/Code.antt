@@ -1,6 +1,6 @@
 -- A code of sources, by which they may stand in the values of types with a model.
 use Rattle.std.specs.Prelude.{◌≡◌, ℕ, ℤ, zero, suc, List, Option, refl}
-use Rattle.std.specs.Coded.{Coded, code_by, coded×, coded_list, coded_option, coded_ℕ}
+use Rattle.std.specs.Coded.{Coded, code_by, coded×, coded_list, coded_option, coded_ℕ, coded_ℤ}
 use Rattle.plant_types.specs.declared.values.Bounds.{Bounds}
 use Rattle.plant_types.specs.declared.values.Kind.{Kind}
 use Rattle.plant_types.specs.declared.values.Kind.TheVariants as kind

@@ -19,7 +19,7 @@ use Rattle.plant_limits.specs.Counts.{instance_slots, routine_slots, instance_we
 use Rattle.block_frames.specs.Reached.{AsksFor, Reaches, by_program, by_block}
 use Rattle.block_frames.specs.Small.{HasFewCells, HasFewSteps, IsSmall}
 use Rattle.plant_walk.specs.Sound.{IsSound}
-use Rattle.plant_walk.proofs.Small.{sound_named, few_globals, few_rows}
+use Rattle.plant_walk.proofs.Small.{sound_named, few_globals, few_global_cells}
 use Rattle.plant_walk.proofs.Few.{routine_values_few, routine_clocks_few}
 use Rattle.plant_walk.proofs.FewPaths.{weight_of, body_heavy, named, instances_apart, routine_paths_few}
 use Rattle.plant_walk.proofs.FewStarts.{program_starts_few, block_starts_few, global_starts_few}
@@ -144,7 +144,7 @@ module _ (source : Source) (sound : IsSound source) (slots_are : (n : ℕ) (r : 
 
   pub sound_small : IsSmall source
   sound_small = record {
-    rows = (let few = few_rows source sound in omega (arith, few));
+    globals = (let few = few_global_cells source sound in omega (arith, few));
     starts = (let few = global_starts in let globals = few_globals source sound in omega (arith, few, globals));
     program_cells = λ k p at. few_cells p (program_slots k p at) (program_starts k p at);
     program_steps = λ k p at. few_steps p (all_at AreNamedApart source.programs k p (sound_named source sound).in_programs at) (program_size k p at);

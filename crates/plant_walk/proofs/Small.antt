@@ -17,7 +17,7 @@ use Rattle.st_names.specs.Taken.{is_among, repeats}
 use Rattle.st_names.proofs.Entries.{turned}
 use Rattle.st_typing.specs.Faults as faults
 use Rattle.plant_logic.specs.declared.logic.Variable.{Variable}
-use Rattle.plant_logic.specs.Source.{Source, row_cells, global_cells}
+use Rattle.plant_logic.specs.Source.{Source, global_cells}
 use Rattle.plant_logic.specs.Pous.{pous_of, program_pous, block_names}
 use Rattle.plant_logic.specs.Units.{routine_of, source_in}
 use Rattle.plant_logic.specs.Names.{global_words, find_global}
@@ -41,8 +41,8 @@ few_globals source sound =
     let slots : global_cells source + sum_by (routine_slots (type_slots source.blocks)) source.programs ≤ 65536 = sound.limits.slots in
     omega (arith, slots)
 
-pub few_rows : (source : Source) → IsSound source → row_cells source.rows ≤ 65536
-few_rows source sound =
+pub few_global_cells : (source : Source) → IsSound source → global_cells source ≤ 65536
+few_global_cells source sound =
     let slots : global_cells source + sum_by (routine_slots (type_slots source.blocks)) source.programs ≤ 65536 = sound.limits.slots in
     omega (arith, slots)
 

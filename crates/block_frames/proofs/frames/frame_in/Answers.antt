@@ -8,12 +8,12 @@ use Rattle.plant_logic.specs.Names.{meant_in}
 use Rattle.block_walk.specs.declared.frame.Frame.{Frame}
 use Rattle.block_frames.specs.Numbers.{numbers}
 use Rattle.block_seats.specs.Seats.{any_starts}
-use Rattle.block_frames.proofs.Sizes.{seats_fit, starts_fit, rows_fit}
+use Rattle.block_frames.proofs.Sizes.{seats_fit, starts_fit, own_fit}
 use Rattle.block_frames.proofs.Tables.{made_framed}
 use Rattle.block_frames.proofs.frames.frame_in.Goals as goal
 
-pub seats_of-requires-clause-rows : goal.seats_of-requires-clause-rows
-seats_of-requires-clause-rows c = rows_fit c.args.table.now c.args.is_run (view_routine c.args.routine.now) c.requires.fitting
+pub seats_of-requires-clause-own : goal.seats_of-requires-clause-own
+seats_of-requires-clause-own c = own_fit c.args.table.now c.args.is_run (view_routine c.args.routine.now) c.requires.fitting
 
 pub seats_of-requires-clause-seats : goal.seats_of-requires-clause-seats
 seats_of-requires-clause-seats c = seats_fit c.args.table.now c.args.is_run (view_routine c.args.routine.now) c.requires.fitting.seats

@@ -1,10 +1,10 @@
-use Rattle.std.proofs.Common.{◌∙◌, ◌++◌, ◌<◌, ◌^◌, ap, sym, subst}
+use Rattle.std.proofs.Common.{◌∙◌, ◌++◌, ap, length, arith}
 use Rattle.st_names.specs.Taken.{repeats}
 use Rattle.plant_logic.specs.Source.{row_cells, view_routine}
 use Rattle.plant_logic.specs.Names.{own_words, row_words, instance_words}
 use Rattle.plant_logic.proofs.Layouts.{later_apart}
 use Rattle.block_frames.proofs.Built.{earlier_apart}
-use Rattle.block_frames.proofs.Sizes.{rows_fit}
+use Rattle.block_frames.proofs.Sizes.{own_fit}
 use Rattle.block_frames.proofs.frames.frame_of.Goals as goal
 
 pub own_variables-requires-clause-locals : goal.own_variables-requires-clause-locals
@@ -19,7 +19,11 @@ own_variables-requires-clause-rows c =
     ∙ earlier_apart (row_words r.rows.items) (instance_words r.instances.items) (later_apart (own_words r.locals.items) (row_words r.rows.items ++ instance_words r.instances.items) c.requires.apart)
 
 pub own_variables-requires-clause-few : goal.own_variables-requires-clause-few
-own_variables-requires-clause-few c = subst (λ l. row_cells l < 2 ^ 32) (sym c.deref-2.ensures.value) (rows_fit c.args.table.now c.args.is_run (view_routine c.args.routine.now) c.requires.fitting)
+own_variables-requires-clause-few c =
+    let few = own_fit c.args.table.now c.args.is_run (view_routine c.args.routine.now) c.requires.fitting in
+    let locals = ap length c.deref.ensures.value in
+    let rows = ap row_cells c.deref-2.ensures.value in
+    omega (arith, few, locals, rows)
 
 pub instances_of-requires : goal.instances_of-requires
 instances_of-requires c =

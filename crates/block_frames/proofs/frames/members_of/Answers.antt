@@ -12,8 +12,8 @@ use Rattle.block_frames.proofs.Joined.{fused}
 use Rattle.block_frames.proofs.Built.{earlier_apart, routine_at, mapped_on}
 use Rattle.block_frames.proofs.frames.members_of.Goals as goal
 
-pub own_variables-requires-clause-locals : goal.own_variables-requires-clause-locals
-own_variables-requires-clause-locals c =
+pub member_variables-requires : goal.member_variables-requires
+member_variables-requires c =
     let blocks = c.args.blocks.now in
     let block = c.block-item.result in
     let k = c.loop-block.block-index in
@@ -22,8 +22,8 @@ own_variables-requires-clause-locals c =
 pub loop-block-preserved : goal.loop-block-preserved
 loop-block-preserved c =
     let blocks = c.args.blocks.now in
-    let v = c.in_ok-own_variables.field-0 in
-    let are = c.in_ok-own_variables.ensures.variables in
+    let v = c.in_ok-member_variables.field-0 in
+    let are = c.in_ok-member_variables.ensures in
     let l = c.loop-block in (
       mapped_on (λ (x : Variables). x.names) (λ (r : Routine). local_names r.locals.items) blocks l.block-index c.block-item.result l.members.items c.push.new.self.items v c.loop-block-test.true c.block-item.is l.invariant.0 (are.names_are ∙ ap local_names c.deref.ensures.value) c.in_ok-push.ensures.items,
       mapped_on (λ (x : Variables). x.kinds.items) (λ (r : Routine). local_kinds r.locals.items) blocks l.block-index c.block-item.result l.members.items c.push.new.self.items v c.loop-block-test.true c.block-item.is l.invariant.1 (are.kinds_are ∙ ap local_kinds c.deref.ensures.value) c.in_ok-push.ensures.items,

@@ -10,7 +10,7 @@ use Rattle.block_seats.specs.Seats.{Fits, extent, seats_by, ends_by}
 use Rattle.block_frames.proofs.frames.seats_of.Goals as goal
 
 pub row_cells-requires : goal.row_cells-requires
-row_cells-requires c = let few = c.requires.rows in let same = ap row_cells c.deref.ensures.value in omega (arith, few, same)
+row_cells-requires c = let few = c.requires.own in let same = ap row_cells c.deref.ensures.value in omega (arith, few, same)
 
 pub seats_by-requires : goal.seats_by-requires
 seats_by-requires c =
