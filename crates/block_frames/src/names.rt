@@ -147,10 +147,9 @@ fn laid_of(alloc: Global, from: u32, rows: &[Row]) -> Result<(Vec<Laid>, u32), A
     let mut laid = Vec::new(alloc);
     let mut first = from;
     for row in rows {
-        let (kind, bounds) = (row.kind, row.bounds);
         laid.push(Laid {
-            kind,
-            bounds,
+            kind: row.kind,
+            bounds: row.bounds,
             first,
         })?;
         let next = first as usize + row.elements();
