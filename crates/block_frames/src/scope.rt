@@ -1,6 +1,6 @@
 //! What stands behind the names in a routine.
 
-ghost use Rattle.std.specs.Prelude.{◌≡◌};
+ghost use Rattle.std.specs.Prelude.{◌≡◌, ◌<◌, ◌^◌};
 ghost use Rattle.plant_logic.specs.Seats.{timer_number};
 ghost use Rattle.block_frames.specs.Numbers.{timer_shows};
 ghost use Rattle.block_frames.specs.Scoped.{mapping_of, scope_kinds, scope_globals, array_in, scope_variable, scope_kind, scope_instance, own_number, own_kind_of, input_among, output_among, output_kind_by, scope_input, scope_output, scope_output_kind};
@@ -117,7 +117,8 @@ fn output_kind_by(members: &[Variables], block: Option<BlockRef>, name: &str) ->
 impl<'a> Scope<'a> {
     /// How many cells the globals have: one for each variable, and one for each element of an array.
     fn global_cells(&self) -> usize
-        ensures { result ≡ scope_globals self.now }
+        ensures count { result ≡ scope_globals self.now }
+        ensures small { result < 2 ^ 32 }
     {
         self.globals.arrays.end as usize
     }

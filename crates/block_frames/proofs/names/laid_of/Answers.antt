@@ -13,8 +13,8 @@ overflow_add-next c =
     let few = c.requires in
     omega (arith, fits, many, long, few)
 
-pub cast-first : goal.cast-first
-cast-first c =
+pub overflow_cast-first : goal.overflow_cast-first
+overflow_cast-first c =
     let fits = row_fits c.args.rows.now c.loop-row.row-index c.row-item.result c.loop-row-test.true c.row-item.is in
     let many = c.loop-row.invariant.many in
     let long = c.elements.ensures in
