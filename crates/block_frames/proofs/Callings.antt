@@ -1,15 +1,18 @@
 -- The names of the instances that a body calls.
-use Rattle.std.proofs.Common.{◌≡◌, ◌∙◌, ap, sym, refl, ℕ, Bool, true, List, [], ◌∷◌, ◌++◌, Option, Some, None}
+use Rattle.std.proofs.Common.{◌≡◌, ◌∙◌, ap, sym, refl, ℕ, Bool, true, false, List, [], ◌∷◌, ◌++◌, Option, Some, None}
 use Rattle.std.specs.Prelude.{◌&&◌, is_some}
 use Rattle.std.specs.List.{list_any, list_all}
 use Rattle.std.specs.Str.{bytes_eq}
 use Rattle.std.specs.Cmp.Lexicographic.{bytes_decides}
 use Rattle.std.proofs.lemmas.Bool.{and_parts, or_left, or_right}
 use Rattle.std.proofs.lemmas.List.Folds.{list_all-append}
+use Rattle.plant_types.specs.declared.values.Bounds.{Bounds}
 use Rattle.plant_types.specs.Words.{folded, same_word}
 use Rattle.st_tree.specs.Plain.{PlainExpr, literal, read, output_of, element, unary, binary, PlainArgument, input, output, PlainStmt, empty, assign, store, call, if_else, case_of, for_to, PlainBody, done, next, Branches, no_branch, branch, Choices, no_choice, choice}
 use Rattle.st_tree.specs.Mapping.{Known, expr_known, option_known, argument_known, stmt_known, body_known, branches_known, choices_known}
 use Rattle.plant_logic.specs.Source.{PlainRoutine, Source}
+use Rattle.plant_logic.specs.Names.{same_bounds, bounds_named}
+use Rattle.plant_logic.proofs.Fitting.{bounds_same}
 use Rattle.plant_logic.specs.Paths.{called_in_stmt, called_in, called_in_branches, called_in_choices, is_called}
 use Rattle.block_frames.proofs.Fitting.{both}
 use Rattle.block_frames.specs.Numbers.{variable_number, array_number, instance_number, input_number, output_number, numbered_in}
@@ -18,11 +21,29 @@ use Rattle.block_frames.specs.Numbers.{variable_number, array_number, instance_n
 abbrev pub called_known : Source → PlainRoutine → Known (List ℕ)
 called_known source r = record {
   has_variable = λ name. is_some (variable_number source r name);
-  has_array = λ name bounds. is_some (array_number name);
+  has_array = λ name bounds. is_some (array_number source r name);
   has_instance = λ name. is_some (instance_number r name) && is_called r name;
   has_input = λ instance name. is_some (input_number source r instance name);
   has_output = λ instance name. is_some (output_number source r instance name);
 }
+
+-- the same of bodies that are meant, in which each array has its declared bounds
+abbrev pub meant_names : Source → PlainRoutine → Known (List ℕ)
+meant_names source r = record {
+  has_variable = λ name. is_some (variable_number source r name);
+  has_array = λ name bounds. is_some (array_number source r name) && same_bounds bounds (bounds_named source r name);
+  has_instance = λ name. is_some (instance_number r name) && is_called r name;
+  has_input = λ instance name. is_some (input_number source r instance name);
+  has_output = λ instance name. is_some (output_number source r instance name);
+}
+
+-- with its declared bounds each array is known that is known at all
+and_same : (b c : Bool) → c ≡ true → (b && c) ≡ b
+and_same true c is = is
+and_same false c is = refl
+
+pub array_kept : (source : Source) (r : PlainRoutine) (name : List ℕ) (bounds : Bounds) → (meant_names source r).has_array name (bounds_named source r name) ≡ (called_known source r).has_array name bounds
+array_kept source r name bounds = and_same (is_some (array_number source r name)) (same_bounds (bounds_named source r name) (bounds_named source r name)) (bounds_same (bounds_named source r name))
 
 -- a body in which each name is known is known by what also says something of the instances, if that is so of each that is called
 module _ {V : Type 0} (known : Known V) (test : V → Bool) where

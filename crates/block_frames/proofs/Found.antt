@@ -1,5 +1,5 @@
 -- What a name that has a number is, in the routine at a base.
-use Rattle.std.proofs.Common.{◌≡◌, ap, sym, refl, arith, ℕ, ◌+◌, ◌-◌, ◌<◌, true, false, List, length, Option, Some, None, slice_get}
+use Rattle.std.proofs.Common.{◌≡◌, ap, sym, refl, arith, ℕ, ◌+◌, ◌-◌, ◌<◌, true, false, List, length, take, Option, Some, None, slice_get}
 use Rattle.std.specs.Prelude.{is_some, nat_lt, option_map, option_and_then, unwrap_or}
 use Rattle.std.specs.Str.{bytes_eq}
 use Rattle.std.proofs.lemmas.Bool.Decides.{nat_tests}
@@ -9,13 +9,14 @@ use Rattle.plant_types.specs.Words.{folded}
 use Rattle.plant_logic.specs.declared.logic.Variable.{Variable}
 use Rattle.plant_logic.specs.declared.logic.Instance.{Instance}
 use Rattle.plant_logic.specs.declared.logic.BlockRef.{BlockRef}
-use Rattle.plant_logic.specs.Source.{PlainRoutine, Source, global_cells}
-use Rattle.plant_logic.specs.Names.{global_words, own_words, find_word, instance_named, block_named}
-use Rattle.plant_logic.specs.Seats.{own_or_global, value_number}
+use Rattle.plant_logic.specs.Source.{PlainRoutine, Source, row_cells, global_cells}
+use Rattle.plant_logic.specs.Names.{global_words, own_words, row_words, find_word, instance_named, block_named}
+use Rattle.plant_logic.specs.Seats.{own_or_global, value_number, row_number}
+use Rattle.plant_logic.proofs.Seats.{row_of_number, row_ends}
 use Rattle.plant_logic.proofs.Members.{instance_of_number}
 use Rattle.block_walk.specs.declared.frame.Base.{Base}
 use Rattle.block_walk.specs.Walks.{slot_of}
-use Rattle.block_frames.specs.Numbers.{variable_number, instance_number}
+use Rattle.block_frames.specs.Numbers.{variable_number, array_number, instance_number}
 
 module _ (globals : ℕ) (base : Base) where
   -- the number of a variable in the cells, by its number in a body
@@ -41,7 +42,34 @@ global_within globals name j found =
 pub slot_is : (source : Source) (r : PlainRoutine) (base : Base) (name : List ℕ) → is_some (variable_number source r name) ≡ true
     → value_number source.globals r base.values name ≡ Some (slot_of (global_cells source) base (unwrap_or (variable_number source r name) 0))
 slot_is source r base name there =
-    slot_by (global_cells source) base (find_word (own_words r.locals) name) (find_word (global_words source.globals) name) (global_within source.globals name) there
+    slot_by (global_cells source) base (find_word (own_words r.locals) name) (find_word (global_words source.globals) name) (λ j found. let less = global_within source.globals name j found in omega (arith, less)) there
+
+module _ (source : Source) (r : PlainRoutine) (base : Base) (name : List ℕ) where
+  abbrev globals : ℕ
+  globals = global_cells source
+
+  abbrev place : ℕ → Option ℕ → Option ℕ → Option ℕ
+  place from own other = own_or_global (from + length r.locals) (option_map (λ k. row_cells (take k r.rows)) own) (option_map (λ n. length source.globals + n) (option_map (λ k. row_cells (take k source.rows)) other))
+
+  row_slot_by : (own other : Option ℕ) → ((k : ℕ) → other ≡ Some k → row_cells (take k source.rows) < row_cells source.rows) → is_some (place globals own other) ≡ true → place base.values own other ≡ Some (slot_of globals base (unwrap_or (place globals own other) 0))
+  row_slot_by (Some k) other within there =
+      let n = globals + length r.locals + row_cells (take k r.rows) in
+      let past : nat_lt n globals ≡ false = grind (arith, nat_tests) in
+      let same : base.values + length r.locals + row_cells (take k r.rows) ≡ base.values + (n - globals) = omega arith in
+      rw past (ap Some same)
+  row_slot_by None (Some k) within there =
+      let less = within k refl in
+      let n = length source.globals + row_cells (take k source.rows) in
+      let is : nat_lt n globals ≡ true = grind (arith, nat_tests) in
+      rw is refl
+  row_slot_by None None within there = absurd (cc)
+
+  global_row_below : (k : ℕ) → find_word (row_words source.rows) name ≡ Some k → row_cells (take k source.rows) < row_cells source.rows
+  global_row_below k found = let row = row_of_number source.rows name k found in let ends = row_ends source.rows k row.0 row.1 in omega (arith, ends)
+
+  -- an array that has a number in a body has one in the cells
+  pub row_slot_is : is_some (array_number source r name) ≡ true → row_number source r base.values name ≡ Some (slot_of (global_cells source) base (unwrap_or (array_number source r name) 0))
+  row_slot_is there = row_slot_by (find_word (row_words r.rows) name) (find_word (row_words source.rows) name) global_row_below there
 
 -- the instance that a name finds
 pub record Found (r : PlainRoutine) (name : List ℕ) (k : ℕ) (i : Instance) : Type 0 where

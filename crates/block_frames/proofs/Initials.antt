@@ -20,8 +20,8 @@ use Rattle.st_parser.specs.Units.{PlainUnit}
 use Rattle.st_names.specs.DeclaredNames.{PlainDeclared}
 use Rattle.st_names.specs.Scopes as scopes
 use Rattle.st_names.specs.Scopes.{is_external}
-use Rattle.st_typing.specs.Kinds.{instance_fits, initial_fits, sort_fits, declared_fits}
-use Rattle.st_typing.specs.Constants.{meant_constant, has_value, is_initial, initial_constant}
+use Rattle.st_typing.specs.Kinds.{instance_fits, array_stands, initial_fits, sort_fits, declared_fits}
+use Rattle.st_typing.specs.Constants.{meant_constant, has_value, is_initial, initial_constant, sort_in_order, declared_constant}
 use Rattle.plant_logic.specs.declared.logic.Variable.{Variable}
 use Rattle.plant_logic.specs.declared.logic.Local.{Local}
 use Rattle.plant_logic.specs.Units.{global_of, local_of, start_by, start_of, listed, starts_in}
@@ -60,6 +60,13 @@ module _ (known : Known (List ℕ)) where
   start_more name (Some e) rest there constant after =
       and_from (known.has_variable name && expr_known known e) (body_known known (listed rest)) (and_from (known.has_variable name) (expr_known known e) (there e refl) (value_known e (meant_constant e) refl constant)) after
 
+  -- what is constant has a constant initial value
+  pub initials_constant : (ds : List PlainDeclared) → list_all declared_constant ds ≡ true → list_all initial_constant ds ≡ true
+  initials_constant [] all = refl
+  initials_constant (d ∷ ds) all =
+      let parts = and_parts (declared_constant d) (list_all declared_constant ds) all in
+      and_from (initial_constant d) (list_all initial_constant ds) (and_parts (initial_constant d) (sort_in_order d.sort) parts.0).0 (initials_constant ds parts.1)
+
   -- each name in the initial values of declared variables is known
   pub starts_known : (ds : List PlainDeclared) → list_all initial_constant ds ≡ true → ((d : PlainDeclared) → Among ds d → IsKnown d) → body_known known (starts_in ds) ≡ true
   starts_known [] constant there = refl
@@ -84,6 +91,10 @@ no_initial_instance sections.Global o e is = refl
 module _ (units : List PlainUnit) (own : List PlainDeclared) (d : PlainDeclared) (e : PlainExpr (List ℕ)) (is : d.initial ≡ Some e) where
   initial_kind : (s : Sort) → sort_fits units own d s ≡ true → (k : Kind) × (s ≡ sort.Kind k)
   initial_kind (sort.Kind k) fit = (k, refl)
+  initial_kind (sort.Array bounds k) fit =
+      let none = (and_parts (is_none d.initial) (array_stands units d.name bounds k d.section) fit).0 in
+      let some : is_none d.initial ≡ false = ap is_none is in
+      absurd (cc)
   initial_kind (sort.Block word) fit = let none = no_initial_instance d.section d.initial e is in absurd (cc)
 
   inside_by : (b : Bool) (k : Kind) → (if b then is_none d.initial && is_kind k (scopes.global_kind units d.name) else initial_fits units own (Some k) d.initial) ≡ true → b ≡ false

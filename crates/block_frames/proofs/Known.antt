@@ -19,26 +19,27 @@ use Rattle.st_parser.specs.declared.unit.Sort.{Sort}
 use Rattle.st_parser.specs.declared.unit.Sort.TheVariants as sort
 use Rattle.st_parser.specs.Units.{PlainDeclaration, PlainSection, PlainPou, PlainUnit}
 use Rattle.st_names.specs.First.{first_that}
-use Rattle.st_names.specs.DeclaredNames.{PlainDeclared, declared_as, declared_together, declared_by, declared_in, sort_kind, is_instance_sort}
+use Rattle.st_names.specs.DeclaredNames.{PlainDeclared, declared_as, declared_together, declared_by, declared_in, declared_words, sort_kind, is_instance_sort}
 use Rattle.st_names.specs.Shared.{Shared, global, pou, shared_name, shared_in, is_block, as_global, global_named}
 use Rattle.st_names.specs.Scopes.{variable_kind, region_named, is_input, is_assignable, is_control}
-use Rattle.st_names.specs.Taken.{or_place}
+use Rattle.st_names.specs.Taken.{or_place, repeats}
 use Rattle.st_names.specs.Faults.{first_pou, first_unit}
 use Rattle.st_typing.specs.Kinds.{context_of, instance_fits, sort_fits, declared_fits, is_global_section, is_global, globals_misfit, pou_misfit}
-use Rattle.st_typing.specs.Constants.{initial_constant, bounds_allowed, never_assigns, stmt_allowed, globals_inconstant, pou_inconstant}
+use Rattle.st_typing.specs.Constants.{declared_constant, bounds_allowed, never_assigns, stmt_allowed, globals_inconstant, pou_inconstant}
 use Rattle.st_typing.specs.Faults.{AreTyped}
 use Rattle.plant_logic.specs.Source.{PlainRoutine, Source, global_cells}
 use Rattle.plant_logic.specs.Pous.{pous_of, block_pous, program_pous, block_names}
 use Rattle.plant_logic.specs.Units.{routine_of, declared_globals, source_in}
 use Rattle.plant_logic.specs.Names.{global_words, own_words, find_word}
 use Rattle.plant_logic.specs.Worlds.{globals_routine}
-use Rattle.plant_logic.proofs.Apart.{none_if, none_or}
-use Rattle.plant_logic.proofs.Distinct.{each_pou}
+use Rattle.plant_logic.proofs.Apart.{none_if, none_or, shared_word, words_apart}
+use Rattle.plant_logic.proofs.Distinct.{each_pou, each_declared_once}
+use Rattle.plant_logic.proofs.Scopes.{routine_scope, array_at}
 use Rattle.block_frames.specs.Numbers.{numbered_in, variables_in, HasItsNames, HasAllNames}
 use Rattle.block_frames.proofs.Fitting.{body_is}
 use Rattle.block_frames.proofs.Typed.{placed_some, own_first, global_next, not_false, first_passes, variable_numbered, control_numbered, instance_numbered, declared_all}
 use Rattle.block_frames.proofs.Shown.{input_numbered, output_numbered}
-use Rattle.block_frames.proofs.Initials.{starts_known, passes_among, initial_variable, own_among, global_among}
+use Rattle.block_frames.proofs.Initials.{initials_constant, starts_known, passes_among, initial_variable, own_among, global_among}
 
 -- what is so of the globals of each unit is so of all globals
 module _ (bad_globals : List PlainSection → Bool) (bad_pou : PlainPou → Bool) (test : PlainDeclared → Bool) (good : (sections : List PlainSection) → bad_globals sections ≡ false → list_all test (declared_in sections) ≡ true) where
@@ -84,6 +85,7 @@ no_global_instance sections.Global o is = refl
 
 variable_by : (units : List PlainUnit) (own : List PlainDeclared) (d : PlainDeclared) (s : Sort) → stands_global d ≡ true → sort_fits units own d s ≡ true → not (is_instance_sort s) ≡ true
 variable_by units own d (sort.Kind k) stands fit = refl
+variable_by units own d (sort.Array bounds k) stands fit = refl
 variable_by units own d (sort.Block word) stands fit = let none = no_global_instance d.section d.initial stands in absurd (cc)
 
 are_variables : (units : List PlainUnit) (own ds : List PlainDeclared) → list_all stands_global ds ≡ true → list_all (declared_fits units own) ds ≡ true → list_all is_variable ds ≡ true
@@ -142,12 +144,13 @@ module _ (units : List PlainUnit) where
   routine p = routine_of (block_names units) p
 
   -- each name in a routine's body, and in its initial values, has a number
-  module _ (variables : (name : List ℕ) (d : PlainDeclared) → global_named units name ≡ Some d → is_instance_sort d.sort ≡ false) (p : PlainPou) (fits : pou_misfit units p ≡ false) (constant : pou_inconstant p ≡ false) where
+  module _ (variables : (name : List ℕ) (d : PlainDeclared) → global_named units name ≡ Some d → is_instance_sort d.sort ≡ false) (apart : repeats (map shared_word (shared_in units)) ≡ false)
+      (p : PlainPou) (once : repeats (declared_words (declared_in p.sections)) ≡ false) (fits : pou_misfit units p ≡ false) (constant : pou_inconstant p ≡ false) where
     abbrev own : List PlainDeclared
     own = declared_in p.sections
 
-    constants : (list_all initial_constant own ≡ true) × (every (stmt_allowed own) p.body ≡ true)
-    constants = and_parts (list_all initial_constant own) (every (stmt_allowed own) p.body) (not_false (list_all initial_constant own && every (stmt_allowed own) p.body) constant)
+    constants : (list_all declared_constant own ≡ true) × (every (stmt_allowed own) p.body ≡ true)
+    constants = and_parts (list_all declared_constant own) (every (stmt_allowed own) p.body) (not_false (list_all declared_constant own && every (stmt_allowed own) p.body) constant)
 
     body_fits : all_fit (context_of units own) p.body ≡ true
     body_fits = (and_parts (list_all (declared_fits units own) own) (all_fit (context_of units own) p.body) (not_false (list_all (declared_fits units own) own && all_fit (context_of units own) p.body) fits)).1
@@ -169,7 +172,7 @@ module _ (units : List PlainUnit) where
         body_is (context_of units own) (numbered_in source (routine p))
         (record {
           variables = variable_numbered units p fits;
-          arrays = λ v bounds k is. absurd (cc);
+          arrays = λ v bounds k is. (array_at units apart own (routine p) (routine_scope units p once (declared_all units p fits)) v k is).numbered (global_cells source);
           assigned = assigned_numbered;
           instances = instance_numbered units p fits variables;
           inputs = input_numbered units p fits variables;
@@ -184,11 +187,11 @@ module _ (units : List PlainUnit) where
         (placed_some (bytes_eq (folded d.name)) (own_words (routine p).locals) (own_among own d v.0 among v.2 v.1))
 
     has_its_names : HasItsNames source (routine p)
-    has_its_names = record { in_body = body_numbered; in_starts = starts_known (variables_in source (routine p)) own constants.0 start_numbered }
+    has_its_names = record { in_body = body_numbered; in_starts = starts_known (variables_in source (routine p)) own (initials_constant (variables_in source (routine p)) own constants.0) start_numbered }
 
   -- each name in the initial values of globals has a number
-  global_starts : list_all (declared_fits units []) (declared_globals units) ≡ true → list_all initial_constant (declared_globals units) ≡ true → body_known (variables_in source (globals_routine source)) source.starts ≡ true
-  global_starts fit constant = starts_known (variables_in source (globals_routine source)) (declared_globals units) constant numbered
+  global_starts : list_all (declared_fits units []) (declared_globals units) ≡ true → list_all declared_constant (declared_globals units) ≡ true → body_known (variables_in source (globals_routine source)) source.starts ≡ true
+  global_starts fit constant = starts_known (variables_in source (globals_routine source)) (declared_globals units) (initials_constant (variables_in source (globals_routine source)) (declared_globals units) constant) numbered
     where
       numbered : (d : PlainDeclared) → Among (declared_globals units) d → (e : PlainExpr (List ℕ)) → d.initial ≡ Some e → (variables_in source (globals_routine source)).has_variable d.name ≡ true
       numbered d among e is =
@@ -196,36 +199,41 @@ module _ (units : List PlainUnit) where
           global_next (global_cells source) (find_word (own_words (globals_routine source).locals) d.name) (find_word (global_words source.globals) d.name)
           (placed_some (bytes_eq (folded d.name)) (global_words source.globals) (global_among (declared_globals units) d v.0 among v.1))
 
-  all_have : ((p : PlainPou) → pou_misfit units p ≡ false → pou_inconstant p ≡ false → HasItsNames source (routine p)) → (ps : List PlainPou) → All (λ p. pou_misfit units p ≡ false) ps → All (λ p. pou_inconstant p ≡ false) ps
-      → All (HasItsNames source) (map routine ps)
-  all_have each [] fit constant = All-nil (HasItsNames source)
-  all_have each (p ∷ ps) fit constant =
-      All-cons (HasItsNames source) (routine p) (map routine ps)
-      (each p (All-head (λ p. pou_misfit units p ≡ false) p ps fit) (All-head (λ p. pou_inconstant p ≡ false) p ps constant))
-      (all_have each ps (All-tail (λ p. pou_misfit units p ≡ false) p ps fit) (All-tail (λ p. pou_inconstant p ≡ false) p ps constant))
+  abbrev IsOnce : PlainPou → Type 0
+  IsOnce p = repeats (declared_words (declared_in p.sections)) ≡ false
 
-  constant_globals : (ss : List PlainSection) → globals_inconstant ss ≡ false → list_all initial_constant (declared_in ss) ≡ true
-  constant_globals ss constant = not_false (list_all initial_constant (declared_in ss)) constant
+  all_have : ((p : PlainPou) → IsOnce p → pou_misfit units p ≡ false → pou_inconstant p ≡ false → HasItsNames source (routine p)) → (ps : List PlainPou) → All IsOnce ps → All (λ p. pou_misfit units p ≡ false) ps → All (λ p. pou_inconstant p ≡ false) ps
+      → All (HasItsNames source) (map routine ps)
+  all_have each [] once fit constant = All-nil (HasItsNames source)
+  all_have each (p ∷ ps) once fit constant =
+      All-cons (HasItsNames source) (routine p) (map routine ps)
+      (each p (All-head IsOnce p ps once) (All-head (λ p. pou_misfit units p ≡ false) p ps fit) (All-head (λ p. pou_inconstant p ≡ false) p ps constant))
+      (all_have each ps (All-tail IsOnce p ps once) (All-tail (λ p. pou_misfit units p ≡ false) p ps fit) (All-tail (λ p. pou_inconstant p ≡ false) p ps constant))
+
+  constant_globals : (ss : List PlainSection) → globals_inconstant ss ≡ false → list_all declared_constant (declared_in ss) ≡ true
+  constant_globals ss constant = not_false (list_all declared_constant (declared_in ss)) constant
 
 -- no global of well-formed units is an instance
 pub typed_globals : (units : List PlainUnit) → AreTyped units → (name : List ℕ) (d : PlainDeclared) → global_named units name ≡ Some d → is_instance_sort d.sort ≡ false
 typed_globals units typed =
-    no_global_is_instance units (each_global (globals_misfit units) (pou_misfit units) is_variable (variables_only units) 0 units typed.are_shallow.are_short.constant.are_apart.kinded.kinds)
+    no_global_is_instance units (each_global (globals_misfit units) (pou_misfit units) is_variable (variables_only units) 0 units typed.are_few.are_shallow.are_short.constant.are_apart.kinded.kinds)
 
 -- each name in the source of well-formed units has a number
 pub typed_known : (units : List PlainUnit) → AreTyped units → HasAllNames (source_in units)
 typed_known units typed =
-    let constant = typed.are_shallow.are_short.constant in
+    let constant = typed.are_few.are_shallow.are_short.constant in
     let kinds = constant.are_apart.kinded.kinds in
     let pous = pous_of units in
     let fit = each_pou (globals_misfit units) (pou_misfit units) 0 units kinds in
     let held = each_pou globals_inconstant pou_inconstant 0 units constant.constants in
     let variables = typed_globals units typed in
-    let each = has_its_names units variables in
+    let names = constant.are_apart.kinded.named.names in
+    let each = has_its_names units variables (words_apart units names) in
+    let once = each_declared_once units names in
     record {
       in_globals = global_starts units
           (each_global (globals_misfit units) (pou_misfit units) (declared_fits units []) (λ ss fits. (globals_fit units ss fits).1) 0 units kinds)
-          (each_global globals_inconstant pou_inconstant initial_constant (constant_globals units) 0 units constant.constants);
-      in_programs = all_have units each (program_pous pous) (All-filter (λ p. not (is_block p.kind)) (λ p. pou_misfit units p ≡ false) pous fit) (All-filter (λ p. not (is_block p.kind)) (λ p. pou_inconstant p ≡ false) pous held);
-      in_blocks = all_have units each (block_pous pous) (All-filter (λ p. is_block p.kind) (λ p. pou_misfit units p ≡ false) pous fit) (All-filter (λ p. is_block p.kind) (λ p. pou_inconstant p ≡ false) pous held);
+          (each_global globals_inconstant pou_inconstant declared_constant (constant_globals units) 0 units constant.constants);
+      in_programs = all_have units each (program_pous pous) (All-filter (λ p. not (is_block p.kind)) (IsOnce units) pous once) (All-filter (λ p. not (is_block p.kind)) (λ p. pou_misfit units p ≡ false) pous fit) (All-filter (λ p. not (is_block p.kind)) (λ p. pou_inconstant p ≡ false) pous held);
+      in_blocks = all_have units each (block_pous pous) (All-filter (λ p. is_block p.kind) (IsOnce units) pous once) (All-filter (λ p. is_block p.kind) (λ p. pou_misfit units p ≡ false) pous fit) (All-filter (λ p. is_block p.kind) (λ p. pou_inconstant p ≡ false) pous held);
     }

@@ -115,7 +115,7 @@ module _ (source : Source) (order : List ℕ) (frames : List Frame) (are : IsFra
       let frame = frame_there k (omega (arith, within)) in
       let there = all_at (DeclaresThere source.blocks) source.blocks n r.0 types.in_blocks r.1 in
       let framed_is : IsFrame source order r.0 frame.0 = subst (λ b. IsFrame source order (framed b r.0) frame.0) run (are.of_blocks k n r.0 frame.0 at r.1 frame.1 used) in
-      let seats = seats_paths_are source.blocks order r.0 (frame_paths frames k) (type_paths source.blocks) r.0.instances frame.0.seats.items (length r.0.locals) 0 framed_is.seats_are
+      let seats = seats_paths_are source.blocks order r.0 (frame_paths frames k) (type_paths source.blocks) r.0.instances frame.0.seats.items (own_cells r.0) 0 framed_is.seats_are
       (λ i b here of_is calls.
       let declares : Declares r.0 b = (i, here, of_is) in
       let p = placed order k b (below.after k n b r.0 at r.1 declares (there b declares)) in

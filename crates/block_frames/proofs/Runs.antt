@@ -25,7 +25,7 @@ use Rattle.block_frames.specs.Frames.{place_in, IsFrame, framed, IsFrames, progr
 use Rattle.block_frames.specs.Stands.{StandFor}
 use Rattle.block_frames.proofs.Namings.{meant_known}
 use Rattle.block_frames.proofs.Flags.{asks_declared, declared_asks}
-use Rattle.block_frames.proofs.Callings.{called_known, calls_known}
+use Rattle.block_frames.proofs.Callings.{called_known, meant_names, array_kept, calls_known}
 use Rattle.block_frames.proofs.Places.{placed, placed_there, place_is}
 use Rattle.block_frames.proofs.Spaces.{Matches, Does, spaces_lawful}
 
@@ -48,10 +48,10 @@ module _ (source : Source) (order : List ℕ) (below : AreBelow source.blocks or
       let seats = frame.seats.items in
       let from = routine_space t inner r path in
       let to = frame_space t (global_cells source) lower seats base path in
-      let known = called_known source r in
+      let known = meant_names source r in
       subst (λ body. Agree (Matches source) (run_rule source t inner r path w) (run_all to body cells)) (sym it.body_is)
       (body_same known (numbers source r) from to (Matches source) (spaces_lawful source order below named r seats it.seats_are path base values clocks t inner lower callees)
-      (meant_in source r r.body) (meant_known known (kinds_named source r) (λ v bounds. refl) r.body ∙ calls_known source r names.in_body) w cells stands)
+      (meant_in source r r.body) (meant_known (called_known source r) (kinds_named source r) known.has_array (array_kept source r) r.body ∙ calls_known source r names.in_body) w cells stands)
 
   module _ (frames : List Frame) (are : IsFrames source order frames) (types : HasItsTypes source) (names : HasAllNames source) where
     abbrev lower : ℕ → ℕ → Base → Path → PlainCells → Ran PlainCells

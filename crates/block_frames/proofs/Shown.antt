@@ -214,6 +214,7 @@ module _ (name : List ℕ) (words : List (List ℕ)) where
   instance_skipped : (outside : Bool) (e : PlainDeclared) (s : Sort) (rest : List Instance) → same_word e.name name ≡ false → first_that named_so ((if outside then [] else instance_by words e s) ++ rest) ≡ first_that named_so rest
   instance_skipped true e s rest other = refl
   instance_skipped false e (sort.Kind kind) rest other = refl
+  instance_skipped false e (sort.Array bounds kind) rest other = refl
   instance_skipped false e (sort.Block word) rest other = let fails : same_word name e.name ≡ false = same_turned name e.name ∙ other in rw fails refl
 
   instance_first : (ds : List PlainDeclared) (d : PlainDeclared) (word : List ℕ) → find_declared ds name ≡ Some d → is_external d.section ≡ false → d.sort ≡ sort.Block word
@@ -256,10 +257,12 @@ module _ (units : List PlainUnit) (p : PlainPou) (fits : pou_misfit units p ≡ 
 
   own_type : (name : List ℕ) (of : BlockType) (d : PlainDeclared) (s : Sort) → d.sort ≡ s → find_declared own name ≡ Some d → sort_type units s ≡ Some of → IsOf name of
   own_type name of d (sort.Kind k) sorted found is = absurd (cc)
+  own_type name of d (sort.Array bounds k) sorted found is = absurd (cc)
   own_type name of d (sort.Block word) sorted found is = (word, is, own_instance name d word found sorted)
 
   no_type : (name : List ℕ) (of : BlockType) (s : Sort) → is_instance_sort s ≡ false → sort_type units s ≡ Some of → IsOf name of
   no_type name of (sort.Kind k) variable is = absurd (cc)
+  no_type name of (sort.Array bounds k) variable is = absurd (cc)
   no_type name of (sort.Block word) variable is = absurd (cc)
 
   type_by : (name : List ℕ) (of : BlockType) (o q : Option PlainDeclared) → find_declared own name ≡ o → global_named units name ≡ q → option_and_then (λ (d : PlainDeclared). sort_type units d.sort) (or_other o q) ≡ Some of → IsOf name of

@@ -13,7 +13,7 @@ use Rattle.block_order.specs.Chains.{Among}
 use Rattle.plant_logic.specs.declared.logic.Instance.{Instance}
 use Rattle.plant_logic.specs.declared.logic.BlockRef.{BlockRef}
 use Rattle.plant_logic.specs.declared.logic.BlockRef.TheVariants.{Ton, Tof, RTrig, Declared}
-use Rattle.plant_logic.specs.Source.{PlainRoutine, Source}
+use Rattle.plant_logic.specs.Source.{PlainRoutine, Source, own_cells}
 use Rattle.plant_logic.specs.Blocks.{Declares, DeclaresThere, HasItsTypes, AreBelow}
 use Rattle.plant_logic.specs.Paths.{is_called, block_paths, instance_paths, paths_rule, type_paths}
 use Rattle.plant_logic.specs.Worlds.{Path}
@@ -108,7 +108,7 @@ module _ (blocks : List PlainRoutine) (run : List Bool) (table : List Callee) wh
         let clocks = ends.clocks_is in
         let paths = ends.paths_is in
         let own = own_count r [] in
-        let sum = length-append (own_values r.locals []) (instance_values (routine_values blocks) r.instances []) in
+        let sum = length-append (own_values r []) (instance_values (routine_values blocks) r.instances []) in
         let one : length (paths_rule (type_paths blocks) r) ≡ suc (length (instance_paths (type_paths blocks) r r.instances)) = refl in
         record { values_is = omega (arith, values, own, sum); clocks_is = omega (arith, clocks); paths_is = omega (arith, paths, one) }
 
@@ -121,7 +121,10 @@ module _ (blocks : List PlainRoutine) (run : List Bool) (table : List Callee) wh
         let few = cells.values in
         let few' = cells.clocks in
         let few'' = steps.paths in
+        let all = length-append (own_values r []) (instance_values (routine_values blocks) r.instances []) in
+        let own = own_count r [] in
         record {
+          own = omega (arith, few, all, own);
           seats = record { values = omega (arith, values, few); clocks = omega (arith, clocks, few'); paths = omega (arith, paths, few'') };
           starts = cells.starts;
           statements = steps.statements;
@@ -159,6 +162,10 @@ seats_fit table false r fits = fits
 pub starts_fit : (table : List Callee) (b : Bool) (r : PlainRoutine) → IsFitting table (framed b r) → 1 + count_body r.starts < 2 ^ 32
 starts_fit table true r fits = fits.starts
 starts_fit table false r fits = fits.starts
+
+pub own_fit : (table : List Callee) (b : Bool) (r : PlainRoutine) → IsFitting table (framed b r) → own_cells r < 2 ^ 32
+own_fit table true r fits = fits.own
+own_fit table false r fits = fits.own
 
 -- a table that knows the first so many block types of an order, of those that programs reach
 module _ (blocks : List PlainRoutine) (order : List ℕ) (used run : List Bool) where

@@ -3,7 +3,8 @@ use Rattle.std.proofs.Common.{◌≡◌, ◌∙◌, ap, sym, subst, refl, arith,
 use Rattle.std.specs.Prelude.{if◌then◌else◌, is_some, option_and_then, unwrap_or, codes}
 use Rattle.std.proofs.lemmas.Bool.{and_parts}
 use Rattle.plant_types.specs.Words.{folded, same_word}
-use Rattle.plant_types.specs.Values.{truth, is_true}
+use Rattle.plant_types.specs.declared.values.Bounds.{Bounds}
+use Rattle.plant_types.specs.Values.{truth, is_true, has_index, row_place}
 use Rattle.std_blocks.specs.Calls.{call}
 use Rattle.std_blocks.specs.Timers.{ton, tof}
 use Rattle.st_tree.specs.Meaning.{Ran}
@@ -14,15 +15,16 @@ use Rattle.plant_logic.specs.declared.logic.Instance.{Instance}
 use Rattle.plant_logic.specs.declared.logic.BlockRef.{BlockRef}
 use Rattle.plant_logic.specs.declared.logic.BlockRef.TheVariants.{Ton, Tof, RTrig, Declared}
 use Rattle.plant_logic.specs.Source.{PlainRoutine, Source, own_cells, global_cells}
-use Rattle.plant_logic.specs.Names.{block_named, instance_named}
+use Rattle.plant_logic.specs.Names.{block_named, instance_named, same_bounds, bounds_named}
+use Rattle.plant_logic.proofs.Fitting.{bounds_are}
 use Rattle.plant_logic.specs.Blocks.{AreBelow}
 use Rattle.plant_logic.specs.Paths.{is_called}
 use Rattle.plant_logic.specs.Worlds as worlds
-use Rattle.plant_logic.specs.Worlds.{Path, World, words_of, path_in, assign, with_call, timer_output, timer_call, trigger_call, in_word, pt_word, clk_word, routine_space, called_named}
+use Rattle.plant_logic.specs.Worlds.{Path, World, words_of, path_in, element_path, assign, with_call, timer_output, timer_call, trigger_call, in_word, pt_word, clk_word, routine_space, called_named}
 use Rattle.plant_logic.specs.Layout.{ClockAt, block_values, values_rule, routine_values, block_clocks, clocks_rule, routine_clocks, cell_paths, all_clocks, IsDistinctlyNamed}
 use Rattle.plant_logic.specs.Seats.{StandsFrom, member_number, is_of_standard, value_offset, clock_offset}
 use Rattle.plant_logic.proofs.Agreeing.{named_among}
-use Rattle.plant_logic.proofs.Seats.{named_value_stands, instance_stands, instance_clocks_stand, stands_moved}
+use Rattle.plant_logic.proofs.Seats.{named_value_stands, element_stands, instance_stands, instance_clocks_stand, stands_moved}
 use Rattle.plant_logic.proofs.Members.{member_at, clock_at}
 use Rattle.plant_cells.specs.declared.clock.Standard.TheVariants as standard
 use Rattle.plant_cells.specs.declared.clock.Clock.{Clock}
@@ -32,14 +34,14 @@ use Rattle.block_walk.specs.declared.frame.Seat.{Seat}
 use Rattle.block_walk.specs.declared.frame.Base.{Base}
 use Rattle.block_walk.specs.Walks as walks
 use Rattle.block_walk.specs.Walks.{slot_of, member_slot, base_of, output_by, with_input, called_by, frame_space}
-use Rattle.block_frames.specs.Numbers.{variable_number, instance_number, input_number, shown_number, output_number, numbers}
+use Rattle.block_frames.specs.Numbers.{variable_number, array_number, instance_number, input_number, shown_number, output_number, numbers}
 use Rattle.block_frames.specs.Reached.{AsksFor}
 use Rattle.block_frames.specs.Frames.{place_in, seated, AreSeats}
 use Rattle.block_frames.specs.Stands.{standard_of, StandFor}
 use Rattle.block_frames.proofs.Cells.{value_held, value_put, clock_held, clock_put}
 use Rattle.block_frames.proofs.Places.{seat_found}
-use Rattle.block_frames.proofs.Callings.{called_known, called_alike}
-use Rattle.block_frames.proofs.Found.{slot_is, Found, found, of_member, block_found, there_is}
+use Rattle.block_frames.proofs.Callings.{meant_names, called_alike}
+use Rattle.block_frames.proofs.Found.{slot_is, row_slot_is, Found, found, of_member, block_found, there_is}
 
 -- cells stand for a world
 abbrev pub Matches : Source → World → PlainCells → Type 0
@@ -104,6 +106,16 @@ module _ (source : Source) (order : List ℕ) (below : AreBelow source.blocks or
     variable_at : (name : List ℕ) → is_some (variable_number source r name) ≡ true → slice_get (cell_paths source) (slot_of (global_cells source) base (unwrap_or (variable_number source r name) 0)) ≡ Some (path_in r path name)
     variable_at name there =
         named_value_stands source r path base.values name (slot_of (global_cells source) base (unwrap_or (variable_number source r name) 0)) values (slot_is source r base name there)
+
+    -- an element of an array with its declared bounds
+    element_found : (name : List ℕ) (bounds : Bounds) (i : ℤ) → (meant_names source r).has_array name bounds ≡ true → has_index bounds i ≡ true
+        → slice_get (cell_paths source) (row_place (slot_of (global_cells source) base (unwrap_or (array_number source r name) 0)) bounds i) ≡ Some (element_path r path name i)
+    element_found name bounds i is within =
+        let parts = and_parts (is_some (array_number source r name)) (same_bounds bounds (bounds_named source r name)) is in
+        let same = bounds_are bounds (bounds_named source r name) parts.1 in
+        let slot = slot_of (global_cells source) base (unwrap_or (array_number source r name) 0) in
+        ap (λ b. slice_get (cell_paths source) (row_place slot b i)) same
+        ∙ element_stands source r path base.values name i values slot (row_slot_is source r base name parts.0) (ap (λ b. has_index b i) (sym same) ∙ within)
 
     module _ (seat : Seat) (p : Path) where
       clock_sits : (b : BlockRef) → is_of_standard b ≡ true → Sits seat b p → slice_get (all_clocks source) (base.clocks + seat.clocks) ≡ Some (record { of = b; path = p })
@@ -208,13 +220,15 @@ module _ (source : Source) (order : List ℕ) (below : AreBelow source.blocks or
         (input_put w cells stands s.0 (words_of (instance ∷ path)) f.1.of (sits_named instance f.0 f.1 f.2 s.0 s.3) name m x numbered)
 
     -- numbers for names are lawful
-    pub spaces_lawful : IsLawfulForAny (called_known source r) (numbers source r) (routine_space t inner r path) (frame_space t (global_cells source) frame seats base path) (Matches source)
+    pub spaces_lawful : IsLawfulForAny (meant_names source r) (numbers source r) (routine_space t inner r path) (frame_space t (global_cells source) frame seats base path) (Matches source)
     spaces_lawful = record {
       path_is = refl;
       variable_is = λ v w cells is m. sym (value_held source cells w m (slot_of (global_cells source) base (unwrap_or (variable_number source r v) 0)) (path_in r path v) (variable_at w cells m v is));
       put_matches = λ v x w cells is m. value_put source cells w m named (slot_of (global_cells source) base (unwrap_or (variable_number source r v) 0)) (path_in r path v) x (variable_at w cells m v is);
-      element_is = λ v bounds i w cells is within m. absurd (cc);
-      put_at_matches = λ v bounds i x w cells is within m. absurd (cc);
+      element_is = λ v bounds i w cells is within m.
+          sym (value_held source cells w m (row_place (slot_of (global_cells source) base (unwrap_or (array_number source r v) 0)) bounds i) (element_path r path v i) (element_found w cells m v bounds i is within));
+      put_at_matches = λ v bounds i x w cells is within m.
+          value_put source cells w m named (row_place (slot_of (global_cells source) base (unwrap_or (array_number source r v) 0)) bounds i) (element_path r path v i) x (element_found w cells m v bounds i is within);
       output_is = λ instance name w cells is m. shows instance name w cells is m;
       put_input_matches = λ instance name x w cells is m. takes instance name x w cells is m;
       enter_agrees = λ instance w cells is m. let parts = and_parts (is_some (instance_number r instance)) (is_called r instance) is in entered instance w cells parts.0 parts.1 m;

@@ -98,7 +98,7 @@ module _ (source : Source) (order : List ℕ) (below : AreBelow source.blocks or
         let to = frame_space 0 (global_cells source) inner [] base path in
         let known = variables_in source r in
         let same = body_same known (numbers source r) from to (Matches source) starts_lawful (meant_in source r r.starts)
-        (meant_known known (kinds_named source r) (λ v bounds. refl) r.starts ∙ names.in_starts) w cells stands in
+        (meant_known known (kinds_named source r) (λ v bounds. false) (λ v bounds. refl) r.starts ∙ names.in_starts) w cells stands in
         let moved = body_moved 0 (global_cells source) inner (run_within 0 (global_cells source) [] 0) (λ k at below_it c. refl) [] base path body cells in
         let left : left_by (run_all to body cells) ≡ left_by (run_all (start_space (global_cells source) base) (view_body frame.starts.items) cells) =
         ap left_by moved ∙ left_under path (run_all (start_space (global_cells source) base) body cells)
@@ -151,7 +151,7 @@ module _ (source : Source) (order : List ℕ) (below : AreBelow source.blocks or
   routine_starts r frame f g it names callees path base values clocks w cells stands =
       let many = own_count r (words_of path) in
       instances_start f g path base r r.instances frame.seats.items (own_cells r) 0 it.seats_are (λ i n here of_is. callees n (i, here, of_is))
-      (stands_right (cell_paths source) base.values (base.values + own_cells r) (own_values r.locals (words_of path)) (instance_values values_of r.instances (words_of path)) (omega (arith, many)) values)
+      (stands_right (cell_paths source) base.values (base.values + own_cells r) (own_values r (words_of path)) (instance_values values_of r.instances (words_of path)) (omega (arith, many)) values)
       (stands_moved (all_clocks source) base.clocks (base.clocks + 0) (instance_clocks clocks_of r.instances (words_of path)) (omega arith) clocks)
       (begun source r path w) (left_by (run_all (start_space (global_cells source) base) (view_body frame.starts.items) cells)) (own_begun r path base values frame it names w cells stands)
 

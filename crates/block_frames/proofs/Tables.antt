@@ -216,7 +216,7 @@ module _ (source : Source) (order : List ℕ) (frames : List Frame) (table : Lis
   pub made_values : end.values ≡ length (values_rule (routine_values source.blocks) r [])
   made_values =
       let e = ap (λ (x : Extent). x.values) made.end_is ∙ (ends_at source.blocks order frames table r (first_of r) r.instances knows_all).values_is in
-      let sum = length-append (own_values r.locals []) (instance_values (routine_values source.blocks) r.instances []) in
+      let sum = length-append (own_values r []) (instance_values (routine_values source.blocks) r.instances []) in
       let own = own_count r [] in
       omega (arith, e, sum, own)
 

@@ -59,6 +59,7 @@ any_later p f (y ∷ ys) xs any = or_right (p (f y)) (list_any p (map f (ys ++ x
 pub kind_is : (s : Sort) (k : Kind) → sort_kind s ≡ Some k → s ≡ sort.Kind k
 kind_is (sort.Kind j) k is = let same : j ≡ k = cc in ap sort.Kind same
 kind_is (sort.Block word) k is = absurd (cc)
+kind_is (sort.Array bounds kind) k is = absurd (cc)
 
 -- what is found first passes
 pub first_is : {A : Type 0} (test : A → Bool) (xs : List A) (a : A) → first_that test xs ≡ Some a → test a ≡ true
@@ -218,6 +219,7 @@ module _ (units : List PlainUnit) (p : PlainPou) (fits : pou_misfit units p ≡ 
   block_of : (d : PlainDeclared) (s : Sort) → is_some (sort_type units s) ≡ true → (word : List ℕ) × (s ≡ sort.Block word)
   block_of d (sort.Kind k) there = absurd (cc)
   block_of d (sort.Block word) there = (word, refl)
+  block_of d (sort.Array bounds k) there = absurd (cc)
 
   pub not_external : (section : SectionKind) (e : Option (PlainExpr (List ℕ))) → instance_fits section e ≡ true → is_external section ≡ false
   not_external sections.Local e fit = refl

@@ -23,7 +23,7 @@ use Rattle.block_frames.specs.Reached.{flagged, AreReached}
 use Rattle.block_frames.specs.Small.{HasFewCells, HasFewSteps}
 use Rattle.block_frames.specs.Frames.{place_in, IsFrame, framed, IsBlank}
 use Rattle.block_frames.specs.declared.scope.Scope.{Scope}
-use Rattle.block_frames.specs.Scoped.{AreVariables, AreMembers, IsNumberedIn, global_variables}
+use Rattle.block_frames.specs.Scoped.{AreVariables, AreArrays, AreMembers, IsNumberedIn, global_variables}
 
 -- where the first instance of a routine begins
 abbrev pub first_of : PlainRoutine → Extent
@@ -32,6 +32,7 @@ first_of r = extent (own_cells r) 0 1
 -- names and kinds are those of a source
 pub record AreOf (source : Source) (globals : Variables) (members : List Variables) : Type 0 where
   pub globals_are : AreVariables (global_variables source.globals) globals
+  pub arrays_are : AreArrays (length source.globals) source.rows globals.arrays
   pub members_are : AreMembers source.blocks members
 
 -- the flags are those of what a source's programs reach, by instances and by calls, and what is flagged is little; names and kinds are the source's
@@ -50,8 +51,9 @@ pub record IsSized (blocks : List PlainRoutine) (run : List Bool) (table : List 
   pub clocks_is : callee.extent.clocks ≡ clocks_per_type blocks n
   pub paths_is : flagged run n ≡ true → callee.extent.paths ≡ length (type_paths blocks n)
 
--- the numbers of a routine's frame fit, by a table: those of its seats and of its statements
+-- the numbers of a routine's frame fit, by a table: those of its own cells, of its seats and of its statements
 pub record IsFitting (table : List Callee) (r : PlainRoutine) : Type 0 where
+  pub own : own_cells r < 2 ^ 32
   pub seats : Fits (ends_by table (is_called r) (first_of r) r.instances)
   pub starts : 1 + count_body r.starts < 2 ^ 32
   pub statements : 1 + count_body r.body < 2 ^ 32

@@ -50,7 +50,7 @@ AreSeats blocks r order values clocks (i ∷ is) [] = ⊥
 AreSeats blocks r order values clocks (i ∷ is) (seat ∷ seats) =
     IsSeat r order values clocks i seat × AreSeats blocks r order (values + value_count blocks i.of) (clocks + clock_count blocks i.of) is seats
 
--- a frame is a routine's: its instances are its seats, whose values come after the routine's own variables, and its statements are those that are meant, with numbers for names
+-- a frame is a routine's: its instances are its seats, whose values come after the routine's own, and its statements are those that are meant, with numbers for names
 pub record IsFrame (source : Source) (order : List ℕ) (r : PlainRoutine) (frame : Frame) : Type 0 where
   pub seats_are : AreSeats source.blocks r order (own_cells r) 0 r.instances frame.seats.items
   pub starts_are : view_body frame.starts.items ≡ mapped_body (numbers source r) (meant_in source r r.starts)
@@ -59,7 +59,7 @@ pub record IsFrame (source : Source) (order : List ℕ) (r : PlainRoutine) (fram
 -- a routine as a frame has it: without its body if nothing comes to call it
 abbrev pub framed : (is_run : Bool) → PlainRoutine → PlainRoutine
 framed true r = r
-framed false r = record { name = r.name; locals = r.locals; instances = r.instances; starts = r.starts; body = done }
+framed false r = record { name = r.name; locals = r.locals; rows = r.rows; instances = r.instances; starts = r.starts; body = done }
 
 -- a frame has nothing
 pub record IsBlank (frame : Frame) : Type 0 where

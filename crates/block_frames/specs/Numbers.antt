@@ -11,9 +11,9 @@ use Rattle.plant_logic.specs.declared.logic.BlockRef.TheVariants.{Ton, Tof, RTri
 use Rattle.plant_logic.specs.Source.{PlainRoutine, Source, global_cells}
 use Rattle.plant_logic.specs.Names.{find_word, instance_words, block_named}
 use Rattle.plant_logic.specs.Worlds.{globals_routine}
-use Rattle.plant_logic.specs.Seats.{value_number, member_number}
+use Rattle.plant_logic.specs.Seats.{value_number, row_number, member_number}
 
--- the number of a variable: a global's is its place among these, and those of the routine's own variables follow
+-- the number of a variable: a global's is its place among these, and those of the routine's own variables follow the cells of the globals
 abbrev pub variable_number : Source → PlainRoutine → List ℕ → Option ℕ
 variable_number source r name = value_number source.globals r (global_cells source) name
 
@@ -40,15 +40,15 @@ shown_number source (Declared n) name = member_number source.blocks (Declared n)
 abbrev pub output_number : Source → PlainRoutine → (instance name : List ℕ) → Option ℕ
 output_number source r instance name = option_and_then (λ b. shown_number source b name) (block_named r instance)
 
--- the number of an array, that of its first element; no routine has an array
-abbrev pub array_number : List ℕ → Option ℕ
-array_number name = None
+-- the number of an array, that of its first element: the global arrays follow the global variables, and the routine's own arrays its own variables
+abbrev pub array_number : Source → PlainRoutine → List ℕ → Option ℕ
+array_number source r name = row_number source r (global_cells source) name
 
 -- numbers for the names in a routine; 0 for a name that isn't known
 abbrev pub numbers : Source → PlainRoutine → Mapping (List ℕ) ℕ
 numbers source r = record {
   variable = λ name. unwrap_or (variable_number source r name) 0;
-  array = λ name. unwrap_or (array_number name) 0;
+  array = λ name. unwrap_or (array_number source r name) 0;
   instance = λ name. unwrap_or (instance_number r name) 0;
   input_name = λ instance name. unwrap_or (input_number source r instance name) 0;
   output_name = λ instance name. unwrap_or (output_number source r instance name) 0;
@@ -59,7 +59,7 @@ numbers source r = record {
 abbrev pub numbered_in : Source → PlainRoutine → Known (List ℕ)
 numbered_in source r = record {
   has_variable = λ name. is_some (variable_number source r name);
-  has_array = λ name bounds. is_some (array_number name);
+  has_array = λ name bounds. is_some (array_number source r name);
   has_instance = λ name. is_some (instance_number r name);
   has_input = λ instance name. is_some (input_number source r instance name);
   has_output = λ instance name. is_some (output_number source r instance name);

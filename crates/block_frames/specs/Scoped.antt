@@ -1,6 +1,9 @@
 -- What the code knows of the names in a routine, and bodies over numbers by it.
-use Rattle.std.specs.Prelude.{◌≡◌, ℕ, if◌then◌else◌, List, length, map, Option, Some, None, option_and_then, unwrap_or, slice_get, codes}
+use Rattle.std.specs.Prelude.{◌≡◌, ℕ, pos, ◌+◌, if◌then◌else◌, List, [], ◌∷◌, length, map, Option, Some, None, option_map, option_and_then, unwrap_or, slice_get, codes}
+use Rattle.std.specs.Option.{option_map_or}
 use Rattle.plant_types.specs.Words.{same_word}
+use Rattle.plant_types.specs.Values.{row_length}
+use Rattle.plant_types.specs.declared.values.Bounds.{Bounds}
 use Rattle.plant_types.specs.declared.values.Kind.{Kind}
 use Rattle.plant_types.specs.declared.values.Kind.TheVariants as kind
 use Rattle.st_tree.specs.Plain.{PlainExpr, PlainArgument, PlainStmt, PlainBody, Branches, Choices}
@@ -10,14 +13,17 @@ use Rattle.st_tree.specs.Mapping.{Mapping, mapped_expr, mapped_argument, mapped_
 use Rattle.st_names.specs.Scopes.{or_other}
 use Rattle.word_index.specs.Names.{find_name}
 use Rattle.plant_logic.specs.declared.logic.Local.{Local}
+use Rattle.plant_logic.specs.declared.logic.Row.{Row}
 use Rattle.plant_logic.specs.declared.logic.Variable.{Variable}
 use Rattle.plant_logic.specs.declared.logic.Instance.{Instance}
 use Rattle.plant_logic.specs.declared.logic.BlockRef.{BlockRef}
 use Rattle.plant_logic.specs.declared.logic.BlockRef.TheVariants.{Ton, Tof, RTrig, Declared}
-use Rattle.plant_logic.specs.Source.{PlainRoutine, Source}
+use Rattle.plant_logic.specs.Source.{PlainRoutine, Source, row_cells}
 use Rattle.plant_logic.specs.Seats.{own_or_global, timer_number}
-use Rattle.plant_logic.specs.Names.{element_kind_named, bounds_named, meant_in}
-use Rattle.block_frames.specs.Numbers.{timer_shows, array_number, numbers}
+use Rattle.plant_logic.specs.Names.{meant_in}
+use Rattle.block_frames.specs.Numbers.{timer_shows, numbers}
+use Rattle.block_frames.specs.declared.names.Arrays.{Arrays}
+use Rattle.block_frames.specs.declared.names.Laid.{Laid}
 use Rattle.block_frames.specs.declared.names.Variables.{Variables}
 use Rattle.block_frames.specs.declared.names.Instances.{Instances}
 use Rattle.block_frames.specs.declared.scope.Scope.{Scope}
@@ -29,6 +35,14 @@ kind_among variables name = option_and_then (slice_get variables.kinds.items) (f
 -- what the instance of a name is of
 abbrev pub block_among : Instances → List ℕ → Option BlockRef
 block_among instances name = option_and_then (slice_get instances.blocks.items) (find_name instances.names name)
+
+-- the array of a name
+abbrev pub array_among : Arrays → List ℕ → Option Laid
+array_among arrays name = option_and_then (slice_get arrays.laid.items) (find_name arrays.names name)
+
+-- the number of its first element, counted from the first of the variables that the arrays stand behind
+abbrev pub first_among : Arrays → List ℕ → Option ℕ
+first_among arrays name = option_map (λ (l : Laid). l.first) (array_among arrays name)
 
 -- what is known of variables, in order: the name and the kind of each
 pub record PlainVariables : Type 0 where
@@ -60,18 +74,56 @@ global_kinds globals = map (λ (g : Variable). g.kind) globals
 abbrev pub global_variables : List Variable → PlainVariables
 global_variables globals = record { names = global_names globals; kinds = global_kinds globals }
 
+-- an array whose first element has a number
+abbrev pub laid : Row → ℕ → Laid
+laid row first = record { kind = row.kind; bounds = row.bounds; first = first }
+
+-- arrays, of which the first element of the first has a number
+abbrev pub laid_from : ℕ → List Row → List Laid
+laid_from n [] = []
+laid_from n (row ∷ rows) = laid row n ∷ laid_from (n + row_length row.bounds) rows
+
+abbrev pub row_names : List Row → List (List ℕ)
+row_names rows = map (λ (row : Row). row.name) rows
+
+-- what the code knows of arrays is that of these, in order, behind so many variables
+pub record AreArrays (variables : ℕ) (rows : List Row) (arrays : Arrays) : Type 0 where
+  pub names_are : arrays.names ≡ row_names rows
+  pub laid_are : arrays.laid.items ≡ laid_from variables rows
+  pub end_is : arrays.end ≡ variables + row_cells rows
+
 -- names and blocks are those of instances, in order
 pub record AreInstances (list : List Instance) (instances : Instances) : Type 0 where
   pub names_are : instances.names ≡ map (λ (i : Instance). i.name) list
   pub blocks_are : instances.blocks.items ≡ map (λ (i : Instance). i.of) list
 
+-- how many cells the globals have: one for each variable, and one for each element of an array
+abbrev pub scope_globals : Scope → ℕ
+scope_globals scope = scope.globals.now.arrays.end
+
 -- the number of the variable of a name, where the globals have the first numbers and the routine's own variables those after them
 abbrev pub scope_variable : Scope → List ℕ → ℕ
-scope_variable scope name = unwrap_or (own_or_global (length scope.globals.now.names) (find_name scope.own.now.names name) (find_name scope.globals.now.names name)) 0
+scope_variable scope name = unwrap_or (own_or_global (scope_globals scope) (find_name scope.own.now.names name) (find_name scope.globals.now.names name)) 0
 
 -- the kind of the variable of a name
 abbrev pub scope_kind : Scope → List ℕ → Kind
 scope_kind scope name = unwrap_or (or_other (kind_among scope.own.now name) (kind_among scope.globals.now name)) kind.Bool
+
+-- the number of the array of a name, that of its first element: the global arrays follow the global variables, and the routine's own arrays its own variables
+abbrev pub scope_array : Scope → List ℕ → ℕ
+scope_array scope name =
+    unwrap_or (own_or_global (scope_globals scope) (first_among scope.own.now.arrays name) (first_among scope.globals.now.arrays name)) 0
+
+-- the array of a name: one of the routine's own hides a global one
+abbrev pub array_in : Scope → List ℕ → Option Laid
+array_in scope name = or_other (array_among scope.own.now.arrays name) (array_among scope.globals.now.arrays name)
+
+-- the kind of its elements, and its bounds
+abbrev pub scope_element_kind : Scope → List ℕ → Kind
+scope_element_kind scope name = option_map_or (λ (l : Laid). l.kind) (array_in scope name) kind.Bool
+
+abbrev pub scope_bounds : Scope → List ℕ → Bounds
+scope_bounds scope name = option_map_or (λ (l : Laid). l.bounds) (array_in scope name) (record { low = pos 0; high = pos 0 })
 
 -- the number of the instance of a name
 abbrev pub scope_instance : Scope → List ℕ → ℕ
@@ -119,13 +171,13 @@ scope_output_kind scope instance name = output_kind_by scope.members.now (block_
 
 -- the kinds of the names
 abbrev pub scope_kinds : Scope → KindsOf (List ℕ)
-scope_kinds scope = record { variable = scope_kind scope; output = scope_output_kind scope; element = element_kind_named; bounds = bounds_named }
+scope_kinds scope = record { variable = scope_kind scope; output = scope_output_kind scope; element = scope_element_kind scope; bounds = scope_bounds scope }
 
 -- the numbers in the places of the names
 abbrev pub mapping_of : Scope → Mapping (List ℕ) ℕ
 mapping_of scope = record {
   variable = scope_variable scope;
-  array = λ name. unwrap_or (array_number name) 0;
+  array = scope_array scope;
   instance = scope_instance scope;
   input_name = scope_input scope;
   output_name = scope_output scope;
@@ -165,7 +217,9 @@ pub record AreMembers (blocks : List PlainRoutine) (members : List Variables) : 
 -- a scope is that of a routine of a source
 pub record IsScope (source : Source) (r : PlainRoutine) (scope : Scope) : Type 0 where
   pub globals_are : AreVariables (global_variables source.globals) scope.globals.now
+  pub global_arrays_are : AreArrays (length source.globals) source.rows scope.globals.now.arrays
   pub own_are : AreVariables (own_variables r.locals) scope.own.now
+  pub own_arrays_are : AreArrays (length r.locals) r.rows scope.own.now.arrays
   pub instances_are : AreInstances r.instances scope.instances.now
   pub members_are : AreMembers source.blocks scope.members.now
 

@@ -1,7 +1,7 @@
 -- A source whose values, standard blocks, statements and paths are few enough for the numbers that frames have of them.
 use Rattle.std.specs.Prelude.{◌≡◌, ◌<◌, ◌+◌, ◌^◌, ℕ, true, false, List, [], length, slice_get, Some}
 use Rattle.st_tree.specs.Numbers.{count_body}
-use Rattle.plant_logic.specs.Source.{PlainRoutine, Source}
+use Rattle.plant_logic.specs.Source.{PlainRoutine, Source, global_cells}
 use Rattle.plant_logic.specs.Layout.{values_rule, routine_values, clocks_rule, routine_clocks}
 use Rattle.plant_logic.specs.Paths.{paths_rule, type_paths}
 use Rattle.block_frames.specs.Reached.{Reaches}
@@ -17,8 +17,9 @@ pub record HasFewSteps (blocks : List PlainRoutine) (r : PlainRoutine) : Type 0 
   pub paths : length (paths_rule (type_paths blocks) r) < 2 ^ 32
   pub statements : 1 + count_body r.body < 2 ^ 32
 
--- a source is small: its globals have few initial values, and its programs and the block types that these reach have little, by instances of what an instance has, by calls of what runs
+-- a source is small: its globals have few cells and few initial values, and its programs and the block types that these reach have little, by instances of what an instance has, by calls of what runs
 pub record IsSmall (source : Source) : Type 0 where
+  pub globals : global_cells source < 2 ^ 32
   pub starts : 1 + count_body source.starts < 2 ^ 32
   pub program_cells : (k : ℕ) (p : PlainRoutine) → slice_get source.programs k ≡ Some p → HasFewCells source.blocks p
   pub program_steps : (k : ℕ) (p : PlainRoutine) → slice_get source.programs k ≡ Some p → HasFewSteps source.blocks p

@@ -4,11 +4,11 @@ ghost use Rattle.std.specs.Prelude.{◌≡◌, ◌<◌, ◌+◌, ◌^◌, ℕ, t
 ghost use Rattle.std.specs.List.{All};
 ghost use Rattle.st_tree.specs.Numbers.{count_body};
 ghost use Rattle.st_tree.specs.View.{view_body};
-ghost use Rattle.plant_logic.specs.Source.{Source, view_routine, source_of};
+ghost use Rattle.plant_logic.specs.Source.{Source, own_cells, global_cells, view_routine, source_of};
 ghost use Rattle.plant_logic.specs.Paths.{is_called};
 ghost use Rattle.plant_logic.specs.Blocks.{AreBelow, DeclaresThere, HasItsTypes};
 ghost use Rattle.plant_logic.specs.Layout.{AreNamedApart, IsDistinctlyNamed};
-ghost use Rattle.block_frames.specs.Scoped.{AreInstances, AreMembers, AreVariables, IsNumberedIn, own_variables};
+ghost use Rattle.block_frames.specs.Scoped.{AreArrays, AreInstances, AreMembers, AreVariables, IsNumberedIn, own_variables};
 ghost use Rattle.block_frames.specs.Reached.{flagged};
 ghost use Rattle.block_frames.specs.Small.{IsSmall};
 ghost use Rattle.block_frames.specs.Frames.{framed, IsBlank, IsFrames, IsStart};
@@ -16,14 +16,15 @@ ghost use Rattle.block_seats.specs.Seats.{Fits, seats_by, ends_by};
 ghost use Rattle.block_frames.specs.Built.{first_of, AreOf, IsMeasured, IsSized, IsFitting, AllMade, AllBuilt, AllBegun, IsStartIn};
 
 use crate::names::{
-    Variables, global_variables, instances_of, no_instances, no_variables, own_variables,
+    Variables, global_variables, instances_of, member_variables, no_instances, no_variables,
+    own_variables,
 };
 use crate::reached::{flagged, reached};
 use crate::resolve::resolve_body;
 use crate::scope::Scope;
 use block_seats::{Callee, Extent, called_in, has_starts, seats_by};
 use block_walk::{Frame, Seat};
-use plant_logic::{Logic, Routine, block_type_has_clocks, block_type_has_values};
+use plant_logic::{Logic, Routine, block_type_has_clocks, block_type_has_values, row_cells};
 use plant_types::Text;
 use st_tree::Stmt;
 use std::alloc::{AllocError, Global};
@@ -42,7 +43,7 @@ fn members_of(alloc: Global, blocks: &[Routine]) -> Result<Vec<Variables>, Alloc
 {
     let mut members = Vec::new(alloc);
     for block in blocks {
-        members.push(own_variables(alloc, &block.locals)?)?;
+        members.push(member_variables(alloc, &block.locals)?)?;
     }
     Ok(members)
 }
@@ -76,13 +77,14 @@ fn seats_of(
     routine: &Routine,
     is_run: bool,
 ) -> Result<(Vec<Seat>, Extent), AllocError>
-    requires { Fits (ends_by table.now (is_called (framed is_run (view_routine routine.now))) (first_of (view_routine routine.now)) (view_routine routine.now).instances) }
+    requires own { own_cells (view_routine routine.now) < 2 ^ 32 }
+    requires seats { Fits (ends_by table.now (is_called (framed is_run (view_routine routine.now))) (first_of (view_routine routine.now)) (view_routine routine.now).instances) }
     ensures seats { IfOk result (λ made. made.0.items ≡ seats_by table.now (is_called (framed is_run (view_routine routine.now))) (first_of (view_routine routine.now)) (view_routine routine.now).instances) }
     ensures end { IfOk result (λ made. made.1 ≡ ends_by table.now (is_called (framed is_run (view_routine routine.now))) (first_of (view_routine routine.now)) (view_routine routine.now).instances) }
 {
     let called = called_in(alloc, statements_of(routine, is_run))?;
     let first = Extent {
-        values: routine.locals.len(),
+        values: routine.locals.len() + row_cells(&routine.rows),
         clocks: 0,
         paths: 1,
     };
@@ -98,6 +100,7 @@ fn frame_in(
     is_run: bool,
 ) -> Result<(Frame, Extent), AllocError>
     requires own { AreVariables (own_variables (view_routine routine.now).locals) scope.now.own.now }
+    requires arrays { AreArrays (length (view_routine routine.now).locals) (view_routine routine.now).rows scope.now.own.now.arrays }
     requires instances { AreInstances (view_routine routine.now).instances scope.now.instances.now }
     requires fitting { IsFitting table.now (framed is_run (view_routine routine.now)) }
     ensures few { IfOk result (λ made. made.1.paths < 2 ^ 32) }
@@ -132,7 +135,7 @@ fn frame_of(
     ensures few { IfOk result (λ made. made.1.paths < 2 ^ 32) }
     ensures made { IfOk result (λ made. AllMade globals.now members.now table.now (framed is_run (view_routine routine.now)) made.0 made.1) }
 {
-    let own = own_variables(alloc, &routine.locals)?;
+    let own = own_variables(alloc, &routine.locals, &routine.rows)?;
     let instances = instances_of(alloc, &routine.instances)?;
     let scope = Scope {
         globals,
@@ -245,12 +248,13 @@ fn add_programs(
     Ok(())
 }
 
-/// The variables of a source: the globals, and those of each block type. Fails if allocation fails.
+/// The variables of a source: the globals, with the global arrays, and those of each block type. Fails if allocation fails.
 fn variables_of(alloc: Global, logic: &Logic) -> Result<(Variables, Vec<Variables>), AllocError>
-    requires { IsDistinctlyNamed (source_of logic.now) }
+    requires named { IsDistinctlyNamed (source_of logic.now) }
+    requires few { global_cells (source_of logic.now) < 2 ^ 32 }
     ensures { IfOk result (λ known. AreOf (source_of logic.now) known.0 known.1.items) }
 {
-    let globals = global_variables(alloc, &logic.globals)?;
+    let globals = global_variables(alloc, &logic.globals, &logic.rows)?;
     Ok((globals, members_of(alloc, logic.blocks.as_slice())?))
 }
 
@@ -336,6 +340,7 @@ fn start_by(
 /// The frame of the globals' initial values, as `block_walk` assigns them. Fails if allocation fails.
 pub fn start_of(alloc: Global, logic: &Logic) -> Result<Frame, AllocError>
     requires named { IsDistinctlyNamed (source_of logic.now) }
+    requires cells { global_cells (source_of logic.now) < 2 ^ 32 }
     requires few { 1 + count_body (source_of logic.now).starts < 2 ^ 32 }
     ensures { IfOk result (IsStart (source_of logic.now)) }
 {

@@ -1,25 +1,69 @@
-//! The names of variables and of instances, which are found without a look at each.
+//! The names of variables, of arrays and of instances, which are found without a look at each.
 
-ghost use Rattle.std.specs.Prelude.{◌≡◌, [], false, map, IfOk, IfSome, ◌<◌, length};
+ghost use Rattle.std.specs.Prelude.{◌≡◌, [], false, map, IfOk, IfSome, ◌<◌, ◌+◌, ◌^◌, length};
 ghost use Rattle.st_names.specs.Taken.{repeats};
 ghost use Rattle.word_index.specs.Names.{find_name};
-ghost use Rattle.plant_logic.specs.Names.{global_words, own_words, instance_words};
-ghost use Rattle.block_frames.specs.Scoped.{kind_among, block_among, local_names, local_kinds, global_names, global_kinds, own_variables, global_variables, AreVariables, AreInstances};
+ghost use Rattle.plant_logic.specs.Names.{global_words, own_words, row_words, instance_words};
+ghost use Rattle.plant_logic.specs.Source.{row_cells};
+ghost use Rattle.block_frames.specs.Scoped.{kind_among, array_among, block_among, row_names, laid_from, local_names, local_kinds, global_names, global_kinds, own_variables, global_variables, AreVariables, AreArrays, AreInstances};
 
-use plant_logic::{BlockRef, Instance, Local, Variable};
-use plant_types::Kind;
+use plant_logic::{BlockRef, Instance, Local, Row, Variable};
+use plant_types::{Bounds, Kind};
 use std::alloc::{AllocError, Global};
 use word_index::Names;
 
-/// Names of variables as declared, and the kind of each.
+/// An array, as bodies are numbered by it.
+#[derive(Clone, Copy, Drop)]
+pub struct Laid {
+    /// That of each element.
+    pub kind: Kind,
+    pub bounds: Bounds,
+    /// The number of its first element, counted from the first of the variables that it stands behind.
+    pub first: u32,
+}
+
+/// Names of arrays as declared, what is known of each, and the number at which the last one ends.
+pub struct Arrays {
+    pub names: Names,
+    pub laid: Vec<Laid>,
+    pub end: u32,
+}
+
+impl Drop for Arrays {
+    fn drop(self) {
+        let Arrays {
+            names: _,
+            laid: _,
+            end: _,
+        } = self;
+    }
+}
+
+impl Arrays {
+    /// The array of a name, in any letter case; `None` if there is none. It takes no memory.
+    pub fn find(&self, name: &str) -> Option<Laid>
+        ensures { result ≡ array_among self.now name.now }
+    {
+        let number = self.names.find(name)?;
+        self.laid.get(number).copied()
+    }
+}
+
+/// Names of variables as declared, and the kind of each; and the arrays that stand behind them. Arrays can't be seen from outside a block, so
+/// the members of a block type have none.
 pub struct Variables {
     pub names: Names,
     pub kinds: Vec<Kind>,
+    pub arrays: Arrays,
 }
 
 impl Drop for Variables {
     fn drop(self) {
-        let Variables { names: _, kinds: _ } = self;
+        let Variables {
+            names: _,
+            kinds: _,
+            arrays: _,
+        } = self;
     }
 }
 
@@ -81,24 +125,102 @@ fn kinds_of_locals(alloc: Global, locals: &[Local]) -> Result<Vec<Kind>, AllocEr
     Ok(kinds)
 }
 
-/// A routine's own variables, of which no two have one name. Fails if allocation fails.
-pub fn own_variables(alloc: Global, locals: &[Local]) -> Result<Variables, AllocError>
+/// The names of arrays, of which no two are the same word. Fails if allocation fails.
+fn names_of_rows(alloc: Global, rows: &[Row]) -> Result<Names, AllocError>
+    requires { repeats (row_words rows.now) ≡ false }
+    ensures { IfOk result (λ names. names ≡ row_names rows.now) }
+{
+    let mut names = Names::new(alloc);
+    for row in rows {
+        let _is_new = names.add(alloc, row.name.as_str())?;
+    }
+    Ok(names)
+}
+
+/// Arrays one after another, in order, from a number on, and the number at which the last one ends, which is one of 32 bits. Fails if
+/// allocation fails.
+fn laid_of(alloc: Global, from: u32, rows: &[Row]) -> Result<(Vec<Laid>, u32), AllocError>
+    requires { from + row_cells rows.now < 2 ^ 32 }
+    ensures laid { IfOk result (λ made. made.0.items ≡ laid_from from rows.now) }
+    ensures end { IfOk result (λ made. made.1 ≡ from + row_cells rows.now) }
+{
+    let mut laid = Vec::new(alloc);
+    let mut first = from;
+    for row in rows {
+        laid.push(Laid {
+            kind: row.kind,
+            bounds: row.bounds,
+            first,
+        })?;
+        let next = first as usize + row.elements();
+        first = next as u32;
+    }
+    Ok((laid, first))
+}
+
+/// Arrays behind so many variables. No two of the arrays have one name, and together they have few cells. Fails if allocation fails.
+fn arrays_of(alloc: Global, variables: usize, rows: &[Row]) -> Result<Arrays, AllocError>
+    requires apart { repeats (row_words rows.now) ≡ false }
+    requires few { variables + row_cells rows.now < 2 ^ 32 }
+    ensures { IfOk result (AreArrays variables rows.now) }
+{
+    let names = names_of_rows(alloc, rows)?;
+    let (laid, end) = laid_of(alloc, variables as u32, rows)?;
+    Ok(Arrays { names, laid, end })
+}
+
+/// No arrays, behind no variables.
+fn no_arrays(alloc: Global) -> Arrays
+    ensures { AreArrays 0 [] result }
+{
+    Arrays {
+        names: Names::new(alloc),
+        laid: Vec::new(alloc),
+        end: 0,
+    }
+}
+
+/// A block type's variables, of which no two have one name, as they are seen from outside: its arrays aren't. Fails if allocation fails.
+pub fn member_variables(alloc: Global, locals: &[Local]) -> Result<Variables, AllocError>
     requires { repeats (own_words locals.now) ≡ false }
     ensures { IfOk result (AreVariables (own_variables locals.now)) }
 {
     Ok(Variables {
         names: names_of_locals(alloc, locals)?,
         kinds: kinds_of_locals(alloc, locals)?,
+        arrays: no_arrays(alloc),
     })
 }
 
-/// No variables.
+/// A routine's own variables, and behind them its own arrays. No two of either have one name, and together they have few cells. Fails if
+/// allocation fails.
+pub fn own_variables(
+    alloc: Global,
+    locals: &[Local],
+    rows: &[Row],
+) -> Result<Variables, AllocError>
+    requires locals { repeats (own_words locals.now) ≡ false }
+    requires rows { repeats (row_words rows.now) ≡ false }
+    requires few { length locals.now + row_cells rows.now < 2 ^ 32 }
+    ensures variables { IfOk result (AreVariables (own_variables locals.now)) }
+    ensures arrays { IfOk result (λ variables. AreArrays (length locals.now) rows.now variables.arrays) }
+{
+    Ok(Variables {
+        names: names_of_locals(alloc, locals)?,
+        kinds: kinds_of_locals(alloc, locals)?,
+        arrays: arrays_of(alloc, locals.len(), rows)?,
+    })
+}
+
+/// No variables and no arrays.
 pub fn no_variables(alloc: Global) -> Variables
-    ensures { AreVariables (own_variables []) result }
+    ensures variables { AreVariables (own_variables []) result }
+    ensures arrays { AreArrays 0 [] result.arrays }
 {
     Variables {
         names: Names::new(alloc),
         kinds: Vec::new(alloc),
+        arrays: no_arrays(alloc),
     }
 }
 
@@ -125,14 +247,23 @@ fn kinds_of_globals(alloc: Global, globals: &[Variable]) -> Result<Vec<Kind>, Al
     Ok(kinds)
 }
 
-/// The globals, of which no two have one name. Fails if allocation fails.
-pub fn global_variables(alloc: Global, globals: &[Variable]) -> Result<Variables, AllocError>
-    requires { repeats (global_words globals.now) ≡ false }
-    ensures { IfOk result (AreVariables (global_variables globals.now)) }
+/// The globals, and behind them the global arrays. No two of either have one name, and together they have few cells. Fails if allocation
+/// fails.
+pub fn global_variables(
+    alloc: Global,
+    globals: &[Variable],
+    rows: &[Row],
+) -> Result<Variables, AllocError>
+    requires globals { repeats (global_words globals.now) ≡ false }
+    requires rows { repeats (row_words rows.now) ≡ false }
+    requires few { length globals.now + row_cells rows.now < 2 ^ 32 }
+    ensures variables { IfOk result (AreVariables (global_variables globals.now)) }
+    ensures arrays { IfOk result (λ variables. AreArrays (length globals.now) rows.now variables.arrays) }
 {
     Ok(Variables {
         names: names_of_globals(alloc, globals)?,
         kinds: kinds_of_globals(alloc, globals)?,
+        arrays: arrays_of(alloc, globals.len(), rows)?,
     })
 }
 

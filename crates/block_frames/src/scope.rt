@@ -1,15 +1,15 @@
 //! What stands behind the names in a routine.
 
-ghost use Rattle.std.specs.Prelude.{◌≡◌};
+ghost use Rattle.std.specs.Prelude.{◌≡◌, ◌<◌, ◌^◌};
 ghost use Rattle.plant_logic.specs.Seats.{timer_number};
 ghost use Rattle.block_frames.specs.Numbers.{timer_shows};
-ghost use Rattle.block_frames.specs.Scoped.{mapping_of, scope_kinds, scope_variable, scope_kind, scope_instance, own_number, own_kind_of, input_among, output_among, output_kind_by, scope_input, scope_output, scope_output_kind};
+ghost use Rattle.block_frames.specs.Scoped.{mapping_of, scope_kinds, scope_globals, array_in, scope_variable, scope_kind, scope_instance, own_number, own_kind_of, input_among, output_among, output_kind_by, scope_input, scope_output, scope_output_kind};
 
-use crate::names::{Instances, Variables};
+use crate::names::{Instances, Laid, Variables};
 use plant_logic::BlockRef;
 use plant_types::{Bounds, Kind, same_word};
 
-/// The names that a routine may use: the globals, its own variables and its instances, and the variables of each block type by number.
+/// The names that a routine may use: the globals, its own variables, the arrays of both, its instances, and the variables of each block type by number.
 #[derive(Drop)]
 pub struct Scope<'a> {
     pub globals: &'a Variables,
@@ -115,12 +115,20 @@ fn output_kind_by(members: &[Variables], block: Option<BlockRef>, name: &str) ->
 }
 
 impl<'a> Scope<'a> {
+    /// How many cells the globals have: one for each variable, and one for each element of an array.
+    fn global_cells(&self) -> usize
+        ensures count { result ≡ scope_globals self.now }
+        ensures small { result < 2 ^ 32 }
+    {
+        self.globals.arrays.end as usize
+    }
+
     /// The number of the variable of a name, in any letter case: the globals have the first numbers, and the routine's own variables those
     /// after them. One of its own hides a global.
     pub fn variable(&self, name: &str) -> usize
         ensures { result ≡ scope_variable self.now name.now }
     {
-        let count = self.globals.names.len();
+        let count = self.global_cells();
         let _small = self.own.names.len();
         match self.own.names.find(name) {
             Some(number) => count + number,
@@ -138,25 +146,48 @@ impl<'a> Scope<'a> {
         }
     }
 
-    /// The number of the array of a name, that of its first element. No routine has an array.
-    pub fn array(&self, _name: &str) -> usize
-        ensures { result ≡ (mapping_of self.now).array _name.now }
+    /// The array of a name, in any letter case: one of the routine's own hides a global one.
+    fn array_named(&self, name: &str) -> Option<Laid>
+        ensures { result ≡ array_in self.now name.now }
     {
-        0
+        match self.own.arrays.find(name) {
+            Some(array) => Some(array),
+            None => self.globals.arrays.find(name),
+        }
+    }
+
+    /// The number of the array of a name, that of its first element: the global arrays follow the global variables, and the routine's own
+    /// arrays its own variables.
+    pub fn array(&self, name: &str) -> usize
+        ensures { result ≡ (mapping_of self.now).array name.now }
+    {
+        match self.own.arrays.find(name) {
+            Some(array) => self.global_cells() + array.first as usize,
+            None => match self.globals.arrays.find(name) {
+                Some(array) => array.first as usize,
+                None => 0,
+            },
+        }
     }
 
     /// The declared bounds of the array of a name.
-    pub fn bounds(&self, _name: &str) -> Bounds
-        ensures { result ≡ (scope_kinds self.now).bounds _name.now }
+    pub fn bounds(&self, name: &str) -> Bounds
+        ensures { result ≡ (scope_kinds self.now).bounds name.now }
     {
-        Bounds { low: 0, high: 0 }
+        match self.array_named(name) {
+            Some(array) => array.bounds,
+            None => Bounds { low: 0, high: 0 },
+        }
     }
 
     /// The kind of an array's elements.
-    pub fn element_kind(&self, _name: &str) -> Kind
-        ensures { result ≡ (scope_kinds self.now).element _name.now }
+    pub fn element_kind(&self, name: &str) -> Kind
+        ensures { result ≡ (scope_kinds self.now).element name.now }
     {
-        Kind::Bool
+        match self.array_named(name) {
+            Some(array) => array.kind,
+            None => Kind::Bool,
+        }
     }
 
     /// The number of the instance of a name.

@@ -209,6 +209,7 @@ module _ (t : Texts) where
         type_refused has type_fault.Turns is other = (fault.Limit limit.Turns, over type_fault.Turns has is, λ e. cc e)
         type_refused has type_fault.BlockDepth is other = (fault.Limit limit.BlockDepth, over type_fault.BlockDepth has is, λ e. cc e)
         type_refused has type_fault.Programs is other = (fault.Limit limit.Programs, over type_fault.Programs has is, λ e. cc e)
+        type_refused has type_fault.Elements is other = (fault.Limit limit.Elements, over type_fault.Elements has is, λ e. cc e)
 
         well_formed : HasUnits t file epoch units → IsWellFormed t file epoch units ⊎ Stops
         well_formed has =

@@ -87,6 +87,7 @@ module _ (t : Texts) where
   type_refusal units type_fault.Turns = fault.Limit limit.Turns
   type_refusal units type_fault.BlockDepth = fault.Limit limit.BlockDepth
   type_refusal units type_fault.Programs = fault.Limit limit.Programs
+  type_refusal units type_fault.Elements = fault.Limit limit.Elements
 
   -- the refusals of each stage
   abbrev pub AtFile : ConfigFault → Type 0
@@ -178,6 +179,7 @@ module _ (t : Texts) where
   staged (fault.Limit limit.Turns) is = inr (at_types _ is.file is.epoch is.units is.has_units type_fault.Turns is.is_fault (λ e. cc e) refl)
   staged (fault.Limit limit.BlockDepth) is = inr (at_types _ is.file is.epoch is.units is.has_units type_fault.BlockDepth is.is_fault (λ e. cc e) refl)
   staged (fault.Limit limit.Programs) is = inr (at_types _ is.file is.epoch is.units is.has_units type_fault.Programs is.is_fault (λ e. cc e) refl)
+  staged (fault.Limit limit.Elements) is = inr (at_types _ is.file is.epoch is.units is.has_units type_fault.Elements is.is_fault (λ e. cc e) refl)
   staged (fault.Limit limit.Slots) is = inr (at_size _ limit_fault.Slots (λ e. cc e) refl is)
   staged (fault.Limit limit.Size) is = inr (at_size _ limit_fault.Size (λ e. cc e) refl is)
   staged (fault.Limit limit.Cost) is = inr (at_size _ limit_fault.Cost (λ e. cc e) refl is)

@@ -108,6 +108,7 @@ abbrev pub IsLimitOf : Texts → Limit → Type 0
 IsLimitOf t limit.Turns = IsMistyped t type_fault.Turns
 IsLimitOf t limit.BlockDepth = IsMistyped t type_fault.BlockDepth
 IsLimitOf t limit.Programs = IsMistyped t type_fault.Programs
+IsLimitOf t limit.Elements = IsMistyped t type_fault.Elements
 IsLimitOf t limit.Slots = IsTooLarge t limit_fault.Slots
 IsLimitOf t limit.Size = IsTooLarge t limit_fault.Size
 IsLimitOf t limit.Cost = IsTooLarge t limit_fault.Cost

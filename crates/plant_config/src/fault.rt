@@ -31,7 +31,9 @@ pub enum Limit {
     BlockDepth,
     /// More than 512 programs.
     Programs,
-    /// More than 65,536 slots: variables, inputs of standard blocks and standard blocks, in each instance anew.
+    /// An array of more than 4,096 elements.
+    Elements,
+    /// More than 65,536 slots: variables, elements of arrays, inputs of standard blocks and standard blocks, in each instance anew.
     Slots,
     /// Programs that together are larger than 1,000,000.
     Size,
@@ -155,6 +157,7 @@ impl Limit {
             Limit::Turns => "TURNS",
             Limit::BlockDepth => "BLOCK_DEPTH",
             Limit::Programs => "PROGRAMS",
+            Limit::Elements => "ELEMENTS",
             Limit::Slots => "SLOTS",
             Limit::Size => "SIZE",
             Limit::Cost => "COST",

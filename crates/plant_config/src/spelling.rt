@@ -117,6 +117,7 @@ fn mistyped(alloc: Global, handed: &Handed<'_>, units: &[Unit], fault: TypeFault
         TypeFault::Turns => ConfigFault::Limit(Limit::Turns),
         TypeFault::BlockDepth => ConfigFault::Limit(Limit::BlockDepth),
         TypeFault::Programs => ConfigFault::Limit(Limit::Programs),
+        TypeFault::Elements => ConfigFault::Limit(Limit::Elements),
     }
 }
 

@@ -1,5 +1,5 @@
 -- What worked examples count.
-use Rattle.std.proofs.Common.{◌≡◌, ap, sym, ℕ, pos, List, [], ◌∷◌, ◌+◌, ◌*◌, None, refl}
+use Rattle.std.proofs.Common.{◌≡◌, ap, sym, ℕ, ℤ, pos, negsuc, List, [], ◌∷◌, ◌+◌, ◌*◌, None, refl}
 use Rattle.std.specs.Prelude.{codes}
 use Rattle.plant_types.specs.declared.values.Kind.TheVariants.{Dint}
 use Rattle.st_tree.specs.declared.tree.Literal.TheVariants.{Integer}
@@ -8,6 +8,7 @@ use Rattle.st_tree.specs.Plain.{literal, read, binary, output, PlainExpr, assign
 use Rattle.st_tree.proofs.Counting.{turns_up}
 use Rattle.st_typing.specs.Constants.{for_turns}
 use Rattle.plant_logic.specs.declared.logic.Local.{Local}
+use Rattle.plant_logic.specs.declared.logic.Row.{Row}
 use Rattle.plant_logic.specs.declared.logic.Instance.{Instance}
 use Rattle.plant_logic.specs.declared.logic.BlockRef.TheVariants.{Ton, RTrig, Declared}
 use Rattle.plant_logic.specs.Source.{PlainRoutine, Source}
@@ -20,11 +21,11 @@ dint name = record { name = name; kind = Dint }
 
 -- a program of a body, with locals i, j and n
 abbrev program_of : PlainBody (List ℕ) → PlainRoutine
-program_of body = record { name = codes "p"; locals = dint (codes "i") ∷ dint (codes "j") ∷ dint (codes "n") ∷ []; instances = []; starts = done; body = body }
+program_of body = record { name = codes "p"; locals = dint (codes "i") ∷ dint (codes "j") ∷ dint (codes "n") ∷ []; rows = []; instances = []; starts = done; body = body }
 
 -- a source of one program, without block types
 abbrev source_of_one : PlainRoutine → Source
-source_of_one p = record { globals = []; starts = done; programs = p ∷ []; blocks = [] }
+source_of_one p = record { globals = []; rows = []; starts = done; programs = p ∷ []; blocks = [] }
 
 abbrev integer : ℕ → PlainExpr (List ℕ)
 integer n = literal (Integer (pos n))
@@ -67,6 +68,7 @@ abbrev counter : PlainRoutine
 counter = record {
   name = codes "N";
   locals = dint (codes "m") ∷ dint (codes "n") ∷ [];
+  rows = [];
   instances = [];
   starts = done;
   body = next (assign 0 (codes "n") (binary Add (read (codes "n")) (integer 1))) (next (assign 0 (codes "m") (read (codes "n"))) done);
@@ -80,6 +82,7 @@ abbrev caller : PlainRoutine
 caller = record {
   name = codes "p";
   locals = dint (codes "y") ∷ [];
+  rows = [];
   instances = instance_of (codes "u") 0 ∷ instance_of (codes "v") 0 ∷ record { name = codes "t"; of = Ton } ∷ record { name = codes "r"; of = RTrig } ∷ [];
   starts = done;
   body = next (call 0 (codes "u") []) (next (call 0 (codes "U") []) (next (call 0 (codes "v") (output (codes "m") (codes "y") ∷ [])) done));
@@ -87,7 +90,7 @@ caller = record {
 
 -- the block type is there twice: nobody uses the second
 abbrev plant : Source
-plant = record { globals = []; starts = done; programs = caller ∷ []; blocks = counter ∷ counter ∷ [] }
+plant = record { globals = []; rows = []; starts = done; programs = caller ∷ []; blocks = counter ∷ counter ∷ [] }
 
 -- the block's body costs 6, each call 1, and the output 1
 calls_cost : program_costs plant ≡ 22 ∷ []
@@ -99,3 +102,21 @@ calls_size = refl
 -- y, the two variables of u, those of v, 3 for the TON and 2 for the R_TRIG
 plant_slots : slot_count plant ≡ 10
 plant_slots = refl
+
+-- an array of the elements w[low] to w[high]
+abbrev row : ℤ → ℤ → Row
+row low high = record { name = codes "w"; kind = Dint; bounds = record { low = low; high = high } }
+
+-- the same with a global array w[-1] to w[2], an own array w[5] to w[5] of the block type, which is there twice, and one of the program from w[0] to w[99]
+abbrev with_rows : Source
+with_rows = record {
+  globals = [];
+  rows = row (negsuc 0) (pos 2) ∷ [];
+  starts = done;
+  programs = record caller { rows = row (pos 0) (pos 99) ∷ [] } ∷ [];
+  blocks = record counter { rows = row (pos 5) (pos 5) ∷ [] } ∷ counter ∷ [];
+}
+
+-- 4 elements, 1 in each of u and v, and 100
+row_slots : slot_count with_rows ≡ 10 + 4 + 2 * 1 + 100
+row_slots = refl

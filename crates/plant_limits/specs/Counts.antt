@@ -18,7 +18,7 @@ instance_slots slots block.Tof = 3
 instance_slots slots block.RTrig = 2
 instance_slots slots (block.Declared n) = slots n
 
--- a routine has its own variables as slots, and those of each of its instances
+-- a routine has its own variables and the elements of its own arrays as slots, and those of each of its instances
 abbrev pub routine_slots : (ℕ → ℕ) → PlainRoutine → ℕ
 routine_slots slots r = own_cells r + sum_by (λ (i : Instance). instance_slots slots i.of) r.instances
 
@@ -51,7 +51,7 @@ type_size blocks n = by_type 0 routine_size blocks n
 abbrev pub type_cost : List PlainRoutine → ℕ → ℕ
 type_cost blocks n = by_type 0 routine_cost blocks n
 
--- the slots of a source: its globals and those of its programs
+-- the slots of a source: its globals, the elements of its global arrays, and those of its programs
 abbrev pub slot_count : Source → ℕ
 slot_count source = global_cells source + sum_by (routine_slots (type_slots source.blocks)) source.programs
 

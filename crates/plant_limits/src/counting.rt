@@ -1,7 +1,7 @@
 //! What routines count: each block type once, after those that it declares.
 
 ghost use Rattle.std.specs.Prelude.{◌≡◌, min, map, length, IfOk};
-ghost use Rattle.plant_logic.specs.Source.{view_routine, source_of};
+ghost use Rattle.plant_logic.specs.Source.{row_cells, view_routine, source_of};
 ghost use Rattle.plant_logic.specs.Blocks.{AreBelow};
 ghost use Rattle.plant_limits.specs.Counts.{instance_slots, routine_slots};
 ghost use Rattle.plant_limits.specs.Measures.{last_of, slots_at, weight_at, routine_weight, counts_by, routine_counts, AreNamed, AreCounted};
@@ -10,7 +10,7 @@ use crate::instances::{Instances, instances_of};
 use crate::measures::{Counts, LAST_SLOTS, Measure};
 use crate::stopping::{add, count};
 use crate::weighing::{Scale, weigh_body};
-use plant_logic::{BlockRef, Logic, Routine};
+use plant_logic::{BlockRef, Logic, Routine, Row};
 use std::alloc::{AllocError, Global};
 
 /// The slots of an instance of a block.
@@ -27,11 +27,23 @@ fn slots_of(table: &[Counts], block: BlockRef) -> u64
     }
 }
 
+/// The slots of arrays, up to the last number: one for each element.
+pub fn count_rows(rows: &[Row]) -> u64
+    ensures { result ≡ min (row_cells rows.now) 65537 }
+{
+    let mut total = 0;
+    for row in rows {
+        total = add(LAST_SLOTS, total, count(LAST_SLOTS, row.elements()));
+    }
+    total
+}
+
 /// The slots of a routine, up to the last number.
 fn count_slots(table: &[Counts], routine: &Routine) -> u64
     ensures { result ≡ min (routine_slots (slots_at table.now) (view_routine routine.now)) 65537 }
 {
-    let mut total = count(LAST_SLOTS, routine.locals.len());
+    let own = count(LAST_SLOTS, routine.locals.len());
+    let mut total = add(LAST_SLOTS, own, count_rows(&routine.rows));
     for instance in &routine.instances {
         total = add(LAST_SLOTS, total, slots_of(table, instance.of));
     }

@@ -7,7 +7,7 @@ use std::alloc::AllocError;
 pub enum LimitFault {
     /// Allocation failed.
     Memory,
-    /// C10: more than 65,536 slots: variables, inputs of standard blocks and standard blocks, in each instance anew.
+    /// C10: more than 65,536 slots: variables, elements of arrays, inputs of standard blocks and standard blocks, in each instance anew.
     Slots,
     /// C10: the programs together are larger than 1,000,000.
     Size,

@@ -2,23 +2,24 @@
 
 ghost use Rattle.std.specs.Prelude.{◌≡◌, ◌+◌, min, map, length, nat_lt, IfOk, MatchResult};
 ghost use Rattle.std.specs.List.{sum_by, list_any};
-ghost use Rattle.plant_logic.specs.Source.{source_of};
+ghost use Rattle.plant_logic.specs.Source.{row_cells, source_of};
 ghost use Rattle.plant_logic.specs.Blocks.{AreBelow};
 ghost use Rattle.plant_limits.specs.Counts.{program_costs};
 ghost use Rattle.plant_limits.specs.Limits.{KeepsLimits, IsLimitFault};
 
-use crate::counting::count_programs;
+use crate::counting::{count_programs, count_rows};
 use crate::fault::LimitFault;
 use crate::measures::{Counts, LAST_COST, LAST_SIZE, LAST_SLOTS};
 use crate::stopping::{add, count};
 use plant_logic::Logic;
 use std::alloc::{AllocError, Global};
 
-/// The slots of the globals and the programs, up to the last number.
+/// The slots of the globals, of the global arrays and of the programs, up to the last number.
 fn all_slots(logic: &Logic, programs: &[Counts]) -> u64
-    ensures { result ≡ min (length logic.now.globals.items + sum_by (λ program. program.slots) programs.now) 65537 }
+    ensures { result ≡ min (length logic.now.globals.items + row_cells logic.now.rows.items + sum_by (λ program. program.slots) programs.now) 65537 }
 {
-    let mut total = count(LAST_SLOTS, logic.globals.len());
+    let globals = count(LAST_SLOTS, logic.globals.len());
+    let mut total = add(LAST_SLOTS, globals, count_rows(&logic.rows));
     for program in programs {
         total = add(LAST_SLOTS, total, program.slots);
     }

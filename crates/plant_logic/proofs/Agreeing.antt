@@ -39,7 +39,7 @@ values_agree f g (i ∷ is) path agree =
     λ k. first k ++ rest k
 
 pub values_ask : AsksDeclared values_rule
-values_ask f g r agree = λ k path. own_values r.locals path ++ values_agree f g r.instances path (agree_declared f g r agree) k
+values_ask f g r agree = λ k path. own_values r path ++ values_agree f g r.instances path (agree_declared f g r agree) k
 
 -- kinds of values
 block_kinds_agree : (f g : ℕ → Path → List KindAt) (b : BlockRef) (path : Path) → ((n : ℕ) → b ≡ Declared n → f n ≡ g n) → block_kinds f b path ≡ block_kinds g b path
@@ -56,7 +56,7 @@ kinds_agree f g (i ∷ is) path agree =
     λ k. first k ++ rest k
 
 pub kinds_ask : AsksDeclared kinds_rule
-kinds_ask f g r agree = λ k path. own_kinds r.locals path ++ kinds_agree f g r.instances path (agree_declared f g r agree) k
+kinds_ask f g r agree = λ k path. own_kinds r path ++ kinds_agree f g r.instances path (agree_declared f g r agree) k
 
 -- standard blocks
 block_clocks_agree : (f g : ℕ → Path → List ClockAt) (b : BlockRef) (path : Path) → ((n : ℕ) → b ≡ Declared n → f n ≡ g n) → block_clocks f b path ≡ block_clocks g b path

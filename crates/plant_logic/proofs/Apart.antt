@@ -155,4 +155,4 @@ blocks_apart units e =
 
 -- no two blocks of well-formed units have one name
 pub typed_blocks_apart : (units : List PlainUnit) → AreTyped units → repeats (map pou_word (block_pous (pous_of units))) ≡ false
-typed_blocks_apart units typed = blocks_apart units typed.are_shallow.are_short.constant.are_apart.kinded.named.names
+typed_blocks_apart units typed = blocks_apart units typed.are_few.are_shallow.are_short.constant.are_apart.kinded.named.names

@@ -30,7 +30,7 @@ use Rattle.st_names.specs.Scopes.{or_other, is_external, variable_kind, output_k
 use Rattle.st_names.specs.Shared.{global, pou, shared_by, shared_in, find_shared, as_global, global_named}
 use Rattle.st_names.specs.Taken.{or_place, repeats}
 use Rattle.st_typing.specs.Faults.{AreTyped}
-use Rattle.st_typing.specs.Kinds.{context_of, initial_fits, instance_fits, sort_fits, declared_fits, is_global, pou_misfit}
+use Rattle.st_typing.specs.Kinds.{context_of, initial_fits, instance_fits, array_stands, sort_fits, declared_fits, is_global, pou_misfit}
 use Rattle.plant_logic.specs.declared.logic.Instance.{Instance}
 use Rattle.plant_logic.specs.declared.logic.BlockRef.{BlockRef}
 use Rattle.plant_logic.specs.declared.logic.BlockRef.TheVariants.{Ton, Tof, RTrig, Declared}
@@ -43,7 +43,7 @@ use Rattle.plant_logic.specs.Worlds.{Path, World, words_of, routine_space, left_
 use Rattle.plant_logic.specs.Ranges.{KindAt, own_kinds, block_kinds, instance_kinds, kinds_rule, routine_kinds, all_kinds, AllInRange}
 use Rattle.plant_logic.proofs.Agreeing.{among_at}
 use Rattle.plant_logic.proofs.Apart.{none_if, none_or, shared_word, words_apart}
-use Rattle.plant_logic.proofs.Fitting.{freely}
+use Rattle.plant_logic.proofs.Fitting.{assigning}
 use Rattle.plant_logic.proofs.KindPaths.{Within, left_within, right_within, program_home, type_kinds}
 use Rattle.plant_logic.proofs.Scopes.{IsScope, routine_scope, globals_scope}
 use Rattle.plant_logic.proofs.Belows.{among_left, among_flat, flat_among}
@@ -86,10 +86,11 @@ module _ (units : List PlainUnit) (own : List PlainDeclared) where
   sort_start d (sort.Kind k) e is h =
       variable_start (is_external d.section) (is_kind k (scopes.global_kind units d.name)) k e
       (ap (λ o. if is_external d.section then is_none o && is_kind k (scopes.global_kind units d.name) else initial_fits units own (Some k) o) (sym is) ∙ h)
+  sort_start d (sort.Array bounds k) e is h = (let none = (and_parts (is_none d.initial) (array_stands units d.name bounds k d.section) h).0 in let some : is_none d.initial ≡ false = ap is_none is in absurd (cc))
   sort_start d (sort.Block word) e is h = instance_none d.section e (ap (instance_fits d.section) (sym is) ∙ h)
 
   abbrev free : Context (List ℕ)
-  free = freely (context_of units own)
+  free = assigning (context_of units own)
 
   one_fits : (d : PlainDeclared) (o : Option (PlainExpr (List ℕ))) (rest : List (PlainStmt (List ℕ))) → d.initial ≡ o → IsStarted units own d → all_fit free (listed rest) ≡ true → all_fit free (listed (start_by d.name o ++ rest)) ≡ true
   one_fits d None rest is started more = more
@@ -184,11 +185,11 @@ module _ (units : List PlainUnit) (typed : AreTyped units) (order : List ℕ) (b
   starts_keep : (own ds : List PlainDeclared) (r : PlainRoutine) (scope : IsScope units own r) (path : Path) (w : World) → Within all (kinds_rule (routine_kinds source.blocks) r (words_of path)) → r.starts ≡ starts_in ds → AllByRecursion (IsStarted units own) ds
       → Holds w → Holds (begun source r path w)
   starts_keep own ds r scope path w home is each holds =
-      let context = freely (context_of units own) in
+      let context = assigning (context_of units own) in
       let fits : all_fit context r.starts ≡ true = ap (all_fit context) is ∙ all_fits units own ds each in
       left_holds Holds (run_all (routine_space 0 no_calls r path) (meant_in source r r.starts) w)
       (body_keeps units typed order below no_globals own r scope path home 0 no_calls (λ n q w here holds. holds) is_start r.starts w (λ number v from to by body start. start_controls number v from to by body start) (ap (every is_start) is ∙ all_starts ds)
-      (body_fits units typed order below no_globals own r scope path home context r.starts refl (λ v k is. is) (λ instance name k is. is) fits) holds)
+      (body_fits units typed order below no_globals own r scope path home context r.starts refl (λ v k is. is) (λ instance name k is. is) (λ v bounds. refl) fits) holds)
 
   pou_begun : (p : PlainPou) (path : Path) (w : World) → IsTypedPou units p → Within all (kinds_rule (routine_kinds source.blocks) (routine_of (block_names units) p) (words_of path)) → Holds w → Holds (begun source (routine_of (block_names units) p) path w)
   pou_begun p path w is home holds =
@@ -215,7 +216,7 @@ module _ (units : List PlainUnit) (typed : AreTyped units) (order : List ℕ) (b
 
     rule_begins : (r : PlainRoutine) (path : Path) (w : World) → IsTypedRoutine units r → Within all (kinds_rule (routine_kinds source.blocks) r (words_of path)) → Holds w → Holds (begin_rule source inner r path w)
     rule_begins r path w is home holds =
-        let held = right_within all (own_kinds r.locals (words_of path)) (instance_kinds (routine_kinds source.blocks) r.instances (words_of path)) home in
+        let held = right_within all (own_kinds r (words_of path)) (instance_kinds (routine_kinds source.blocks) r.instances (words_of path)) home in
         instances_begin path r.instances (begun source r path w) held (routine_begins r path w is home holds)
 
   abbrev begin_levels : ℕ → ℕ → Path → World → World
@@ -245,7 +246,7 @@ module _ (units : List PlainUnit) (typed : AreTyped units) (order : List ℕ) (b
   -- before the first scan each value is in range
   pub opening_in_range : Holds (opening source)
   opening_in_range =
-      let kinded = typed.are_shallow.are_short.constant.are_apart.kinded in
+      let kinded = typed.are_few.are_shallow.are_short.constant.are_apart.kinded in
       let apart = words_apart units kinded.named.names in
       let fits : list_all (declared_fits units []) (declared_globals units) ≡ true = globals_pass is_global (declared_fits units []) (pou_misfit units) 0 units kinded.kinds in
       programs_begin source.programs (begun source (globals_routine source) [] zero_world) (λ p here. here)

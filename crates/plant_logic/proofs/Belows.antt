@@ -134,6 +134,7 @@ instance_at names true d s i here = elim here [ ]
 instance_at names false d (sort.Kind kind) i here = elim here [ ]
 instance_at names false d (sort.Block word) i (inl is) = (word, refl, ap (λ (x : Instance). x.of) (sym is))
 instance_at names false d (sort.Block word) i (inr none) = elim none [ ]
+instance_at names false d (sort.Array bounds kind) i here = elim here [ ]
 
 declared_sort : (section : SectionKind) (e : PlainDeclaration) (d : PlainDeclared) → Among (declared_together section e) d → e.sort ≡ d.sort
 declared_sort section e d here = ap (λ (x : PlainDeclared). x.sort) (among_map (declared_as section e) e.names d here).1

@@ -1,5 +1,5 @@
 -- What goes over from a small plant to changed ones.
-use Rattle.std.proofs.Common.{◌≡◌, ℕ, pos, List, [], ◌∷◌, refl}
+use Rattle.std.proofs.Common.{◌≡◌, ℕ, ℤ, pos, List, [], ◌∷◌, refl}
 use Rattle.std.specs.Prelude.{codes}
 use Rattle.plant_types.specs.declared.values.Kind.{Kind}
 use Rattle.plant_types.specs.declared.values.Kind.TheVariants as kind
@@ -9,7 +9,7 @@ use Rattle.plant_logic.specs.declared.logic.Instance.{Instance}
 use Rattle.plant_logic.specs.declared.logic.BlockRef.{BlockRef}
 use Rattle.plant_logic.specs.declared.logic.BlockRef.TheVariants.{Ton, Tof}
 use Rattle.plant_logic.specs.Source.{Source}
-use Rattle.plant_logic.specs.Worlds.{Path, World, in_word}
+use Rattle.plant_logic.specs.Worlds.{Path, World, index_word, in_word}
 use Rattle.plant_logic.specs.Carried.{carried}
 
 abbrev variable : List ℕ → Kind → Local
@@ -22,8 +22,9 @@ held name block = record { name = name; of = block }
 abbrev plant_of : List ℕ → List ℕ → Kind → BlockRef → Source
 plant_of name other k block = record {
   globals = [];
+  rows = [];
   starts = done;
-  programs = record { name = name; locals = variable (codes "n") kind.Dint ∷ variable other k ∷ []; instances = held (codes "t") block ∷ []; starts = done; body = done } ∷ [];
+  programs = record { name = name; locals = variable (codes "n") kind.Dint ∷ variable other k ∷ []; rows = []; instances = held (codes "t") block ∷ []; starts = done; body = done } ∷ [];
   blocks = [];
 }
 
@@ -68,3 +69,23 @@ input_stays w = refl
 -- a variable of another name opens anew, though it stands where the old one stood
 name_opens : (w : World) → (carried before other_name w).values (main (codes "y")) ≡ pos 0
 name_opens w = refl
+
+-- a global array w of DINTs with these bounds, and nothing else
+abbrev array : ℤ → ℤ → Source
+array low high = record {
+  globals = [];
+  rows = record { name = codes "w"; kind = kind.Dint; bounds = record { low = low; high = high } } ∷ [];
+  starts = done;
+  programs = [];
+  blocks = [];
+}
+
+abbrev element : Path
+element = index_word (pos 1) ∷ codes "w" ∷ []
+
+-- the elements of an array with other bounds open anew, also those that both have
+element_stays : (w : World) → (carried (array (pos 0) (pos 1)) (array (pos 0) (pos 1)) w).values element ≡ w.values element
+element_stays w = refl
+
+element_opens : (w : World) → (carried (array (pos 0) (pos 1)) (array (pos 0) (pos 2)) w).values element ≡ pos 0
+element_opens w = refl

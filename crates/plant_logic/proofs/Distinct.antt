@@ -2,7 +2,6 @@
 use Rattle.std.proofs.Common.{◌≡◌, ◌∙◌, ap, sym, refl, ℕ, suc, Bool, true, false, not, cond, if◌then◌else◌, List, [], ◌∷◌, ◌++◌, append-nil, map, Option, Some, None}
 use Rattle.std.proofs.lemmas.Bool.{or_parts, or_from}
 use Rattle.std.proofs.lemmas.List.Concat.{flat_map-append}
-use Rattle.std.proofs.lemmas.List.Folds.{list_any-append}
 use Rattle.std.proofs.lemmas.List.Elements.{All-nil, All-cons, All-append, All-filter, All-weaker, All-head, All-tail, filter-append, filter_map-append}
 use Rattle.std.specs.Prelude.{◌&&◌, filter_map, flat_map}
 use Rattle.std.specs.List.{list_all, cons_option, All}
@@ -18,24 +17,31 @@ use Rattle.st_names.specs.Taken as taken
 use Rattle.st_names.specs.Taken.{is_among, repeats, or_place}
 use Rattle.st_names.specs.Known.{body_known, declared_known, globals_misnamed, pou_misnamed}
 use Rattle.st_names.specs.Faults.{first_pou, first_unit, first_misnamed}
-use Rattle.st_names.proofs.Entries.{turned}
 use Rattle.st_typing.specs.Faults.{AreTyped}
 use Rattle.plant_logic.specs.declared.logic.Variable.{Variable}
 use Rattle.plant_logic.specs.declared.logic.Local.{Local}
+use Rattle.plant_logic.specs.declared.logic.Row.{Row}
 use Rattle.plant_logic.specs.declared.logic.Instance.{Instance}
 use Rattle.plant_logic.specs.Source.{PlainRoutine}
 use Rattle.plant_logic.specs.Pous.{pous_of, block_pous, program_pous, block_names, pou_word}
-use Rattle.plant_logic.specs.Units.{global_by, global_of, local_by, local_of, instance_by, instance_of, routine_of, declared_globals, source_in}
-use Rattle.plant_logic.specs.Names.{global_words, own_words, instance_words}
+use Rattle.plant_logic.specs.Units.{global_by, global_of, local_by, local_of, row_by, global_row_of, own_row_of, instance_by, instance_of, routine_of, declared_globals, source_in}
+use Rattle.plant_logic.specs.Names.{global_words, own_words, row_words, instance_words}
 use Rattle.plant_logic.specs.Layout.{AreNamedApart, IsDistinctlyNamed}
 use Rattle.plant_logic.proofs.Growing.{fused}
-use Rattle.plant_logic.proofs.Picked.{picked_apart}
+use Rattle.plant_logic.proofs.Picked.{picked_apart, none_both, inserted_apart, inserted_last, both_apart}
 use Rattle.plant_logic.proofs.Apart.{none_if, none_or, none_misnamed, shared_word, words_apart}
 
 -- a declared variable as a global; an instance is none
 abbrev pub variable_by : PlainDeclared → Sort → Option Variable
 variable_by d (sort.Kind kind) = Some (record { name = d.name; region = d.region; kind = kind })
 variable_by d (sort.Block word) = None
+variable_by d (sort.Array bounds kind) = None
+
+-- a declared array; a variable and an instance are none
+abbrev pub array_by : PlainDeclared → Sort → Option Row
+array_by d (sort.Kind kind) = None
+array_by d (sort.Block word) = None
+array_by d (sort.Array bounds kind) = Some (record { name = d.name; kind = kind; bounds = bounds })
 
 -- the global variable that is shared
 abbrev pub pick_global : Shared → Option Variable
@@ -45,31 +51,61 @@ pick_global (pou p) = None
 global_by_is : (d : PlainDeclared) (s : Sort) (rest : List Variable) → global_by d s ++ rest ≡ cons_option (variable_by d s) rest
 global_by_is d (sort.Kind kind) rest = refl
 global_by_is d (sort.Block word) rest = refl
+global_by_is d (sort.Array bounds kind) rest = refl
 
-of_globals : (ds : List PlainDeclared) → flat_map global_of ds ≡ filter_map pick_global (map global ds)
-of_globals [] = refl
-of_globals (d ∷ ds) = ap (λ vs. global_of d ++ vs) (of_globals ds) ∙ global_by_is d d.sort (filter_map pick_global (map global ds))
+row_by_is : (d : PlainDeclared) (s : Sort) (rest : List Row) → row_by d s ++ rest ≡ cons_option (array_by d s) rest
+row_by_is d (sort.Kind kind) rest = refl
+row_by_is d (sort.Block word) rest = refl
+row_by_is d (sort.Array bounds kind) rest = refl
 
-no_globals : (ps : List PlainPou) → filter_map pick_global (map pou ps) ≡ []
-no_globals [] = refl
-no_globals (p ∷ ps) = no_globals ps
+-- what is made of each declaration of a global is picked out of what is shared
+module _ {X : Type 0} (made : PlainDeclared → List X) (pick : Shared → Option X) (of_global : (d : PlainDeclared) (rest : List X) → made d ++ rest ≡ cons_option (pick (global d)) rest) (of_pou : (p : PlainPou) → pick (pou p) ≡ None) where
+  of_globals : (ds : List PlainDeclared) → flat_map made ds ≡ filter_map pick (map global ds)
+  of_globals [] = refl
+  of_globals (d ∷ ds) = ap (λ xs. made d ++ xs) (of_globals ds) ∙ of_global d (filter_map pick (map global ds))
+
+  no_globals : (ps : List PlainPou) → filter_map pick (map pou ps) ≡ []
+  no_globals [] = refl
+  no_globals (p ∷ ps) = ap (λ o. cons_option o (filter_map pick (map pou ps))) (of_pou p) ∙ no_globals ps
+
+  all_picked : (units : List PlainUnit) → flat_map made (declared_globals units) ≡ filter_map pick (shared_in units)
+  all_picked [] = refl
+  all_picked (unit ∷ units) =
+      let ds = declared_in unit.globals in
+      let globals = map global ds in
+      let pous = map pou unit.pous in
+      flat_map-append made ds (declared_globals units)
+      ∙ (λ i. of_globals ds i ++ all_picked units i)
+      ∙ ap (λ xs. xs ++ filter_map pick (shared_in units))
+      (sym (filter_map-append pick globals pous ∙ ap (λ xs. filter_map pick globals ++ xs) (no_globals unit.pous) ∙ append-nil (filter_map pick globals)))
+      ∙ sym (filter_map-append pick (globals ++ pous) (shared_in units))
 
 -- the globals are picked out of what is shared
 pub globals_picked : (units : List PlainUnit) → flat_map global_of (declared_globals units) ≡ filter_map pick_global (shared_in units)
-globals_picked [] = refl
-globals_picked (unit ∷ units) =
-    let ds = declared_in unit.globals in
-    let globals = map global ds in
-    let pous = map pou unit.pous in
-    flat_map-append global_of ds (declared_globals units)
-    ∙ (λ i. of_globals ds i ++ globals_picked units i)
-    ∙ ap (λ vs. vs ++ filter_map pick_global (shared_in units))
-    (sym (filter_map-append pick_global globals pous ∙ ap (λ vs. filter_map pick_global globals ++ vs) (no_globals unit.pous) ∙ append-nil (filter_map pick_global globals)))
-    ∙ sym (filter_map-append pick_global (globals ++ pous) (shared_in units))
+globals_picked units = all_picked global_of pick_global (λ d rest. global_by_is d d.sort rest) (λ p. refl) units
+
+-- the global array that is shared
+abbrev pub pick_global_row : Shared → Option Row
+pick_global_row (global d) = array_by d d.sort
+pick_global_row (pou p) = None
+
+-- the global arrays are picked out of what is shared
+pub global_rows_picked : (units : List PlainUnit) → flat_map global_row_of (declared_globals units) ≡ filter_map pick_global_row (shared_in units)
+global_rows_picked units = all_picked global_row_of pick_global_row (λ d rest. row_by_is d d.sort rest) (λ p. refl) units
 
 variable_named : (d : PlainDeclared) (s : Sort) (v : Variable) → variable_by d s ≡ Some v → v.name ≡ d.name
 variable_named d (sort.Kind kind) v e = let is : record { name = d.name; region = d.region; kind = kind } ≡ v = cc in ap (λ (x : Variable). x.name) (sym is)
 variable_named d (sort.Block word) v e = absurd (cc)
+variable_named d (sort.Array bounds kind) v e = absurd (cc)
+
+array_is_named : (d : PlainDeclared) (s : Sort) (row : Row) → array_by d s ≡ Some row → row.name ≡ d.name
+array_is_named d (sort.Kind kind) row e = absurd (cc)
+array_is_named d (sort.Block word) row e = absurd (cc)
+array_is_named d (sort.Array bounds kind) row e = let is : record { name = d.name; kind = kind; bounds = bounds } ≡ row = cc in ap (λ (x : Row). x.name) (sym is)
+
+pub global_row_named : (s : Shared) (row : Row) → pick_global_row s ≡ Some row → folded row.name ≡ shared_word s
+global_row_named (global d) row e = ap folded (array_is_named d d.sort row e)
+global_row_named (pou p) row e = absurd (cc)
 
 global_named : (s : Shared) (v : Variable) → pick_global s ≡ Some v → folded v.name ≡ shared_word s
 global_named (global d) v e = ap folded (variable_named d d.sort v e)
@@ -121,6 +157,17 @@ pub programs_apart : (units : List PlainUnit) → first_misnamed units ≡ None 
 programs_apart units e =
     ap (λ ps. repeats (map pou_word ps)) (programs_picked units) ∙ picked_apart shared_word pou_word pick_program program_named (shared_in units) (words_apart units e)
 
+-- no array is a program
+row_or_program : (s : Shared) (row : Row) (p : PlainPou) → pick_global_row s ≡ Some row → pick_program s ≡ Some p → ⊥
+row_or_program (global d) row p is too = absurd (cc)
+row_or_program (pou q) row p is too = absurd (cc)
+
+-- no two global arrays, no two programs, and no array and program have one name
+pub rows_apart : (units : List PlainUnit) → first_misnamed units ≡ None → repeats (row_words (flat_map global_row_of (declared_globals units)) ++ map pou_word (program_pous (pous_of units))) ≡ false
+rows_apart units e =
+    (λ i. repeats (row_words (global_rows_picked units i) ++ map pou_word (programs_picked units i)))
+    ∙ both_apart shared_word (λ (row : Row). folded row.name) pou_word pick_global_row pick_program global_row_named program_named row_or_program (shared_in units) (words_apart units e)
+
 module _ (bad_globals : List PlainSection → Bool) (bad_pou : PlainPou → Bool) where
   good_pous : (source n : ℕ) (ps : List PlainPou) → first_pou bad_globals bad_pou source n ps ≡ None → All (λ p. bad_pou p ≡ false) ps
   good_pous source n [] e = All-nil (λ p. bad_pou p ≡ false)
@@ -154,6 +201,9 @@ module _ (names : List (List ℕ)) where
   abbrev own : List PlainDeclared → List (List ℕ)
   own ds = own_words (flat_map local_of ds)
 
+  abbrev arrays : List PlainDeclared → List (List ℕ)
+  arrays ds = row_words (flat_map own_row_of ds)
+
   abbrev held : List PlainDeclared → List (List ℕ)
   held ds = instance_words (flat_map (instance_of names) ds)
 
@@ -162,50 +212,51 @@ module _ (names : List (List ℕ)) where
   own_lacks w true d s rest other none = none
   own_lacks w false d (sort.Kind kind) rest other none = rw other none
   own_lacks w false d (sort.Block type) rest other none = none
+  own_lacks w false d (sort.Array bounds kind) rest other none = none
+
+  rows_lack : (w : List ℕ) (outside : Bool) (d : PlainDeclared) (s : Sort) (rest : List Row) → bytes_eq w (word d) ≡ false → is_among (row_words rest) w ≡ false → is_among (row_words ((if outside then [] else row_by d s) ++ rest)) w ≡ false
+  rows_lack w true d s rest other none = none
+  rows_lack w false d (sort.Kind kind) rest other none = none
+  rows_lack w false d (sort.Block type) rest other none = none
+  rows_lack w false d (sort.Array bounds kind) rest other none = rw other none
 
   held_lacks : (w : List ℕ) (outside : Bool) (d : PlainDeclared) (s : Sort) (rest : List Instance) → bytes_eq w (word d) ≡ false → is_among (instance_words rest) w ≡ false → is_among (instance_words ((if outside then [] else instance_by names d s) ++ rest)) w ≡ false
   held_lacks w true d s rest other none = none
   held_lacks w false d (sort.Kind kind) rest other none = none
   held_lacks w false d (sort.Block type) rest other none = rw other none
+  held_lacks w false d (sort.Array bounds kind) rest other none = none
 
   own_none : (w : List ℕ) (ds : List PlainDeclared) → is_among (map word ds) w ≡ false → is_among (own ds) w ≡ false
   own_none w [] none = refl
   own_none w (d ∷ ds) none = let parts = or_parts (bytes_eq w (word d)) (is_among (map word ds) w) none in own_lacks w (is_external d.section) d d.sort (flat_map local_of ds) parts.0 (own_none w ds parts.1)
 
+  arrays_none : (w : List ℕ) (ds : List PlainDeclared) → is_among (map word ds) w ≡ false → is_among (arrays ds) w ≡ false
+  arrays_none w [] none = refl
+  arrays_none w (d ∷ ds) none = let parts = or_parts (bytes_eq w (word d)) (is_among (map word ds) w) none in rows_lack w (is_external d.section) d d.sort (flat_map own_row_of ds) parts.0 (arrays_none w ds parts.1)
+
   held_none : (w : List ℕ) (ds : List PlainDeclared) → is_among (map word ds) w ≡ false → is_among (held ds) w ≡ false
   held_none w [] none = refl
   held_none w (d ∷ ds) none = let parts = or_parts (bytes_eq w (word d)) (is_among (map word ds) w) none in held_lacks w (is_external d.section) d d.sort (flat_map (instance_of names) ds) parts.0 (held_none w ds parts.1)
 
-  none_both : (w : List ℕ) (xs ys : List (List ℕ)) → is_among xs w ≡ false → is_among ys w ≡ false → is_among (xs ++ ys) w ≡ false
-  none_both w xs ys left right = list_any-append (bytes_eq w) xs ys ∙ or_from (is_among xs w) (is_among ys w) left right
+  abbrev together : List Local → List Row → List Instance → List (List ℕ)
+  together ls rows is = own_words ls ++ (row_words rows ++ instance_words is)
 
-  lacks_inserted : (x w : List ℕ) (xs ys : List (List ℕ)) → bytes_eq x w ≡ false → is_among (xs ++ ys) x ≡ false → is_among (xs ++ w ∷ ys) x ≡ false
-  lacks_inserted x w [] ys other none = rw other none
-  lacks_inserted x w (z ∷ zs) ys other none =
-      let parts = or_parts (bytes_eq x z) (is_among (zs ++ ys) x) none in
-      or_from (bytes_eq x z) (is_among (zs ++ w ∷ ys) x) parts.0 (lacks_inserted x w zs ys other parts.1)
+  one_more : (outside : Bool) (d : PlainDeclared) (s : Sort) (ls : List Local) (rows : List Row) (is : List Instance) → is_among (together ls rows is) (word d) ≡ false → repeats (together ls rows is) ≡ false
+      → repeats (together ((if outside then [] else local_by d s) ++ ls) ((if outside then [] else row_by d s) ++ rows) ((if outside then [] else instance_by names d s) ++ is)) ≡ false
+  one_more true d s ls rows is none apart = apart
+  one_more false d (sort.Kind kind) ls rows is none apart = or_from (is_among (together ls rows is) (word d)) (repeats (together ls rows is)) none apart
+  one_more false d (sort.Block type) ls rows is none apart = inserted_last (word d) (own_words ls) (row_words rows) (instance_words is) none apart
+  one_more false d (sort.Array bounds kind) ls rows is none apart = inserted_apart (word d) (own_words ls) (row_words rows ++ instance_words is) none apart
 
-  inserted_apart : (w : List ℕ) (xs ys : List (List ℕ)) → is_among (xs ++ ys) w ≡ false → repeats (xs ++ ys) ≡ false → repeats (xs ++ w ∷ ys) ≡ false
-  inserted_apart w [] ys none apart = or_from (is_among ys w) (repeats ys) none apart
-  inserted_apart w (x ∷ xs) ys none apart =
-      let parts = or_parts (is_among (xs ++ ys) x) (repeats (xs ++ ys)) apart in
-      let others = or_parts (bytes_eq w x) (is_among (xs ++ ys) w) none in
-      or_from (is_among (xs ++ w ∷ ys) x) (repeats (xs ++ w ∷ ys)) (lacks_inserted x w xs ys (turned x w ∙ others.0) parts.0) (inserted_apart w xs ys others.1 parts.1)
-
-  one_more : (outside : Bool) (d : PlainDeclared) (s : Sort) (ls : List Local) (is : List Instance) → is_among (own_words ls ++ instance_words is) (word d) ≡ false → repeats (own_words ls ++ instance_words is) ≡ false
-      → repeats (own_words ((if outside then [] else local_by d s) ++ ls) ++ instance_words ((if outside then [] else instance_by names d s) ++ is)) ≡ false
-  one_more true d s ls is none apart = apart
-  one_more false d (sort.Kind kind) ls is none apart = or_from (is_among (own_words ls ++ instance_words is) (word d)) (repeats (own_words ls ++ instance_words is)) none apart
-  one_more false d (sort.Block type) ls is none apart = inserted_apart (word d) (own_words ls) (instance_words is) none apart
-
-  own_and_held : (ds : List PlainDeclared) → repeats (map word ds) ≡ false → repeats (own ds ++ held ds) ≡ false
-  own_and_held [] apart = refl
-  own_and_held (d ∷ ds) apart =
+  all_together : (ds : List PlainDeclared) → repeats (map word ds) ≡ false → repeats (own ds ++ (arrays ds ++ held ds)) ≡ false
+  all_together [] apart = refl
+  all_together (d ∷ ds) apart =
       let parts = or_parts (is_among (map word ds) (word d)) (repeats (map word ds)) apart in
-      one_more (is_external d.section) d d.sort (flat_map local_of ds) (flat_map (instance_of names) ds) (none_both (word d) (own ds) (held ds) (own_none (word d) ds parts.0) (held_none (word d) ds parts.0)) (own_and_held ds parts.1)
+      one_more (is_external d.section) d d.sort (flat_map local_of ds) (flat_map own_row_of ds) (flat_map (instance_of names) ds)
+      (none_both (word d) (own ds) (arrays ds ++ held ds) (own_none (word d) ds parts.0) (none_both (word d) (arrays ds) (held ds) (arrays_none (word d) ds parts.0) (held_none (word d) ds parts.0))) (all_together ds parts.1)
 
   pub routine_apart : (p : PlainPou) → taken.repeats (declared_words (declared_in p.sections)) ≡ false → AreNamedApart (routine_of names p)
-  routine_apart p once = own_and_held (declared_in p.sections) once
+  routine_apart p once = all_together (declared_in p.sections) once
 
   pub routines_apart : (ps : List PlainPou) → All (λ p. taken.repeats (declared_words (declared_in p.sections)) ≡ false) ps → All AreNamedApart (map (routine_of names) ps)
   routines_apart [] each = All-nil AreNamedApart
@@ -215,12 +266,13 @@ module _ (names : List (List ℕ)) where
 -- the declared names of the source of well-formed units are distinct
 pub typed_distinct : (units : List PlainUnit) → AreTyped units → IsDistinctlyNamed (source_in units)
 typed_distinct units typed =
-    let e = typed.are_shallow.are_short.constant.are_apart.kinded.named.names in
+    let e = typed.are_few.are_shallow.are_short.constant.are_apart.kinded.named.names in
     let names = block_names units in
     let pous = pous_of units in
     let once : All (λ p. taken.repeats (declared_words (declared_in p.sections)) ≡ false) pous = each_declared_once units e in
     record {
       globals_apart = globals_apart units e;
+      rows_apart = ap (λ ws. repeats (row_words (flat_map global_row_of (declared_globals units)) ++ ws)) (sym (fused (λ (r : PlainRoutine). folded r.name) (routine_of names) (program_pous pous))) ∙ rows_apart units e;
       programs_apart = ap repeats (sym (fused (λ (r : PlainRoutine). folded r.name) (routine_of names) (program_pous pous))) ∙ programs_apart units e;
       in_programs = routines_apart names (program_pous pous) (All-filter (λ p. not (is_block p.kind)) (λ p. taken.repeats (declared_words (declared_in p.sections)) ≡ false) pous once);
       in_blocks = routines_apart names (block_pous pous) (All-filter (λ p. is_block p.kind) (λ p. taken.repeats (declared_words (declared_in p.sections)) ≡ false) pous once);

@@ -1,8 +1,10 @@
 -- A body that fits does so when it is meant, where the kinds by which it is meant are those of its context.
-use Rattle.std.proofs.Common.{◌≡◌, ◌∙◌, ap, sym, refl, ℕ, ◌+◌, Bool, true, List, [], ◌∷◌}
+use Rattle.std.proofs.Common.{◌≡◌, ◌∙◌, ap, sym, refl, ℕ, ℤ, ◌+◌, Bool, true, List, [], ◌∷◌}
 use Rattle.std.specs.Prelude.{◌&&◌, ◌||◌, if◌then◌else◌, map, Option, Some, None, option_and_then, option_map}
 use Rattle.std.specs.List.{list_all}
+use Rattle.std.specs.Ordering.{int_eq}
 use Rattle.std.proofs.lemmas.Bool.{and_parts, or_right}
+use Rattle.std.proofs.lemmas.Bool.Decides.{Decides-int_eq}
 use Rattle.plant_types.specs.declared.values.Bounds.{Bounds}
 use Rattle.plant_types.specs.declared.values.Kind.{Kind}
 use Rattle.plant_types.specs.declared.values.Kind.TheVariants as kind
@@ -17,10 +19,11 @@ use Rattle.st_tree.specs.Numbers.{count_stmt, count_body, count_branches, count_
 use Rattle.st_tree.specs.Kinds.{KindsOf, AreSorts, kind_of_expr, kind_in, is_kind, same_kind, is_bit, unary_kind, binary_kind, resolved_unary, resolved_binary, resolved_expr, resolved_argument, resolved_stmt, resolved_body, resolved_branches, resolved_choices, meant}
 use Rattle.st_tree.specs.Fits.{Context, sorts_of, is_of, option_is_of, fits_option, takes, argument_fits, stmt_fits, all_fit, branches_fit, choices_fit, may_control, stmt_controls_fit, controls_fit, branches_controls_fit, choices_controls_fit}
 use Rattle.st_tree.proofs.KindLaws.{kind_of_expr_is_kind_in}
+use Rattle.plant_logic.specs.Names.{same_bounds}
 
 -- the context in which each variable may be assigned
-abbrev pub freely : {V : Type 0} → Context V → Context V
-freely context = record {
+abbrev pub assigning : {V : Type 0} → Context V → Context V
+assigning context = record {
   variable_kind = context.variable_kind;
   may_assign = λ v. true;
   is_instance = context.is_instance;
@@ -28,6 +31,30 @@ freely context = record {
   output_kind = context.output_kind;
   element_kind = context.element_kind;
 }
+
+-- the same, where each array has its declared bounds alone
+abbrev pub freely : {V : Type 0} → Context V → KindsOf V → Context V
+freely context kinds = record {
+  variable_kind = context.variable_kind;
+  may_assign = λ v. true;
+  is_instance = context.is_instance;
+  input_kind = context.input_kind;
+  output_kind = context.output_kind;
+  element_kind = λ v bounds. if same_bounds bounds (kinds.bounds v) then context.element_kind v bounds else None;
+}
+
+same_number : (n : ℤ) → int_eq n n ≡ true
+same_number n = (Decides-int_eq n n).1 refl
+
+pub bounds_same : (bounds : Bounds) → same_bounds bounds bounds ≡ true
+bounds_same bounds = λ i. same_number bounds.low i && same_number bounds.high i
+
+pub bounds_are : (a b : Bounds) → same_bounds a b ≡ true → a ≡ b
+bounds_are a b same =
+    let parts = and_parts (int_eq a.low b.low) (int_eq a.high b.high) same in
+    let low : a.low ≡ b.low = (Decides-int_eq a.low b.low).0 parts.0 in
+    let high : a.high ≡ b.high = (Decides-int_eq a.high b.high).0 parts.1 in
+    λ i. record { low = low i; high = high i }
 
 -- ---- an operator that is chosen has the kind of the one that is written
 unary_chosen : (op : Unary) (a : Kind) → unary_kind (resolved_unary op a) a ≡ unary_kind op a
@@ -103,6 +130,16 @@ module _ {V : Type 0} (context : Context V) (kinds : KindsOf V) (agrees : AreSor
   abbrev of_expr : PlainExpr V → Option Kind
   of_expr e = kind_of_expr (sorts_of context) e
 
+  abbrev free : Context V
+  free = freely context kinds
+
+  abbrev of_free : PlainExpr V → Option Kind
+  of_free e = kind_of_expr (sorts_of free) e
+
+  -- an element has its kind within the declared bounds
+  bounded_free : (v : V) (bounds : Bounds) (k : Kind) → context.element_kind v bounds ≡ Some k → free.element_kind v (kinds.bounds v) ≡ Some k
+  bounded_free v bounds k is = ap (λ b. if b then context.element_kind v (kinds.bounds v) else None) (bounds_same (kinds.bounds v)) ∙ bounded v bounds k is
+
   abbrev chosen : PlainExpr V → PlainExpr V
   chosen e = resolved_expr kinds e
 
@@ -110,40 +147,41 @@ module _ {V : Type 0} (context : Context V) (kinds : KindsOf V) (agrees : AreSor
   kind_is e k is = kind_of_expr_is_kind_in (sorts_of context) kinds agrees e k is
 
   -- the kind of an expression is that of the one that is meant
-  kind_kept : (e : PlainExpr V) (k : Kind) → of_expr e ≡ Some k → of_expr (chosen e) ≡ Some k
+  kind_kept : (e : PlainExpr V) (k : Kind) → of_expr e ≡ Some k → of_free (chosen e) ≡ Some k
   kind_kept (literal n) r is = is
   kind_kept (read v) r is = is
   kind_kept (output_of instance name) r is = is
   kind_kept (element v bounds index) r is =
-      element_kept (of_expr index) (of_expr (chosen index)) (context.element_kind v bounds) (context.element_kind v (kinds.bounds v)) r (λ k e. kind_kept index k e) (bounded v bounds) is
-  kind_kept (unary op a) r is = unary_kept op (of_expr a) (of_expr (chosen a)) (kind_in kinds a) r (λ k e. kind_kept a k e) (λ k e. kind_is a k e) is
-  kind_kept (binary op a b) r is = binary_kept op (of_expr a) (of_expr b) (of_expr (chosen a)) (of_expr (chosen b)) (kind_in kinds a) r (λ k e. kind_kept a k e) (λ k e. kind_kept b k e) (λ k e. kind_is a k e) is
+      element_kept (of_expr index) (of_free (chosen index)) (context.element_kind v bounds) (free.element_kind v (kinds.bounds v)) r (λ k e. kind_kept index k e) (bounded_free v bounds) is
+  kind_kept (unary op a) r is = unary_kept op (of_expr a) (of_free (chosen a)) (kind_in kinds a) r (λ k e. kind_kept a k e) (λ k e. kind_is a k e) is
+  kind_kept (binary op a b) r is = binary_kept op (of_expr a) (of_expr b) (of_free (chosen a)) (of_free (chosen b)) (kind_in kinds a) r (λ k e. kind_kept a k e) (λ k e. kind_kept b k e) (λ k e. kind_is a k e) is
 
-  of_kept : (k : Kind) (e : PlainExpr V) → is_of context k e ≡ true → is_of context k (chosen e) ≡ true
-  of_kept k e is = is_kept k (of_expr e) (of_expr (chosen e)) (kind_kept e) is
+  of_kept : (k : Kind) (e : PlainExpr V) → is_of context k e ≡ true → is_of free k (chosen e) ≡ true
+  of_kept k e is = is_kept k (of_expr e) (of_free (chosen e)) (kind_kept e) is
 
-  option_of_kept : (k : Kind) (o : Option (PlainExpr V)) → option_is_of context k o ≡ true → option_is_of context k (option_map chosen o) ≡ true
+  option_of_kept : (k : Kind) (o : Option (PlainExpr V)) → option_is_of context k o ≡ true → option_is_of free k (option_map chosen o) ≡ true
   option_of_kept k None is = refl
   option_of_kept k (Some e) is = of_kept k e is
 
   -- what may be assigned where a kind is declared may be so when it is meant
-  pub fits_kept : (o : Option Kind) (e : PlainExpr V) → fits_option context o e ≡ true → fits_option context o (chosen e) ≡ true
+  pub fits_kept : (o : Option Kind) (e : PlainExpr V) → fits_option context o e ≡ true → fits_option free o (chosen e) ≡ true
   fits_kept None e is = absurd (cc)
   fits_kept (Some k) e is =
-      suits_kept k (of_expr e) (of_expr (chosen e)) (same_kind k kind.Bool && is_bit e) (same_kind k kind.Bool && is_bit (chosen e)) (kind_kept e) (ap (λ bit. same_kind k kind.Bool && bit) (bit_kept e)) is
+      suits_kept k (of_expr e) (of_free (chosen e)) (same_kind k kind.Bool && is_bit e) (same_kind k kind.Bool && is_bit (chosen e)) (kind_kept e) (ap (λ bit. same_kind k kind.Bool && bit) (bit_kept e)) is
 
-  abbrev free : Context V
-  free = freely context
-
-  stored_by : (o : Option Kind) (v : V) (bounds : Bounds) (e : PlainExpr V) → context.element_kind v bounds ≡ o → fits_option context o e ≡ true → fits_option context (context.element_kind v (kinds.bounds v)) (chosen e) ≡ true
+  stored_by : (o : Option Kind) (v : V) (bounds : Bounds) (e : PlainExpr V) → context.element_kind v bounds ≡ o → fits_option context o e ≡ true → fits_option free (free.element_kind v (kinds.bounds v)) (chosen e) ≡ true
   stored_by None v bounds e is fits = absurd (cc)
-  stored_by (Some k) v bounds e is fits = ap (λ o. fits_option context o (chosen e)) (bounded v bounds k is) ∙ fits_kept (Some k) e fits
+  stored_by (Some k) v bounds e is fits = ap (λ o. fits_option free o (chosen e)) (bounded_free v bounds k is) ∙ fits_kept (Some k) e fits
 
   takes_kept : (v : V) (e : PlainExpr V) → takes context v e ≡ true → takes free v (chosen e) ≡ true
   takes_kept v e h = fits_kept (context.variable_kind v) e (and_parts (context.may_assign v) (fits_option context (context.variable_kind v) e) h).1
 
+  output_fits : (o : Option Kind) (instance name : V) → fits_option context o (output_of instance name) ≡ true → fits_option free o (output_of instance name) ≡ true
+  output_fits None instance name h = h
+  output_fits (Some k) instance name h = h
+
   output_takes : (v instance name : V) → takes context v (output_of instance name) ≡ true → takes free v (output_of instance name) ≡ true
-  output_takes v instance name h = (and_parts (context.may_assign v) (fits_option context (context.variable_kind v) (output_of instance name)) h).1
+  output_takes v instance name h = output_fits (context.variable_kind v) instance name (and_parts (context.may_assign v) (fits_option context (context.variable_kind v) (output_of instance name)) h).1
 
   arguments_kept : (instance : V) (arguments : List (PlainArgument V)) → list_all (argument_fits context instance) arguments ≡ true → list_all (argument_fits free instance) (map (resolved_argument kinds) arguments) ≡ true
   arguments_kept instance [] h = refl
@@ -196,7 +234,7 @@ module _ {V : Type 0} (context : Context V) (kinds : KindsOf V) (agrees : AreSor
         let p = and_parts (all_fit context body) (choices_fit context rest) h in
         λ i. body_kept n body p.0 i && choices_kept (n + count_body body) rest p.1 i
 
-  -- a body that fits does so when it is meant, where each variable may be assigned
+  -- a body that fits does so when it is meant, where each variable may be assigned, and arrays have their declared bounds alone
   pub meant_fits : (body : PlainBody V) → all_fit context body ≡ true → all_fit free (meant kinds body) ≡ true
   meant_fits body h = body_kept 1 body h
 

@@ -204,11 +204,13 @@ module _ (units : List PlainUnit) (apart : repeats (map shared_word (shared_in u
 
     by_sort : (name : List ℕ) (d : PlainDeclared) (s : Sort) (t : BlockType) → find_declared own name ≡ Some d → d.sort ≡ s → sort_type units s ≡ Some t → IsInstance name t
     by_sort name d (sort.Kind k) t found of is = absurd (cc)
+    by_sort name d (sort.Array bounds k) t found of is = absurd (cc)
     by_sort name d (sort.Block word) t found of is = held_instance name d word t found of is
 
     no_global : {P : Type 0} (s : Sort) (t : BlockType) → is_instance_sort s ≡ false → sort_type units s ≡ Some t → P
     no_global (sort.Kind k) t there is = absurd (cc)
     no_global (sort.Block word) t there is = absurd (cc)
+    no_global (sort.Array bounds k) t there is = absurd (cc)
 
     by_search : (name : List ℕ) (t : BlockType) (o q : Option PlainDeclared) → find_declared own name ≡ o → global_named units name ≡ q → option_and_then (λ (d : PlainDeclared). sort_type units d.sort) (or_other o q) ≡ Some t → IsInstance name t
     by_search name t (Some d) q found other is = by_sort name d d.sort t found refl is
@@ -254,8 +256,8 @@ module _ (units : List PlainUnit) (order : List ℕ) (below : AreBelow (source_i
       let l = member_own units q test name k (each_at (IsDeclaredWell units) (blocks units) n q well at) isnt member in
       let rule = type_kinds source.blocks order n r below (routine_at n q at) in
       let here : Within all (kinds_rule (routine_kinds source.blocks) r path) = subst (λ f. Within all (f path)) rule within in
-      let mine = left_within all (own_kinds r.locals path) (instance_kinds (routine_kinds source.blocks) r.instances path) here in
-      mine (kind_at (folded name ∷ path) k) (subst (λ j. Among (own_kinds r.locals path) (kind_at (folded name ∷ path) j)) l.2 (own_stands r name l.0 path l.1))
+      let mine = left_within all (own_kinds r path) (instance_kinds (routine_kinds source.blocks) r.instances path) here in
+      mine (kind_at (folded name ∷ path) k) (subst (λ j. Among (own_kinds r path) (kind_at (folded name ∷ path) j)) l.2 (own_stands r name l.0 path l.1))
 
   module _ (all : List KindAt) (path : Path) (name : List ℕ) (k : Kind) (m : Member) (of_kind : m.kind ≡ Some k) where
     timer_stands : (a b : Bool) → same_word (codes "IN") name ≡ a → same_word (codes "PT") name ≡ b

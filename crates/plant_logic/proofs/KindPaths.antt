@@ -1,39 +1,57 @@
 -- The kinds of all values at their paths, and worlds in which one is assigned.
-use Rattle.std.proofs.Common.{◌≡◌, ◌∙◌, ap, sym, subst, refl, ℕ, ℤ, zero, suc, true, false, List, [], ◌∷◌, ◌++◌, map, Option, Some, None, slice_get, inl, inr}
-use Rattle.std.specs.Prelude.{if◌then◌else◌}
+use Rattle.std.proofs.Common.{◌≡◌, ◌∙◌, ap, sym, subst, refl, ℕ, ℤ, zero, suc, ◌-ℤ◌, nat_abs, true, false, List, [], ◌∷◌, ◌++◌, map, Option, Some, None, slice_get, inl, inr}
+use Rattle.std.specs.Prelude.{if◌then◌else◌, option_map}
 use Rattle.std.specs.Option.{option_map_or}
 use Rattle.std.specs.List.{AllByRecursion}
 use Rattle.std.proofs.lemmas.Bool.{cases_Bool, both_ways}
 use Rattle.std.proofs.lemmas.List.{map-append}
+use Rattle.std.proofs.lemmas.Option.{slice_get-map}
 use Rattle.std.proofs.lemmas.List.Elements.{All-from_recursion, recursion_from_All}
 use Rattle.plant_types.specs.Words.{folded}
-use Rattle.plant_types.specs.Values.{is_in_range}
+use Rattle.plant_types.specs.declared.values.Bounds.{Bounds}
+use Rattle.plant_types.specs.declared.values.Kind.{Kind}
+use Rattle.plant_types.specs.Values.{is_in_range, has_index}
 use Rattle.block_order.specs.Chains.{Among}
 use Rattle.st_tree.proofs.RangeLaws.{InRange}
 use Rattle.plant_logic.specs.declared.logic.Variable.{Variable}
 use Rattle.plant_logic.specs.declared.logic.Local.{Local}
+use Rattle.plant_logic.specs.declared.logic.Row.{Row}
 use Rattle.plant_logic.specs.declared.logic.Instance.{Instance}
 use Rattle.plant_logic.specs.declared.logic.BlockRef.{BlockRef}
 use Rattle.plant_logic.specs.declared.logic.BlockRef.TheVariants.{Ton, Tof, RTrig, Declared}
 use Rattle.plant_logic.specs.Source.{PlainRoutine, Source}
 use Rattle.plant_logic.specs.Blocks.{levels, AreBelow}
-use Rattle.plant_logic.specs.Worlds.{Path, World, same_path, path_of}
+use Rattle.plant_logic.specs.Worlds.{Path, World, same_path, path_of, index_word}
 use Rattle.plant_logic.specs.Worlds as worlds
-use Rattle.plant_logic.specs.Layout.{block_values, instance_values, own_values, values_rule, routine_values, global_values, program_values, cell_paths, Absent, NoneTwice, IsDistinctlyNamed}
-use Rattle.plant_logic.specs.Ranges.{KindAt, block_kinds, instance_kinds, own_kinds, kinds_rule, routine_kinds, global_kind_at, program_kinds, all_kinds, AllInRange}
+use Rattle.plant_logic.specs.Layout.{block_values, instance_values, local_values, element_values, row_values, own_values, values_rule, routine_values, variable_values, global_values, program_values, cell_paths, Absent, NoneTwice, IsDistinctlyNamed}
+use Rattle.plant_logic.specs.Ranges.{KindAt, element_at, block_kinds, instance_kinds, local_kinds, row_kinds, own_kinds, kinds_rule, routine_kinds, global_kind_at, global_kinds, program_kinds, all_kinds, AllInRange}
 use Rattle.plant_logic.proofs.Paths.{path_is, path_same}
 use Rattle.plant_logic.proofs.Layouts.{cells_once}
+use Rattle.plant_logic.proofs.Rows.{element_at_index}
 use Rattle.plant_logic.proofs.Levels.{by_its_rule}
-use Rattle.plant_logic.proofs.Agreeing.{kinds_ask}
+use Rattle.plant_logic.proofs.Agreeing.{among_at, kinds_ask}
 use Rattle.plant_logic.proofs.Belows.{among_left, among_right}
 
 -- ---- the paths of the kinds are those of the values
 abbrev pub path : KindAt → Path
 path v = v.path
 
-own_paths : (ls : List Local) (p : Path) → map path (own_kinds ls p) ≡ own_values ls p
-own_paths [] p = refl
-own_paths (l ∷ ls) p = ap (λ ps. (folded l.name ∷ p) ∷ ps) (own_paths ls p)
+local_paths : (ls : List Local) (p : Path) → map path (local_kinds ls p) ≡ local_values ls p
+local_paths [] p = refl
+local_paths (l ∷ ls) p = ap (λ ps. (folded l.name ∷ p) ∷ ps) (local_paths ls p)
+
+element_paths : (k : Kind) (bounds : Bounds) (ps : List Path) → map path (map (element_at k bounds) ps) ≡ ps
+element_paths k bounds [] = refl
+element_paths k bounds (p ∷ ps) = ap (λ qs. p ∷ qs) (element_paths k bounds ps)
+
+row_paths : (rows : List Row) (p : Path) → map path (row_kinds rows p) ≡ row_values rows p
+row_paths [] p = refl
+row_paths (row ∷ rows) p =
+    let here = element_values row.bounds (folded row.name ∷ p) in
+    map-append path (map (element_at row.kind row.bounds) here) (row_kinds rows p) ∙ (λ k. element_paths row.kind row.bounds here k ++ row_paths rows p k)
+
+own_paths : (r : PlainRoutine) (p : Path) → map path (own_kinds r p) ≡ own_values r p
+own_paths r p = map-append path (local_kinds r.locals p) (row_kinds r.rows p) ∙ (λ k. local_paths r.locals p k ++ row_paths r.rows p k)
 
 module _ (f : ℕ → Path → List KindAt) (g : ℕ → Path → List Path) (same : (n : ℕ) (p : Path) → map path (f n p) ≡ g n p) where
   block_paths : (b : BlockRef) (p : Path) → map path (block_kinds f b p) ≡ block_values g b p
@@ -48,7 +66,7 @@ module _ (f : ℕ → Path → List KindAt) (g : ℕ → Path → List Path) (sa
       map-append path (block_kinds f i.of (folded i.name ∷ p)) (instance_kinds f is p) ∙ (λ k. block_paths i.of (folded i.name ∷ p) k ++ instance_paths is p k)
 
   rule_paths : (r : PlainRoutine) (p : Path) → map path (kinds_rule f r p) ≡ values_rule g r p
-  rule_paths r p = map-append path (own_kinds r.locals p) (instance_kinds f r.instances p) ∙ (λ k. own_paths r.locals p k ++ instance_paths r.instances p k)
+  rule_paths r p = map-append path (own_kinds r p) (instance_kinds f r.instances p) ∙ (λ k. own_paths r p k ++ instance_paths r.instances p k)
 
   paths_by : (o : Option PlainRoutine) (p : Path) → map path (option_map_or (kinds_rule f) o (λ path. []) p) ≡ option_map_or (values_rule g) o (λ path. []) p
   paths_by None p = refl
@@ -68,12 +86,15 @@ module _ (blocks : List PlainRoutine) where
       map-append path (kinds_rule (routine_kinds blocks) p (folded p.name ∷ [])) (program_kinds blocks ps)
       ∙ (λ k. rule_paths (routine_kinds blocks) (routine_values blocks) routine_paths p (folded p.name ∷ []) k ++ program_paths ps k)
 
-global_paths : (globals : List Variable) → map path (map global_kind_at globals) ≡ global_values globals
-global_paths [] = refl
-global_paths (g ∷ gs) = ap (λ ps. path_of g.name ∷ ps) (global_paths gs)
+variable_paths : (globals : List Variable) → map path (map global_kind_at globals) ≡ variable_values globals
+variable_paths [] = refl
+variable_paths (g ∷ gs) = ap (λ ps. path_of g.name ∷ ps) (variable_paths gs)
+
+global_paths : (source : Source) → map path (global_kinds source) ≡ global_values source
+global_paths source = map-append path (map global_kind_at source.globals) (row_kinds source.rows []) ∙ (λ k. variable_paths source.globals k ++ row_paths source.rows [] k)
 
 pub paths_all : (source : Source) → map path (all_kinds source) ≡ cell_paths source
-paths_all source = map-append path (map global_kind_at source.globals) (program_kinds source.blocks source.programs) ∙ (λ k. global_paths source.globals k ++ program_paths source.blocks source.programs k)
+paths_all source = map-append path (global_kinds source) (program_kinds source.blocks source.programs) ∙ (λ k. global_paths source k ++ program_paths source.blocks source.programs k)
 
 pub kinds_once : (source : Source) → IsDistinctlyNamed source → NoneTwice (map path (all_kinds source))
 kinds_once source named = subst NoneTwice (sym (paths_all source)) (cells_once source named)
@@ -103,7 +124,7 @@ program_within blocks (q ∷ qs) p (inl is) v here =
 program_within blocks (q ∷ qs) p (inr later) v here = among_right (kinds_rule (routine_kinds blocks) q (folded q.name ∷ [])) (program_kinds blocks qs) v (program_within blocks qs p later v here)
 
 pub program_home : (source : Source) (p : PlainRoutine) → Among source.programs p → Within (all_kinds source) (kinds_rule (routine_kinds source.blocks) p (folded p.name ∷ []))
-program_home source p there v here = among_right (map global_kind_at source.globals) (program_kinds source.blocks source.programs) v (program_within source.blocks source.programs p there v here)
+program_home source p there v here = among_right (global_kinds source) (program_kinds source.blocks source.programs) v (program_within source.blocks source.programs p there v here)
 
 mapped_among : (globals : List Variable) (i : ℕ) (g : Variable) → slice_get globals i ≡ Some g → Among (map global_kind_at globals) (global_kind_at g)
 mapped_among [] i g at = absurd (cc)
@@ -111,7 +132,30 @@ mapped_among (h ∷ hs) zero g at = inl (let same : h ≡ g = cc in ap global_ki
 mapped_among (h ∷ hs) (suc i) g at = inr (mapped_among hs i g at)
 
 pub global_among : (source : Source) (i : ℕ) (g : Variable) → slice_get source.globals i ≡ Some g → Among (all_kinds source) (global_kind_at g)
-global_among source i g at = among_left (map global_kind_at source.globals) (program_kinds source.blocks source.programs) (global_kind_at g) (mapped_among source.globals i g at)
+global_among source i g at =
+    among_left (global_kinds source) (program_kinds source.blocks source.programs) (global_kind_at g) (among_left (map global_kind_at source.globals) (row_kinds source.rows []) (global_kind_at g) (mapped_among source.globals i g at))
+
+-- an element of an array is among those of its arrays
+row_among : (rows : List Row) (p : Path) (k : ℕ) (row : Row) (i : ℤ) → slice_get rows k ≡ Some row → has_index row.bounds i ≡ true → Among (row_kinds rows p) (element_at row.kind row.bounds (index_word i ∷ folded row.name ∷ p))
+row_among [] p k row i at within = absurd (cc)
+row_among (r ∷ rows) p zero row i at within =
+    let same : r ≡ row = cc in
+    let here = element_values row.bounds (folded row.name ∷ p) in
+    let n = nat_abs (i -ℤ row.bounds.low) in
+    let element = element_at row.kind row.bounds (index_word i ∷ folded row.name ∷ p) in
+    let found : slice_get (map (element_at row.kind row.bounds) here) n ≡ Some element = slice_get-map (element_at row.kind row.bounds) here n ∙ ap (option_map (element_at row.kind row.bounds)) (element_at_index row.bounds i (folded row.name ∷ p) within) in
+    subst (λ (x : Row). Among (row_kinds (x ∷ rows) p) element) (sym same)
+    (among_left (map (element_at row.kind row.bounds) here) (row_kinds rows p) element (among_at (map (element_at row.kind row.bounds) here) n element found))
+row_among (r ∷ rows) p (suc k) row i at within =
+    among_right (map (element_at r.kind r.bounds) (element_values r.bounds (folded r.name ∷ p))) (row_kinds rows p) (element_at row.kind row.bounds (index_word i ∷ folded row.name ∷ p)) (row_among rows p k row i at within)
+
+pub own_row_among : (r : PlainRoutine) (p : Path) (k : ℕ) (row : Row) (i : ℤ) → slice_get r.rows k ≡ Some row → has_index row.bounds i ≡ true → Among (own_kinds r p) (element_at row.kind row.bounds (index_word i ∷ folded row.name ∷ p))
+own_row_among r p k row i at within = among_right (local_kinds r.locals p) (row_kinds r.rows p) (element_at row.kind row.bounds (index_word i ∷ folded row.name ∷ p)) (row_among r.rows p k row i at within)
+
+pub global_row_among : (source : Source) (k : ℕ) (row : Row) (i : ℤ) → slice_get source.rows k ≡ Some row → has_index row.bounds i ≡ true → Among (all_kinds source) (element_at row.kind row.bounds (index_word i ∷ path_of row.name))
+global_row_among source k row i at within =
+    let element = element_at row.kind row.bounds (index_word i ∷ path_of row.name) in
+    among_left (global_kinds source) (program_kinds source.blocks source.programs) element (among_right (map global_kind_at source.globals) (row_kinds source.rows []) element (row_among source.rows [] k row i at within))
 
 -- what a block type has is what its rule gives
 pub type_kinds : (blocks : List PlainRoutine) (order : List ℕ) (n : ℕ) (r : PlainRoutine) → AreBelow blocks order → slice_get blocks n ≡ Some r → routine_kinds blocks n ≡ kinds_rule (routine_kinds blocks) r

@@ -134,7 +134,7 @@ module _ (units : List PlainUnit) where
 -- the source of well-formed units has the block types of all its instances
 pub typed_types : (units : List PlainUnit) → AreTyped units → HasItsTypes (source_in units)
 typed_types units typed =
-    let e = typed.are_shallow.are_short.constant.are_apart.kinded.named.names in
+    let e = typed.are_few.are_shallow.are_short.constant.are_apart.kinded.named.names in
     let pous = pous_of units in
     let each = each_pou (globals_misnamed units) (pou_misnamed units) 0 units (none_misnamed units e).1 in
     record {

@@ -5,6 +5,7 @@ pub mod Apart
 mod Made
 pub mod Belows
 pub mod Paths
+pub mod Rows
 pub mod Layouts
 pub mod Levels
 pub mod Agreeing
@@ -13,12 +14,12 @@ pub mod Seats
 pub mod Knowns
 mod Firsts
 pub mod KindPaths
-mod Scopes
+pub mod Scopes
 mod Holdings
 pub mod Ranging
 pub mod Beginning
 mod Elapsing
-mod Fitting
+pub mod Fitting
 pub mod Members
 pub mod Carrying
 mod CarriedExamples

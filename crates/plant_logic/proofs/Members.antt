@@ -11,11 +11,11 @@ use Rattle.plant_logic.specs.Source.{PlainRoutine}
 use Rattle.plant_logic.specs.Names.{own_words, instance_words, find_word, instance_named}
 use Rattle.plant_logic.specs.Blocks.{AreBelow}
 use Rattle.plant_logic.specs.Worlds.{Path, in_word, pt_word, clk_word}
-use Rattle.plant_logic.specs.Layout.{ClockAt, block_values, instance_values, own_values, values_rule, routine_values, block_clocks, routine_clocks}
+use Rattle.plant_logic.specs.Layout.{ClockAt, block_values, values_rule, routine_values, block_clocks, routine_clocks}
 use Rattle.plant_logic.specs.Seats.{StandsFrom, member_number, is_of_standard}
 use Rattle.plant_logic.proofs.Levels.{by_its_rule}
 use Rattle.plant_logic.proofs.Agreeing.{values_ask}
-use Rattle.plant_logic.proofs.Seats.{at_front, own_at, word_at}
+use Rattle.plant_logic.proofs.Seats.{mapped_at, own_at, variable_among, word_at}
 
 -- a name that is a word has its small letters
 pub word_is : (name word : List ℕ) → same_word name word ≡ true → folded name ≡ folded word
@@ -45,7 +45,7 @@ module _ (all : List Path) (base : ℕ) (path : Path) (name : List ℕ) (m : ℕ
     declared_at n stands (Some b) is numbered =
         let rule = by_its_rule (λ path. []) values_rule blocks order below values_ask n b is in
         let stands' : StandsFrom all base (values_rule (routine_values blocks) b path) = subst (λ l. StandsFrom all base l) (λ k. rule k path) stands in
-        stands' m (folded name ∷ path) (at_front (own_values b.locals path) (instance_values (routine_values blocks) b.instances path) m (folded name ∷ path) (own_at b.locals path name m numbered))
+        stands' m (folded name ∷ path) (variable_among blocks b path m (folded name ∷ path) (own_at b.locals path name m numbered))
 
     -- where an instance's values stand from a number on, there a member of it has the path of its name
     pub member_at : (b : BlockRef) → StandsFrom all base (block_values (routine_values blocks) b path) → member_number blocks b name ≡ Some m → slice_get all (base + m) ≡ Some (folded name ∷ path)
@@ -63,10 +63,6 @@ clock_at blocks all base path Ton is stands = from_zero all base (record { of = 
 clock_at blocks all base path Tof is stands = from_zero all base (record { of = Tof; path = path }) (stands 0 (record { of = Tof; path = path }) refl)
 clock_at blocks all base path RTrig is stands = from_zero all base (record { of = RTrig; path = path }) (stands 0 (record { of = RTrig; path = path }) refl)
 clock_at blocks all base path (Declared n) is stands = absurd (cc)
-
-mapped_at : {A B : Type 0} (f : A → B) (o : Option A) (b : B) → option_map f o ≡ Some b → (a : A) × (o ≡ Some a) × (f a ≡ b)
-mapped_at f None b is = absurd (cc)
-mapped_at f (Some a) b is = (a, refl, cc)
 
 -- the instance of a name's number is the one that the name finds, and has its small letters
 pub instance_of_number : (r : PlainRoutine) (name : List ℕ) (k : ℕ) → find_word (instance_words r.instances) name ≡ Some k → (i : Instance) × (slice_get r.instances k ≡ Some i) × (instance_named r name ≡ Some i) × (folded i.name ≡ folded name)

@@ -1,5 +1,5 @@
 -- What routines of well-formed units do keeps each value in the range of its kind.
-use Rattle.std.proofs.Common.{◌≡◌, ◌∙◌, ap, sym, subst, refl, ℕ, zero, suc, Bool, true, false, List, [], ◌∷◌, map, Option, Some, None, slice_get, inl, inr}
+use Rattle.std.proofs.Common.{◌≡◌, ◌∙◌, ap, sym, subst, refl, ℕ, ℤ, zero, suc, Bool, true, false, List, [], ◌∷◌, map, Option, Some, None, slice_get, inl, inr}
 use Rattle.std.specs.Prelude.{◌&&◌, not, if◌then◌else◌, is_some, option_map, option_and_then}
 use Rattle.std.specs.List.{list_all, All}
 use Rattle.std.specs.Option.{option_map_or}
@@ -9,7 +9,7 @@ use Rattle.plant_types.specs.Words.{folded}
 use Rattle.plant_types.specs.declared.values.Bounds.{Bounds}
 use Rattle.plant_types.specs.declared.values.Kind.{Kind}
 use Rattle.plant_types.specs.declared.values.Kind.TheVariants as kind
-use Rattle.plant_types.specs.Values.{is_in_range}
+use Rattle.plant_types.specs.Values.{is_in_range, has_index}
 use Rattle.std_blocks.specs.Calls.{Call}
 use Rattle.block_order.specs.Chains.{Among}
 use Rattle.st_tree.specs.Every.{every}
@@ -24,10 +24,10 @@ use Rattle.st_parser.specs.Units.{PlainPou, PlainUnit}
 use Rattle.st_names.specs.BlockTypes.{Member, inputs_of, outputs_of, find_member}
 use Rattle.st_names.specs.DeclaredNames.{PlainDeclared, declared_in, declared_words, find_declared, sort_kind, is_instance_sort}
 use Rattle.st_names.specs.Known.{body_known, declared_known, globals_misnamed, pou_misnamed}
-use Rattle.st_names.specs.Scopes.{variable_kind, instance_type, input_named, input_kind, output_named, output_kind, is_external, can_control, is_control}
+use Rattle.st_names.specs.Scopes.{variable_kind, element_kind, instance_type, input_named, input_kind, output_named, output_kind, is_external, can_control, is_control}
 use Rattle.st_names.specs.Shared.{shared_in, is_block, global_named}
 use Rattle.st_names.specs.Taken.{repeats}
-use Rattle.st_typing.specs.Constants.{initial_constant, bounds_allowed, never_assigns, stmt_allowed, globals_inconstant, pou_inconstant}
+use Rattle.st_typing.specs.Constants.{declared_constant, bounds_allowed, never_assigns, stmt_allowed, globals_inconstant, pou_inconstant}
 use Rattle.st_typing.specs.Faults.{AreTyped}
 use Rattle.st_typing.specs.Kinds.{context_of, declared_fits, globals_misfit, pou_misfit}
 use Rattle.plant_logic.specs.declared.logic.Instance.{Instance}
@@ -36,17 +36,17 @@ use Rattle.plant_logic.specs.declared.logic.BlockRef.TheVariants.{Ton, Tof, RTri
 use Rattle.plant_logic.specs.Source.{PlainRoutine, Source}
 use Rattle.plant_logic.specs.Pous.{pous_of, block_pous, program_pous, block_names}
 use Rattle.plant_logic.specs.Units.{routine_of, source_in}
-use Rattle.plant_logic.specs.Names.{instance_named, block_named, kinds_named, output_kind_of, output_kind_named, meant_in}
+use Rattle.plant_logic.specs.Names.{instance_named, block_named, same_bounds, bounds_named, kinds_named, output_kind_of, output_kind_named, meant_in}
 use Rattle.plant_logic.specs.Blocks.{levels, AreBelow}
 use Rattle.plant_logic.specs.Layout.{IsDistinctlyNamed}
-use Rattle.plant_logic.specs.Worlds.{Path, World, same_path, words_of, path_in, pt_word, with_call, timer_call, trigger_call, output_at, called, called_named, routine_space, run_rule, run_routine, run_in, run_program}
-use Rattle.plant_logic.specs.Ranges.{KindAt, kind_at, own_kinds, block_kinds, instance_kinds, kinds_rule, routine_kinds, all_kinds, AllInRange}
+use Rattle.plant_logic.specs.Worlds.{Path, World, same_path, words_of, path_in, element_path, pt_word, with_call, timer_call, trigger_call, output_at, called, called_named, routine_space, run_rule, run_routine, run_in, run_program}
+use Rattle.plant_logic.specs.Ranges.{KindAt, kind_at, element_at, own_kinds, block_kinds, instance_kinds, kinds_rule, routine_kinds, all_kinds, AllInRange}
 use Rattle.plant_logic.proofs.Agreeing.{among_at, named_among}
 use Rattle.plant_logic.proofs.Apart.{none_misnamed, shared_word, words_apart}
 use Rattle.plant_logic.proofs.Distinct.{each_pou, typed_distinct}
-use Rattle.plant_logic.proofs.Fitting.{freely, meant_fits, meant_controls}
+use Rattle.plant_logic.proofs.Fitting.{freely, bounds_are, meant_fits, meant_controls}
 use Rattle.plant_logic.proofs.KindPaths.{Within, left_within, right_within, instance_within, program_home, type_kinds, value_in, put_in}
-use Rattle.plant_logic.proofs.Scopes.{IsScope, routine_scope, variable_at}
+use Rattle.plant_logic.proofs.Scopes.{IsScope, routine_scope, variable_at, array_at}
 use Rattle.plant_logic.proofs.Holdings.{IsDeclaredWell, among_map, blocks, instance_at, input_stands, output_kind_is, output_in}
 
 and_then_some : {A B : Type 0} (f : A → Option B) (o : Option A) (b : B) → option_and_then f o ≡ Some b → (a : A) × (o ≡ Some a) × (f a ≡ Some b)
@@ -73,7 +73,7 @@ typed_pou units p names kinds constants =
     let own = declared_in p.sections in
     let named = or_parts (repeats (declared_words own)) (not (list_all (declared_known units own) own && body_known units own p.body)) names in
     let fits = and_parts (list_all (declared_fits units own) own) (all_fit (context_of units own) p.body) (not_bad (list_all (declared_fits units own) own && all_fit (context_of units own) p.body) kinds) in
-    let constant = and_parts (list_all initial_constant own) (every (stmt_allowed own) p.body) (not_bad (list_all initial_constant own && every (stmt_allowed own) p.body) constants) in
+    let constant = and_parts (list_all declared_constant own) (every (stmt_allowed own) p.body) (not_bad (list_all declared_constant own && every (stmt_allowed own) p.body) constants) in
     record { well = record { once = named.0; fit = fits.0 }; fits = fits.1; allowed = constant.1 }
 
 all_typed : (units : List PlainUnit) (ps : List PlainPou) → All (λ p. pou_misnamed units p ≡ false) ps → All (λ p. pou_misfit units p ≡ false) ps → All (λ p. pou_inconstant p ≡ false) ps → All (IsTypedPou units) ps
@@ -84,7 +84,7 @@ all_typed units (p ∷ ps) names kinds constants =
 
 pub typed_pous : (units : List PlainUnit) → AreTyped units → All (IsTypedPou units) (pous_of units)
 typed_pous units typed =
-    let constant = typed.are_shallow.are_short.constant in
+    let constant = typed.are_few.are_shallow.are_short.constant in
     let kinded = constant.are_apart.kinded in
     all_typed units (pous_of units) (each_pou (globals_misnamed units) (pou_misnamed units) 0 units (none_misnamed units kinded.named.names).1)
     (each_pou (globals_misfit units) (pou_misfit units) 0 units kinded.kinds) (each_pou globals_inconstant pou_inconstant 0 units constant.constants)
@@ -128,7 +128,7 @@ module _ (units : List PlainUnit) (typed : AreTyped units) (order : List ℕ) (b
   named = typed_distinct units typed
 
   apart : repeats (map shared_word (shared_in units)) ≡ false
-  apart = words_apart units typed.are_shallow.are_short.constant.are_apart.kinded.named.names
+  apart = words_apart units typed.are_few.are_shallow.are_short.constant.are_apart.kinded.named.names
 
   well : All (IsDeclaredWell units) (blocks units)
   well =
@@ -140,17 +140,29 @@ module _ (units : List PlainUnit) (typed : AreTyped units) (order : List ℕ) (b
   IsHome n path = Within all (routine_kinds source.blocks n (words_of path))
 
   module _ (own : List PlainDeclared) (r : PlainRoutine) (scope : IsScope units own r) (path : Path) (home : Within all (kinds_rule (routine_kinds source.blocks) r (words_of path))) where
-    own_home : Within all (own_kinds r.locals (words_of path))
-    own_home = left_within all (own_kinds r.locals (words_of path)) (instance_kinds (routine_kinds source.blocks) r.instances (words_of path)) home
+    own_home : Within all (own_kinds r (words_of path))
+    own_home = left_within all (own_kinds r (words_of path)) (instance_kinds (routine_kinds source.blocks) r.instances (words_of path)) home
 
     held_home : Within all (instance_kinds (routine_kinds source.blocks) r.instances (words_of path))
-    held_home = right_within all (own_kinds r.locals (words_of path)) (instance_kinds (routine_kinds source.blocks) r.instances (words_of path)) home
+    held_home = right_within all (own_kinds r (words_of path)) (instance_kinds (routine_kinds source.blocks) r.instances (words_of path)) home
 
     instance_home : (i : Instance) → Among r.instances i → Within all (block_kinds (routine_kinds source.blocks) i.of (folded i.name ∷ words_of path))
     instance_home i here = instance_within (routine_kinds source.blocks) all r.instances (words_of path) i held_home here
 
     variable_here : (name : List ℕ) (k : Kind) → variable_kind units own name ≡ Some k → Among all (kind_at (path_in r path name) k)
     variable_here name k is = (variable_at units apart own r scope name k is).stands path own_home
+
+    abbrev free : Context (List ℕ)
+    free = freely (context_of units own) (kinds_named source r)
+
+    element_by : (name : List ℕ) (bounds : Bounds) (i : ℤ) (k : Kind) (b : Bool) → same_bounds bounds (bounds_named source r name) ≡ b → (if b then element_kind units own name else None) ≡ Some k → has_index bounds i ≡ true → Among all (element_at k (bounds_named source r name) (element_path r path name i))
+    element_by name bounds i k false same is within = absurd (cc)
+    element_by name bounds i k true same is within =
+        (array_at units apart own r scope name k is).stands path i own_home (ap (λ b. has_index b i) (sym (bounds_are bounds (bounds_named source r name) same)) ∙ within)
+
+    -- an element of an array of the declared bounds
+    element_here : (name : List ℕ) (bounds : Bounds) (i : ℤ) (k : Kind) → free.element_kind name bounds ≡ Some k → has_index bounds i ≡ true → Among all (element_at k (bounds_named source r name) (element_path r path name i))
+    element_here name bounds i k is within = element_by name bounds i k (same_bounds bounds (bounds_named source r name)) refl is within
 
     input_here : (instance name : List ℕ) (k : Kind) → input_kind units own instance name ≡ Some k → Among all (kind_at (folded name ∷ folded instance ∷ words_of path) k)
     input_here instance name k is =
@@ -193,13 +205,13 @@ module _ (units : List PlainUnit) (typed : AreTyped units) (order : List ℕ) (b
       entered w name None is holds = holds
       entered w name (Some i) is holds = called_keeps w i.name i.of holds (instance_home i (named_among r name i is))
 
-      invariant : IsInvariant (freely (context_of units own)) (routine_space t inner r path) Holds
+      invariant : IsInvariant free (routine_space t inner r path) Holds
       invariant =
           record {
             variable_in_range = λ w v k holds is. value_in source w (kind_at (path_in r path v) k) holds (variable_here v k is);
             output_in_range = λ w instance name k holds is. output_here w instance name k holds is;
-            element_in_range = λ w v bounds i k holds is within. absurd (cc);
-            put_at_keeps = λ w v bounds i k n holds is within fits. absurd (cc);
+            element_in_range = λ w v bounds i k holds is within. value_in source w (element_at k (bounds_named source r v) (element_path r path v i)) holds (element_here v bounds i k is within);
+            put_at_keeps = λ w v bounds i k n holds is within fits. put_in source w (element_at k (bounds_named source r v) (element_path r path v i)) n named (element_here v bounds i k is within) fits holds;
             put_keeps = λ w v k n holds may is fits. put_in source w (kind_at (path_in r path v) k) n named (variable_here v k is) fits holds;
             put_input_keeps = λ w instance name k n holds is_one is fits. put_in source w (kind_at (folded name ∷ folded instance ∷ words_of path) k) n named (input_here instance name k is) fits holds;
             enter_keeps = λ w instance holds is_one. entered w instance (instance_named r instance) refl holds;
@@ -207,28 +219,25 @@ module _ (units : List PlainUnit) (typed : AreTyped units) (order : List ℕ) (b
 
       -- a body that fits keeps each value in range
       pub body_keeps : (rule : PlainStmt (List ℕ) → Bool) (body : PlainBody (List ℕ)) (w : World)
-          → ((number : ℕ) (v : List ℕ) (from to : PlainExpr (List ℕ)) (by : Option (PlainExpr (List ℕ))) (body : PlainBody (List ℕ)) → rule (for_to number v from to by body) ≡ true → may_control (freely (context_of units own)) v ≡ true)
-          → every rule body ≡ true → all_fit (freely (context_of units own)) (meant_in source r body) ≡ true → Holds w → Leaves Holds (run_all (routine_space t inner r path) (meant_in source r body) w)
+          → ((number : ℕ) (v : List ℕ) (from to : PlainExpr (List ℕ)) (by : Option (PlainExpr (List ℕ))) (body : PlainBody (List ℕ)) → rule (for_to number v from to by body) ≡ true → may_control free v ≡ true)
+          → every rule body ≡ true → all_fit free (meant_in source r body) ≡ true → Holds w → Leaves Holds (run_all (routine_space t inner r path) (meant_in source r body) w)
       body_keeps rule body w controls allowed fits holds =
-          run_all_keeps (freely (context_of units own)) (routine_space t inner r path) Holds invariant (meant_in source r body) w fits
-          (meant_controls (freely (context_of units own)) (kinds_named source r) rule controls body allowed) holds
-
-    -- no declaration makes an array
-    no_element : {A : Type 0} (context : Context (List ℕ)) (v : List ℕ) (bounds : Bounds) (k : Kind) → freely context ≡ freely (context_of units own) → context.element_kind v bounds ≡ Some k → A
-    no_element context v bounds k same is = let none : context.element_kind v bounds ≡ None = ap (λ (c : Context (List ℕ)). c.element_kind v bounds) same in absurd (cc)
+          run_all_keeps free (routine_space t inner r path) Holds invariant (meant_in source r body) w fits
+          (meant_controls free (kinds_named source r) rule controls body allowed) holds
 
     -- what fits as it is declared fits as it is meant
-    pub body_fits : (context : Context (List ℕ)) (body : PlainBody (List ℕ)) → freely context ≡ freely (context_of units own) → ((v : List ℕ) (k : Kind) → context.variable_kind v ≡ Some k → variable_kind units own v ≡ Some k)
-        → ((instance name : List ℕ) (k : Kind) → context.output_kind instance name ≡ Some k → output_kind units own instance name ≡ Some k) → all_fit context body ≡ true → all_fit (freely (context_of units own)) (meant_in source r body) ≡ true
-    body_fits context body same variables outputs fits =
+    pub body_fits : (context : Context (List ℕ)) (body : PlainBody (List ℕ)) → freely context (kinds_named source r) ≡ free → ((v : List ℕ) (k : Kind) → context.variable_kind v ≡ Some k → variable_kind units own v ≡ Some k)
+        → ((instance name : List ℕ) (k : Kind) → context.output_kind instance name ≡ Some k → output_kind units own instance name ≡ Some k) → ((v : List ℕ) (bounds : Bounds) → context.element_kind v bounds ≡ element_kind units own v)
+        → all_fit context body ≡ true → all_fit free (meant_in source r body) ≡ true
+    body_fits context body same variables outputs elements fits =
         subst (λ c. all_fit c (meant_in source r body) ≡ true) same
         (meant_fits context (kinds_named source r)
         (record {
           variable_is = λ v k is. (variable_at units apart own r scope v k (variables v k is)).kind_is;
           output_is = λ instance name k is. output_agrees instance name k (outputs instance name k is);
-          element_is = λ v bounds k is. no_element context v bounds k same is;
+          element_is = λ v bounds k is. (array_at units apart own r scope v k (sym (elements v bounds) ∙ is)).kind_is;
         })
-        (λ v bounds k is. no_element context v bounds k same is) body fits)
+        (λ v bounds k is. elements v (bounds_named source r v) ∙ sym (elements v bounds) ∙ is) body fits)
 
   -- a control variable of a FOR that is allowed is a DINT
   control_by : (own : List PlainDeclared) (name : List ℕ) (o : Option PlainDeclared) → find_declared own name ≡ o → can_control o ≡ true → is_kind kind.Dint (variable_kind units own name) ≡ true
@@ -237,7 +246,7 @@ module _ (units : List PlainUnit) (typed : AreTyped units) (order : List ℕ) (b
       let parts = and_parts (not (is_external d.section)) (is_kind kind.Dint (sort_kind d.sort)) control in
       rw found parts.1
 
-  controlled : (own : List PlainDeclared) (number : ℕ) (v : List ℕ) (from to : PlainExpr (List ℕ)) (by : Option (PlainExpr (List ℕ))) (body : PlainBody (List ℕ)) → stmt_allowed own (for_to number v from to by body) ≡ true → may_control (freely (context_of units own)) v ≡ true
+  controlled : (own : List PlainDeclared) (number : ℕ) (v : List ℕ) (from to : PlainExpr (List ℕ)) (by : Option (PlainExpr (List ℕ))) (body : PlainBody (List ℕ)) → stmt_allowed own (for_to number v from to by body) ≡ true → is_kind kind.Dint (variable_kind units own v) ≡ true
   controlled own number v from to by body allowed =
       let control = (and_parts (is_control own v) (bounds_allowed from to by && never_assigns v body) allowed).0 in
       control_by own v (find_declared own v) refl control
@@ -249,7 +258,7 @@ module _ (units : List PlainUnit) (typed : AreTyped units) (order : List ℕ) (b
       let own = declared_in p.sections in
       let r = routine_of (block_names units) p in
       let scope = routine_scope units p is.well.once is.well.fit in
-      body_keeps own r scope path home t inner keeps (stmt_allowed own) p.body w (controlled own) is.allowed (body_fits own r scope path home (context_of units own) p.body refl (λ v k is. is) (λ instance name k is. is) is.fits) holds
+      body_keeps own r scope path home t inner keeps (stmt_allowed own) p.body w (controlled own) is.allowed (body_fits own r scope path home (context_of units own) p.body refl (λ v k is. is) (λ instance name k is. is) (λ v bounds. refl) is.fits) holds
 
   routine_keeps : (r : PlainRoutine) (t : ℕ) (inner : ℕ → Path → World → Ran World) (path : Path) (w : World) → IsTypedRoutine units r → ((n : ℕ) (q : Path) (w : World) → IsHome n q → Holds w → Leaves Holds (inner n q w))
       → Within all (kinds_rule (routine_kinds source.blocks) r (words_of path)) → Holds w → Leaves Holds (run_rule source t inner r path w)

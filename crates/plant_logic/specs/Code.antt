@@ -1,6 +1,7 @@
 -- A code of sources, by which they may stand in the values of types with a model.
-use Rattle.std.specs.Prelude.{◌≡◌, ℕ, zero, suc, List, Option, refl}
-use Rattle.std.specs.Coded.{Coded, code_by, coded×, coded_list, coded_option, coded_ℕ}
+use Rattle.std.specs.Prelude.{◌≡◌, ℕ, ℤ, zero, suc, List, Option, refl}
+use Rattle.std.specs.Coded.{Coded, code_by, coded×, coded_list, coded_option, coded_ℕ, coded_ℤ}
+use Rattle.plant_types.specs.declared.values.Bounds.{Bounds}
 use Rattle.plant_types.specs.declared.values.Kind.{Kind}
 use Rattle.plant_types.specs.declared.values.Kind.TheVariants as kind
 use Rattle.plant_types.specs.declared.values.Region.{Region}
@@ -9,6 +10,7 @@ use Rattle.st_tree.specs.Plain.{PlainBody}
 use Rattle.st_tree.specs.Code.{body_code}
 use Rattle.plant_logic.specs.declared.logic.Variable.{Variable}
 use Rattle.plant_logic.specs.declared.logic.Local.{Local}
+use Rattle.plant_logic.specs.declared.logic.Row.{Row}
 use Rattle.plant_logic.specs.declared.logic.Instance.{Instance}
 use Rattle.plant_logic.specs.declared.logic.BlockRef.{BlockRef}
 use Rattle.plant_logic.specs.declared.logic.BlockRef.TheVariants.{Ton, Tof, RTrig, Declared}
@@ -57,6 +59,13 @@ variable_code =
 abbrev pub local_code : Coded Local
 local_code = code_by (List ℕ × Kind) (coded× (coded_list coded_ℕ) kind_code) (λ l. (l.name, l.kind)) (λ p. record { name = p.0; kind = p.1 }) (λ _. refl)
 
+abbrev pub bounds_code : Coded Bounds
+bounds_code = code_by (ℤ × ℤ) (coded× coded_ℤ coded_ℤ) (λ b. (b.low, b.high)) (λ p. record { low = p.0; high = p.1 }) (λ _. refl)
+
+abbrev pub row_code : Coded Row
+row_code =
+    code_by (List ℕ × (Kind × Bounds)) (coded× (coded_list coded_ℕ) (coded× kind_code bounds_code)) (λ r. (r.name, (r.kind, r.bounds))) (λ p. record { name = p.0; kind = p.1.0; bounds = p.1.1 }) (λ _. refl)
+
 abbrev block_in : BlockRef → ℕ
 block_in Ton = 0
 block_in Tof = 1
@@ -83,11 +92,13 @@ instance_code = code_by (List ℕ × BlockRef) (coded× (coded_list coded_ℕ) b
 
 abbrev pub routine_code : Coded PlainRoutine
 routine_code =
-    code_by (List ℕ × (List Local × (List Instance × (PlainBody (List ℕ) × PlainBody (List ℕ))))) (coded× (coded_list coded_ℕ) (coded× (coded_list local_code) (coded× (coded_list instance_code) (coded× body_code body_code))))
-    (λ r. (r.name, (r.locals, (r.instances, (r.starts, r.body))))) (λ p. record { name = p.0; locals = p.1.0; instances = p.1.1.0; starts = p.1.1.1.0; body = p.1.1.1.1 }) (λ _. refl)
+    code_by (List ℕ × (List Local × (List Row × (List Instance × (PlainBody (List ℕ) × PlainBody (List ℕ))))))
+    (coded× (coded_list coded_ℕ) (coded× (coded_list local_code) (coded× (coded_list row_code) (coded× (coded_list instance_code) (coded× body_code body_code)))))
+    (λ r. (r.name, (r.locals, (r.rows, (r.instances, (r.starts, r.body)))))) (λ p. record { name = p.0; locals = p.1.0; rows = p.1.1.0; instances = p.1.1.1.0; starts = p.1.1.1.1.0; body = p.1.1.1.1.1 }) (λ _. refl)
 
--- the code of a source: that of its globals, their initial values, its programs and its block types
+-- the code of a source: that of its globals, its global arrays, the initial values that are written for globals, its programs and its block types
 abbrev pub source_code : Coded Source
 source_code =
-    code_by (List Variable × (PlainBody (List ℕ) × (List PlainRoutine × List PlainRoutine))) (coded× (coded_list variable_code) (coded× body_code (coded× (coded_list routine_code) (coded_list routine_code))))
-    (λ s. (s.globals, (s.starts, (s.programs, s.blocks)))) (λ p. record { globals = p.0; starts = p.1.0; programs = p.1.1.0; blocks = p.1.1.1 }) (λ _. refl)
+    code_by (List Variable × (List Row × (PlainBody (List ℕ) × (List PlainRoutine × List PlainRoutine))))
+    (coded× (coded_list variable_code) (coded× (coded_list row_code) (coded× body_code (coded× (coded_list routine_code) (coded_list routine_code)))))
+    (λ s. (s.globals, (s.rows, (s.starts, (s.programs, s.blocks))))) (λ p. record { globals = p.0; rows = p.1.0; starts = p.1.1.0; programs = p.1.1.1.0; blocks = p.1.1.1.1 }) (λ _. refl)

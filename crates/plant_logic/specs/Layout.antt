@@ -1,18 +1,21 @@
 -- The layout of a source: the paths of all values, and of all standard blocks, each list in one order.
-use Rattle.std.specs.Prelude.{◌≡◌, ℕ, ℤ, List, [], ◌∷◌, ◌++◌, map, length, false}
+use Rattle.std.specs.Prelude.{◌≡◌, ℕ, zero, suc, ℤ, pos, ◌+ℤ◌, List, [], ◌∷◌, ◌++◌, map, length, false}
 use Rattle.plant_types.specs.Words.{folded}
+use Rattle.plant_types.specs.Values.{row_length}
+use Rattle.plant_types.specs.declared.values.Bounds.{Bounds}
 use Rattle.std_blocks.specs.Calls.{Call}
 use Rattle.st_names.specs.Taken.{repeats}
 use Rattle.std.specs.List.{All}
 use Rattle.plant_logic.specs.declared.logic.Variable.{Variable}
 use Rattle.plant_logic.specs.declared.logic.Local.{Local}
+use Rattle.plant_logic.specs.declared.logic.Row.{Row}
 use Rattle.plant_logic.specs.declared.logic.Instance.{Instance}
 use Rattle.plant_logic.specs.declared.logic.BlockRef.{BlockRef}
 use Rattle.plant_logic.specs.declared.logic.BlockRef.TheVariants.{Ton, Tof, RTrig, Declared}
 use Rattle.plant_logic.specs.Source.{PlainRoutine, Source}
-use Rattle.plant_logic.specs.Names.{global_words, own_words, instance_words}
+use Rattle.plant_logic.specs.Names.{global_words, own_words, row_words, instance_words}
 use Rattle.plant_logic.specs.Blocks.{by_type}
-use Rattle.plant_logic.specs.Worlds.{Path, World, same_path, in_word, pt_word, clk_word}
+use Rattle.plant_logic.specs.Worlds.{Path, World, same_path, index_word, in_word, pt_word, clk_word}
 
 -- the standard block at a path
 pub record ClockAt : Type 0 where
@@ -30,14 +33,32 @@ abbrev pub instance_values : (ℕ → Path → List Path) → List Instance → 
 instance_values inner [] path = []
 instance_values inner (i ∷ is) path = block_values inner i.of (folded i.name ∷ path) ++ instance_values inner is path
 
--- the values of a routine's own variables, in order of declaration
-abbrev pub own_values : List Local → Path → List Path
-own_values [] path = []
-own_values (l ∷ ls) path = (folded l.name ∷ path) ∷ own_values ls path
+-- the values of variables at a path in small letters, in order of declaration
+abbrev pub local_values : List Local → Path → List Path
+local_values [] path = []
+local_values (l ∷ ls) path = (folded l.name ∷ path) ∷ local_values ls path
 
--- the values of a routine at a path in small letters: those of its own variables, then instance by instance
+-- so many elements of the array at a path, from an index on
+abbrev pub elements_from : ℤ → ℕ → Path → List Path
+elements_from i zero path = []
+elements_from i (suc n) path = (index_word i ∷ path) ∷ elements_from (i +ℤ pos 1) n path
+
+-- the elements of the array at a path, from that of the low bound to that of the high one
+abbrev pub element_values : Bounds → Path → List Path
+element_values bounds path = elements_from bounds.low (row_length bounds) path
+
+-- the elements of arrays at a path in small letters, in order of declaration
+abbrev pub row_values : List Row → Path → List Path
+row_values [] path = []
+row_values (row ∷ rows) path = element_values row.bounds (folded row.name ∷ path) ++ row_values rows path
+
+-- a routine's own values at a path in small letters: those of its variables, then the elements of its arrays
+abbrev pub own_values : PlainRoutine → Path → List Path
+own_values r path = local_values r.locals path ++ row_values r.rows path
+
+-- the values of a routine at a path in small letters: its own, then instance by instance
 abbrev pub values_rule : (ℕ → Path → List Path) → PlainRoutine → Path → List Path
-values_rule inner r path = own_values r.locals path ++ instance_values inner r.instances path
+values_rule inner r path = own_values r path ++ instance_values inner r.instances path
 
 -- the same of the block type of a number
 abbrev pub routine_values : List PlainRoutine → ℕ → Path → List Path
@@ -69,9 +90,13 @@ cells_per_type blocks n = length (routine_values blocks n [])
 abbrev pub clocks_per_type : List PlainRoutine → ℕ → ℕ
 clocks_per_type blocks n = length (routine_clocks blocks n [])
 
--- the values of the globals, in order of declaration
-abbrev pub global_values : List Variable → List Path
-global_values globals = map (λ word. word ∷ []) (global_words globals)
+-- the values of global variables, in order of declaration
+abbrev pub variable_values : List Variable → List Path
+variable_values globals = map (λ word. word ∷ []) (global_words globals)
+
+-- the values of a source's globals: those of its global variables, then the elements of its global arrays
+abbrev pub global_values : Source → List Path
+global_values source = variable_values source.globals ++ row_values source.rows []
 
 -- the values of programs, one after another
 abbrev pub program_values : List PlainRoutine → List PlainRoutine → List Path
@@ -84,7 +109,7 @@ program_clocks blocks (p ∷ ps) = clocks_rule (routine_clocks blocks) p (folded
 
 -- the paths of all values: the globals, then program by program
 abbrev pub cell_paths : Source → List Path
-cell_paths source = global_values source.globals ++ program_values source.blocks source.programs
+cell_paths source = global_values source ++ program_values source.blocks source.programs
 
 -- all standard blocks, program by program
 abbrev pub all_clocks : Source → List ClockAt
@@ -109,13 +134,14 @@ abbrev pub NoneTwice : List Path → Type 0
 NoneTwice [] = Unit {0}
 NoneTwice (p ∷ ps) = Absent p ps × NoneTwice ps
 
--- a routine's own variables and its instances, all together, have different names, letter case ignored
+-- a routine's own variables, its own arrays and its instances, all together, have different names, letter case ignored
 abbrev pub AreNamedApart : PlainRoutine → Type 0
-AreNamedApart r = repeats (own_words r.locals ++ instance_words r.instances) ≡ false
+AreNamedApart r = repeats (own_words r.locals ++ (row_words r.rows ++ instance_words r.instances)) ≡ false
 
--- a source's declared names are distinct: those of its globals, those of its programs, and those of each routine
+-- a source's declared names are distinct: those of its globals, those of its global arrays and its programs, all together, and those of each routine
 pub record IsDistinctlyNamed (source : Source) : Type 0 where
   pub globals_apart : repeats (global_words source.globals) ≡ false
+  pub rows_apart : repeats (row_words source.rows ++ map (λ p. folded p.name) source.programs) ≡ false
   pub programs_apart : repeats (map (λ p. folded p.name) source.programs) ≡ false
   pub in_programs : All AreNamedApart source.programs
   pub in_blocks : All AreNamedApart source.blocks

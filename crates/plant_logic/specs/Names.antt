@@ -1,6 +1,7 @@
 -- Names in a routine, and what they name: its own variables hide globals.
-use Rattle.std.specs.Prelude.{ℕ, pos, List, map, position, Option, option_map, option_and_then, unwrap_or, slice_get, if◌then◌else◌, None, Some, codes}
+use Rattle.std.specs.Prelude.{ℕ, pos, Bool, ◌&&◌, List, map, position, Option, option_map, option_and_then, unwrap_or, slice_get, if◌then◌else◌, None, Some, codes}
 use Rattle.std.specs.Option.{option_map_or}
+use Rattle.std.specs.Ordering.{int_eq}
 use Rattle.std.specs.Str.{bytes_eq}
 use Rattle.plant_types.specs.Words.{folded, same_word}
 use Rattle.plant_types.specs.declared.values.Bounds.{Bounds}
@@ -11,6 +12,7 @@ use Rattle.st_tree.specs.Kinds.{KindsOf, meant}
 use Rattle.st_names.specs.Scopes.{or_other}
 use Rattle.plant_logic.specs.declared.logic.Variable.{Variable}
 use Rattle.plant_logic.specs.declared.logic.Local.{Local}
+use Rattle.plant_logic.specs.declared.logic.Row.{Row}
 use Rattle.plant_logic.specs.declared.logic.Instance.{Instance}
 use Rattle.plant_logic.specs.declared.logic.BlockRef.{BlockRef}
 use Rattle.plant_logic.specs.declared.logic.BlockRef.TheVariants.{Ton, Tof, RTrig, Declared}
@@ -23,6 +25,10 @@ global_words globals = map (λ (global : Variable). folded global.name) globals
 -- the names of a routine's own variables in small letters, in order of declaration
 abbrev pub own_words : List Local → List (List ℕ)
 own_words locals = map (λ (local : Local). folded local.name) locals
+
+-- the names of arrays in small letters, in order of declaration
+abbrev pub row_words : List Row → List (List ℕ)
+row_words rows = map (λ (row : Row). folded row.name) rows
 
 -- the names of a routine's instances in small letters, in order of declaration
 abbrev pub instance_words : List Instance → List (List ℕ)
@@ -39,6 +45,14 @@ find_global globals name = find_word (global_words globals) name
 -- the routine's own variable of a name
 abbrev pub local_named : PlainRoutine → List ℕ → Option Local
 local_named r name = option_and_then (slice_get r.locals) (find_word (own_words r.locals) name)
+
+-- the array of a name, of these
+abbrev pub row_named : List Row → List ℕ → Option Row
+row_named rows name = option_and_then (slice_get rows) (find_word (row_words rows) name)
+
+-- the array of a name in a routine of a source: one of its own hides a global one
+abbrev pub array_named : Source → PlainRoutine → List ℕ → Option Row
+array_named source r name = or_other (row_named r.rows name) (row_named source.rows name)
 
 -- the routine's instance of a name
 abbrev pub instance_named : PlainRoutine → List ℕ → Option Instance
@@ -71,16 +85,21 @@ output_kind_of blocks (Some (Declared n)) name = option_map_or (λ b. unwrap_or 
 abbrev pub output_kind_named : List PlainRoutine → PlainRoutine → (instance name : List ℕ) → Kind
 output_kind_named blocks r instance name = output_kind_of blocks (block_named r instance) name
 
--- the kind of an array's elements and its bounds; no source has an array
-abbrev pub element_kind_named : List ℕ → Kind
-element_kind_named name = kind.Bool
+-- two bounds are the same
+abbrev pub same_bounds : Bounds → Bounds → Bool
+same_bounds a b = int_eq a.low b.low && int_eq a.high b.high
 
-abbrev pub bounds_named : List ℕ → Bounds
-bounds_named name = record { low = pos 0; high = pos 0 }
+-- the kind of the elements of an array; BOOL if there is none
+abbrev pub element_kind_named : Source → PlainRoutine → List ℕ → Kind
+element_kind_named source r name = option_map_or (λ (row : Row). row.kind) (array_named source r name) kind.Bool
+
+-- the declared bounds of an array; those of a single element if there is none
+abbrev pub bounds_named : Source → PlainRoutine → List ℕ → Bounds
+bounds_named source r name = option_map_or (λ (row : Row). row.bounds) (array_named source r name) (record { low = pos 0; high = pos 0 })
 
 -- the kinds of the names in a routine of a source
 abbrev pub kinds_named : Source → PlainRoutine → KindsOf (List ℕ)
-kinds_named source r = record { variable = kind_named source.globals r; output = output_kind_named source.blocks r; element = element_kind_named; bounds = bounds_named }
+kinds_named source r = record { variable = kind_named source.globals r; output = output_kind_named source.blocks r; element = element_kind_named source r; bounds = bounds_named source r }
 
 -- the body that is meant by the body or the initial values of a routine of a source: its statements are numbered from 1, each operator is that of its operands' kind, and each array has its declared bounds
 abbrev pub meant_in : Source → PlainRoutine → PlainBody (List ℕ) → PlainBody (List ℕ)

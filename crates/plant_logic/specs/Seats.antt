@@ -1,12 +1,13 @@
 -- Where the values and the standard blocks of instances stand in the lists of all, by number.
-use Rattle.std.specs.Prelude.{◌≡◌, ℕ, zero, suc, ◌+◌, Bool, true, false, if◌then◌else◌, List, [], ◌∷◌, length, Option, Some, None, option_and_then, slice_get, codes}
+use Rattle.std.specs.Prelude.{◌≡◌, ℕ, zero, suc, ◌+◌, Bool, true, false, if◌then◌else◌, List, [], ◌∷◌, length, take, Option, Some, None, option_map, option_and_then, slice_get, codes}
 use Rattle.plant_types.specs.Words.{same_word}
 use Rattle.plant_logic.specs.declared.logic.Variable.{Variable}
+use Rattle.plant_logic.specs.declared.logic.Row.{Row}
 use Rattle.plant_logic.specs.declared.logic.Instance.{Instance}
 use Rattle.plant_logic.specs.declared.logic.BlockRef.{BlockRef}
 use Rattle.plant_logic.specs.declared.logic.BlockRef.TheVariants.{Ton, Tof, RTrig, Declared}
-use Rattle.plant_logic.specs.Source.{PlainRoutine, Source, own_cells, global_cells}
-use Rattle.plant_logic.specs.Names.{global_words, own_words, find_word}
+use Rattle.plant_logic.specs.Source.{PlainRoutine, Source, row_cells, own_cells, global_cells}
+use Rattle.plant_logic.specs.Names.{global_words, own_words, row_words, find_word}
 use Rattle.plant_logic.specs.Layout.{block_values, values_rule, routine_values, block_clocks, clocks_rule, routine_clocks}
 
 -- a list stands in another one from a number on
@@ -31,7 +32,7 @@ clocks_before blocks [] k = 0
 clocks_before blocks (i ∷ is) zero = 0
 clocks_before blocks (i ∷ is) (suc k) = clock_count blocks i.of + clocks_before blocks is k
 
--- the number of the first value of a routine's instance, counted from the routine's first: after its own variables and the instances before it
+-- the number of the first value of a routine's instance, counted from the routine's first: after its own variables and arrays, and the instances before it
 abbrev pub value_offset : List PlainRoutine → PlainRoutine → ℕ → ℕ
 value_offset blocks r k = own_cells r + values_before blocks r.instances k
 
@@ -66,6 +67,14 @@ own_or_global base None other = other
 -- the number of the value of a name in a routine whose first value has a number: a variable of its own hides a global
 abbrev pub value_number : List Variable → PlainRoutine → (base : ℕ) → List ℕ → Option ℕ
 value_number globals r base name = own_or_global base (find_word (own_words r.locals) name) (find_word (global_words globals) name)
+
+-- the number of the first element of the array of a name, counted from the first element of all these arrays
+abbrev pub row_first : List Row → List ℕ → Option ℕ
+row_first rows name = option_map (λ k. row_cells (take k rows)) (find_word (row_words rows) name)
+
+-- the number of the first element of the array of a name in a routine whose first value has a number: arrays come behind the variables, and one of its own hides a global one
+abbrev pub row_number : Source → PlainRoutine → (base : ℕ) → List ℕ → Option ℕ
+row_number source r base name = own_or_global (base + length r.locals) (row_first r.rows name) (option_map (λ n. length source.globals + n) (row_first source.rows name))
 
 -- the numbers of a timer's inputs
 abbrev pub timer_number : List ℕ → Option ℕ

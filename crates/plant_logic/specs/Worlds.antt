@@ -12,7 +12,7 @@ use Rattle.plant_logic.specs.declared.logic.Instance.{Instance}
 use Rattle.plant_logic.specs.declared.logic.BlockRef.{BlockRef}
 use Rattle.plant_logic.specs.declared.logic.BlockRef.TheVariants.{Ton, Tof, RTrig, Declared}
 use Rattle.plant_logic.specs.Source.{PlainRoutine, Source}
-use Rattle.plant_logic.specs.Names.{own_words, find_word, instance_named, block_named, meant_in}
+use Rattle.plant_logic.specs.Names.{own_words, row_words, find_word, instance_named, block_named, meant_in}
 use Rattle.plant_logic.specs.Blocks.{by_type}
 
 -- a list of names, the innermost first: as declared for a routine, in small letters for a value or for calls
@@ -56,9 +56,13 @@ abbrev pub index_word : ℤ → List ℕ
 index_word (pos n) = 91 ∷ n ∷ []
 index_word (negsuc n) = 91 ∷ 45 ∷ n ∷ []
 
+-- the path of an array's name in the routine at a path: an array of its own hides a global one
+abbrev pub row_path : PlainRoutine → Path → List ℕ → Path
+row_path r path name = if is_some (find_word (row_words r.rows) name) then folded name ∷ words_of path else path_of name
+
 -- the path of an array's element, by its index
 abbrev pub element_path : PlainRoutine → Path → List ℕ → ℤ → Path
-element_path r path name i = index_word i ∷ path_in r path name
+element_path r path name i = index_word i ∷ row_path r path name
 
 -- a standard block's inputs and outputs, in small letters
 abbrev pub in_word : List ℕ
@@ -168,7 +172,7 @@ programs_begun source (p ∷ ps) w = programs_begun source ps (begin_rule source
 
 -- the list of globals as a routine: it has no variables of its own, and does nothing
 abbrev pub globals_routine : Source → PlainRoutine
-globals_routine source = record { name = codes "VAR_GLOBAL"; locals = []; instances = []; starts = source.starts; body = done }
+globals_routine source = record { name = codes "VAR_GLOBAL"; locals = []; rows = []; instances = []; starts = source.starts; body = done }
 
 -- the world in which each value is FALSE or 0, and no standard block was called
 abbrev pub zero_world : World

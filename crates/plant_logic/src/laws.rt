@@ -1,13 +1,13 @@
 //! Laws of sources. These functions do nothing: each has a law as its contract, for the crates above.
 
 ghost use Rattle.std.specs.Prelude.{◌≡◌, ◌+◌, ◌∷◌, [], ℕ, ℤ, List, map, Some, slice_get, slice_set, true, false};
-ghost use Rattle.plant_types.specs.Values.{is_in_range};
+ghost use Rattle.plant_types.specs.Values.{is_in_range, has_index, row_place};
 ghost use Rattle.plant_types.specs.Words.{folded};
 ghost use Rattle.std_blocks.specs.Calls.{Call};
 ghost use Rattle.plant_logic.specs.declared.logic.Variable.{Variable};
 ghost use Rattle.plant_logic.specs.declared.logic.Instance.{Instance};
 ghost use Rattle.plant_logic.specs.declared.logic.BlockRef.{BlockRef};
-ghost use Rattle.plant_logic.specs.Names.{find_word, instance_words, instance_named};
+ghost use Rattle.plant_logic.specs.Names.{find_word, instance_words, instance_named, bounds_named};
 ghost use Rattle.block_order.specs.Blocks.{AreOrdered};
 ghost use Rattle.st_tree.specs.Ranges.{Leaves};
 ghost use Rattle.st_parser.specs.Units.{PlainUnit};
@@ -18,9 +18,9 @@ ghost use Rattle.st_typing.specs.Faults.{AreTyped};
 ghost use Rattle.plant_logic.specs.Source.{PlainRoutine, Source};
 ghost use Rattle.plant_logic.specs.Units.{source_in};
 ghost use Rattle.plant_logic.specs.Blocks.{by_type, AsksDeclared, AreBelow, HasItsTypes};
-ghost use Rattle.plant_logic.specs.Worlds.{Path, World, words_of, path_of, path_in, assign, with_call, run_rule, run_routine, run_program, begin_rule, routine_begun, opening};
+ghost use Rattle.plant_logic.specs.Worlds.{Path, World, words_of, path_of, path_in, element_path, assign, with_call, run_rule, run_routine, run_program, begin_rule, routine_begun, opening};
 ghost use Rattle.plant_logic.specs.Layout.{ClockAt, block_values, values_rule, routine_values, block_clocks, clocks_rule, routine_clocks, cell_paths, all_clocks, clock_paths, Stands, NoneTwice, IsDistinctlyNamed};
-ghost use Rattle.plant_logic.specs.Seats.{StandsFrom, value_offset, clock_offset, program_values_base, program_clocks_base, value_number, member_number, is_of_standard};
+ghost use Rattle.plant_logic.specs.Seats.{StandsFrom, value_offset, clock_offset, program_values_base, program_clocks_base, value_number, row_number, member_number, is_of_standard};
 ghost use Rattle.plant_logic.specs.Ranges.{KindAt, all_kinds, AllInRange};
 ghost use Rattle.plant_logic.specs.Carried.{carried};
 
@@ -113,6 +113,15 @@ pub fn named_value_stands()
     ensures { (source : Source) (r : PlainRoutine) (path : Path) (base : ℕ) (name : List ℕ) (n : ℕ)
         → StandsFrom (cell_paths source) base (values_rule (routine_values source.blocks) r (words_of path))
         → value_number source.globals r base name ≡ Some n → slice_get (cell_paths source) n ≡ Some (path_in r path name) }
+{}
+
+/// Where a routine's values stand among all values from a number on, there the value of an element's number has the path of the element: the
+/// number of the array of a name, and so many more as the index is above the low bound.
+pub fn named_element_stands()
+    ensures { (source : Source) (r : PlainRoutine) (path : Path) (base : ℕ) (name : List ℕ) (n : ℕ) (i : ℤ)
+        → StandsFrom (cell_paths source) base (values_rule (routine_values source.blocks) r (words_of path))
+        → row_number source r base name ≡ Some n → has_index (bounds_named source r name) i ≡ true
+        → slice_get (cell_paths source) (row_place n (bounds_named source r name) i) ≡ Some (element_path r path name i) }
 {}
 
 /// The value of a path's number is the world's value at the path.

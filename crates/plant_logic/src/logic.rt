@@ -1,12 +1,18 @@
 //! A source that was parsed: global variables, programs and block types.
 
-use plant_types::{Kind, Region, Text};
+ghost use Rattle.std.specs.Prelude.{◌≡◌, ◌<◌, ◌^◌};
+ghost use Rattle.plant_types.specs.Values.{row_length};
+ghost use Rattle.plant_logic.specs.Source.{row_cells};
+
+use plant_types::{Bounds, Kind, Region, Text};
 use st_tree::Stmt;
 
 /// The global variables, the programs and the block types of a plant.
 pub struct Logic {
     /// In order of declaration.
     pub globals: Vec<Variable>,
+    /// The global arrays, in order of declaration.
+    pub rows: Vec<Row>,
     /// An assignment for each initial value that is written for a global.
     pub starts: Vec<Stmt<Text>>,
     /// In order of text.
@@ -19,6 +25,7 @@ impl Drop for Logic {
     fn drop(self) {
         let Logic {
             globals: _,
+            rows: _,
             starts: _,
             programs: _,
             blocks: _,
@@ -56,6 +63,45 @@ impl Drop for Local {
     }
 }
 
+/// An array (IEC 61131-3), with its name as declared.
+pub struct Row {
+    pub name: Text,
+    /// That of each element.
+    pub kind: Kind,
+    pub bounds: Bounds,
+}
+
+impl Drop for Row {
+    fn drop(self) {
+        let Row {
+            name: _,
+            kind: _,
+            bounds: _,
+        } = self;
+    }
+}
+
+impl Row {
+    /// How many elements it has: an index from the low bound to the high one each.
+    pub fn elements(&self) -> usize
+        ensures { result ≡ row_length self.now.bounds }
+    {
+        self.bounds.high.abs_diff(self.bounds.low) as usize + 1
+    }
+}
+
+/// How many cells arrays have together: one for each element. There are no more than a number has room for.
+pub fn row_cells(rows: &[Row]) -> usize
+    requires { row_cells rows.now < 2 ^ 64 }
+    ensures { result ≡ row_cells rows.now }
+{
+    let mut total = 0;
+    for row in rows {
+        total += row.elements();
+    }
+    total
+}
+
 /// What an instance is of: a standard block (IEC 61131-3), or the declared block type of a number.
 #[derive(Clone, Copy, Drop)]
 pub enum BlockRef {
@@ -86,6 +132,8 @@ pub struct Routine {
     pub name: Text,
     /// Its own variables in order of declaration: those of VAR, VAR_INPUT and VAR_OUTPUT.
     pub locals: Vec<Local>,
+    /// Its own arrays, in order of declaration.
+    pub rows: Vec<Row>,
     /// Its instances in order of declaration.
     pub instances: Vec<Instance>,
     /// An assignment for each initial value that is written for one of its own variables.
@@ -98,6 +146,7 @@ impl Drop for Routine {
         let Routine {
             name: _,
             locals: _,
+            rows: _,
             instances: _,
             starts: _,
             body: _,

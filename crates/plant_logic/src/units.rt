@@ -11,9 +11,9 @@ ghost use Rattle.st_names.specs.DeclaredNames.{declared_in};
 ghost use Rattle.st_names.specs.Taken.{repeats};
 ghost use Rattle.plant_logic.specs.Pous.{pous_of, block_pous, pou_word};
 ghost use Rattle.plant_logic.specs.Source.{view_routine, source_of};
-ghost use Rattle.plant_logic.specs.Units.{block_ref, global_of, local_of, instance_of, start_of, starts_in, routine_of, declared_globals, source_in};
+ghost use Rattle.plant_logic.specs.Units.{block_ref, global_of, local_of, global_row_of, own_row_of, instance_of, start_of, starts_in, routine_of, declared_globals, source_in};
 
-use crate::logic::{BlockRef, Instance, Local, Logic, Routine, Variable};
+use crate::logic::{BlockRef, Instance, Local, Logic, Routine, Row, Variable};
 use crate::pous::{Pous, names_of, pous_of};
 use plant_types::{Text, same_word};
 use st_names::{Declared, declared_in};
@@ -24,7 +24,7 @@ use std::alloc::{AllocError, Global};
 use std::mem::replace;
 use word_index::Names;
 
-/// Adds a declared variable to the globals; an instance is none. Fails if allocation fails.
+/// Adds a declared variable to the globals; an array and an instance are none. Fails if allocation fails.
 fn push_global(
     alloc: Global,
     variables: &mut Vec<Variable>,
@@ -60,8 +60,8 @@ fn is_own(declared: &Declared<'_>) -> bool
     !matches!(declared.section(), SectionKind::External)
 }
 
-/// Adds a declared variable to a routine's own; an instance is none, and a VAR_EXTERNAL is the global of its name. Fails if allocation
-/// fails.
+/// Adds a declared variable to a routine's own; an array and an instance are none, and a VAR_EXTERNAL is the global of its name. Fails if
+/// allocation fails.
 fn push_local(
     alloc: Global,
     locals: &mut Vec<Local>,
@@ -92,6 +92,61 @@ fn locals_of(alloc: Global, list: &[Declared<'_>]) -> Result<Vec<Local>, AllocEr
     Ok(locals)
 }
 
+/// Adds a declared array to the global ones; a variable and an instance are none. Fails if allocation fails.
+fn push_global_row(
+    alloc: Global,
+    rows: &mut Vec<Row>,
+    declared: &Declared<'_>,
+) -> Result<(), AllocError>
+    ensures { IfOk result (λ _. rows.new.items ≡ rows.old.items ++ global_row_of declared.now) }
+{
+    let Sort::Array(bounds, kind) = declared.sort() else {
+        return Ok(());
+    };
+    let name = declared.name().copy(alloc)?;
+    let bounds = *bounds;
+    let kind = *kind;
+    rows.push(Row { name, kind, bounds })?;
+    Ok(())
+}
+
+/// Declared arrays as global ones, in order. Fails if allocation fails.
+fn global_rows_of(alloc: Global, list: &[Declared<'_>]) -> Result<Vec<Row>, AllocError>
+    ensures { IfOk result (λ rows. rows.items ≡ flat_map global_row_of list.now) }
+{
+    let mut rows = Vec::new(alloc);
+    for declared in list {
+        push_global_row(alloc, &mut rows, declared)?;
+    }
+    Ok(rows)
+}
+
+/// Adds a declared array to a routine's own; a variable and an instance are none, and a VAR_EXTERNAL is the global array of its name. Fails
+/// if allocation fails.
+fn push_own_row(
+    alloc: Global,
+    rows: &mut Vec<Row>,
+    declared: &Declared<'_>,
+) -> Result<(), AllocError>
+    ensures { IfOk result (λ _. rows.new.items ≡ rows.old.items ++ own_row_of declared.now) }
+{
+    if is_own(declared) {
+        push_global_row(alloc, rows, declared)?;
+    }
+    Ok(())
+}
+
+/// Declared arrays as a routine's own, in order. Fails if allocation fails.
+fn own_rows_of(alloc: Global, list: &[Declared<'_>]) -> Result<Vec<Row>, AllocError>
+    ensures { IfOk result (λ rows. rows.items ≡ flat_map own_row_of list.now) }
+{
+    let mut rows = Vec::new(alloc);
+    for declared in list {
+        push_own_row(alloc, &mut rows, declared)?;
+    }
+    Ok(rows)
+}
+
 /// The block type of a word, by the names of the declared block types; the number behind all of them where none has the name.
 fn block_ref(names: &Names, word: &Text) -> BlockRef
     ensures { result ≡ block_ref names.now word.now }
@@ -108,7 +163,7 @@ fn block_ref(names: &Names, word: &Text) -> BlockRef
     }
 }
 
-/// Adds a declared instance to a routine's own; a variable is none. Fails if allocation fails.
+/// Adds a declared instance to a routine's own; a variable and an array are none. Fails if allocation fails.
 fn push_instance(
     alloc: Global,
     names: &Names,
@@ -176,6 +231,7 @@ fn starts_of(alloc: Global, list: &[Declared<'_>]) -> Result<Vec<Stmt<Text>>, Al
 #[derive(Drop)]
 struct Heads {
     locals: Vec<Local>,
+    rows: Vec<Row>,
     instances: Vec<Instance>,
     starts: Vec<Stmt<Text>>,
 }
@@ -183,12 +239,14 @@ struct Heads {
 /// What sections declare. Fails if allocation fails.
 fn heads_of(alloc: Global, names: &Names, sections: &[Section]) -> Result<Heads, AllocError>
     ensures locals { IfOk result (λ heads. heads.locals.items ≡ flat_map local_of (declared_in (map view_section sections.now))) }
+    ensures rows { IfOk result (λ heads. heads.rows.items ≡ flat_map own_row_of (declared_in (map view_section sections.now))) }
     ensures instances { IfOk result (λ heads. heads.instances.items ≡ flat_map (instance_of names.now) (declared_in (map view_section sections.now))) }
     ensures starts { IfOk result (λ heads. view_body heads.starts.items ≡ starts_in (declared_in (map view_section sections.now))) }
 {
     let declared = declared_in(alloc, sections)?;
     Ok(Heads {
         locals: locals_of(alloc, &declared)?,
+        rows: own_rows_of(alloc, &declared)?,
         instances: instances_of(alloc, names, &declared)?,
         starts: starts_of(alloc, &declared)?,
     })
@@ -209,12 +267,14 @@ fn routine_of(alloc: Global, names: &Names, pou: Pou) -> Result<Routine, AllocEr
     let name = pou.name.copy(alloc)?;
     let Heads {
         locals,
+        rows,
         instances,
         starts,
     } = heads_of(alloc, names, &pou.sections)?;
     Ok(Routine {
         name,
         locals,
+        rows,
         instances,
         starts,
         body: body_of(alloc, pou),
@@ -254,14 +314,26 @@ fn declared_globals<'a>(alloc: Global, units: &'a [Unit]) -> Result<Vec<Declared
     Ok(list)
 }
 
-/// The globals of units, and their initial values. Fails if allocation fails.
-fn globals_in(alloc: Global, units: &[Unit]) -> Result<(Vec<Variable>, Vec<Stmt<Text>>), AllocError>
-    ensures globals { IfOk result (λ made. made.0.items ≡ flat_map global_of (declared_globals (map view_unit units.now))) }
-    ensures starts { IfOk result (λ made. view_body made.1.items ≡ starts_in (declared_globals (map view_unit units.now))) }
+/// What the units declare as globals.
+#[derive(Drop)]
+struct GlobalHeads {
+    globals: Vec<Variable>,
+    rows: Vec<Row>,
+    starts: Vec<Stmt<Text>>,
+}
+
+/// The globals and the global arrays of units, and the globals' initial values. Fails if allocation fails.
+fn globals_in(alloc: Global, units: &[Unit]) -> Result<GlobalHeads, AllocError>
+    ensures globals { IfOk result (λ heads. heads.globals.items ≡ flat_map global_of (declared_globals (map view_unit units.now))) }
+    ensures rows { IfOk result (λ heads. heads.rows.items ≡ flat_map global_row_of (declared_globals (map view_unit units.now))) }
+    ensures starts { IfOk result (λ heads. view_body heads.starts.items ≡ starts_in (declared_globals (map view_unit units.now))) }
 {
     let declared = declared_globals(alloc, units)?;
-    let globals = globals_of(alloc, &declared)?;
-    Ok((globals, starts_of(alloc, &declared)?))
+    Ok(GlobalHeads {
+        globals: globals_of(alloc, &declared)?,
+        rows: global_rows_of(alloc, &declared)?,
+        starts: starts_of(alloc, &declared)?,
+    })
 }
 
 /// The source that units make, where no two blocks have one name. Fails if allocation fails.
@@ -269,11 +341,16 @@ fn logic_in(alloc: Global, units: Vec<Unit>) -> Result<Logic, AllocError>
     requires { repeats (map pou_word (block_pous (pous_of (map view_unit units.items)))) ≡ false }
     ensures { IfOk result (λ logic. source_of logic ≡ source_in (map view_unit units.items)) }
 {
-    let (globals, starts) = globals_in(alloc, units.as_slice())?;
+    let GlobalHeads {
+        globals,
+        rows,
+        starts,
+    } = globals_in(alloc, units.as_slice())?;
     let Pous { blocks, programs } = pous_of(alloc, units)?;
     let names = names_of(alloc, blocks.as_slice())?;
     Ok(Logic {
         globals,
+        rows,
         starts,
         programs: routines_of(alloc, &names, programs)?,
         blocks: routines_of(alloc, &names, blocks)?,

@@ -43,8 +43,12 @@ fn told(limit: Limit) -> (&'static str, &'static str) {
             "docs/LANGUAGE.md, \"Limits (this profile)\"",
         ),
         Limit::Programs => ("there are more than 512 programs", LIMITS),
+        Limit::Elements => (
+            "some array has more than 4096 elements",
+            "docs/LANGUAGE.md, \"Limits (this profile)\"",
+        ),
         Limit::Slots => (
-            "there are more than 65536 variables and standard blocks, in each instance anew",
+            "there are more than 65536 variables, elements of arrays and standard blocks, in each instance anew",
             "docs/LANGUAGE.md, \"Limits (this profile)\"",
         ),
         Limit::Size => (

@@ -5,7 +5,7 @@ use Rattle.block_order.specs.Chains.{Among}
 use Rattle.plant_logic.specs.declared.logic.Instance.{Instance}
 use Rattle.plant_logic.specs.declared.logic.BlockRef.{BlockRef}
 use Rattle.plant_logic.specs.declared.logic.BlockRef.TheVariants.{Ton, Tof, RTrig, Declared}
-use Rattle.plant_logic.specs.Source.{PlainRoutine, Source}
+use Rattle.plant_logic.specs.Source.{PlainRoutine, Source, own_cells}
 use Rattle.plant_logic.specs.Blocks.{AreBelow, HasItsTypes, DeclaresThere}
 use Rattle.plant_logic.specs.Seats.{value_count, clock_count}
 use Rattle.plant_logic.proofs.Layouts.{all_at}
@@ -38,4 +38,4 @@ programs_use_first source order frames are below types n program at =
     let p = element source.programs n (omega (arith, within, whole)) in
     let there = all_at (DeclaresThere source.blocks) source.programs n p.0 types.in_programs p.1 in
     let is = are.of_programs n p.0 program p.1 at in
-    seats_first source.blocks p.0 order (length p.0.locals) 0 p.0.instances program.seats.items is.seats_are (λ i m here of_is. place_within order m (below.whole m (there m (i, here, of_is))))
+    seats_first source.blocks p.0 order (own_cells p.0) 0 p.0.instances program.seats.items is.seats_are (λ i m here of_is. place_within order m (below.whole m (there m (i, here, of_is))))

@@ -9,7 +9,7 @@ use Rattle.plant_logic.specs.Source.{PlainRoutine, Source, global_cells}
 use Rattle.plant_logic.specs.Layout.{values_rule, routine_values, global_values, program_values, cell_paths, clocks_rule, routine_clocks}
 use Rattle.plant_logic.specs.Paths.{paths_rule, type_paths}
 use Rattle.plant_logic.specs.Seats.{program_values_before, program_clocks_before, program_values_base, program_clocks_base}
-use Rattle.plant_logic.proofs.Seats.{values_length, routine_length}
+use Rattle.plant_logic.proofs.Seats.{global_count, values_length, routine_length}
 use Rattle.plant_walk.specs.Bases.{program_paths_before, program_paths_base, AreBases}
 
 -- a row with one base
@@ -103,8 +103,6 @@ values_whole blocks (p ∷ ps) =
 pub values_end : (source : Source) → program_values_base source (length source.programs) ≡ length (cell_paths source)
 values_end source =
     let rest = values_whole source.blocks source.programs in
-    let words = map (λ (global : Variable). folded global.name) source.globals in
-    let many = length-map words (λ (word : List ℕ). word ∷ []) in
-    let many' = length-map source.globals (λ (global : Variable). folded global.name) in
-    let sum = length-append (global_values source.globals) (program_values source.blocks source.programs) in
-    omega (arith, rest, many, many', sum)
+    let many = global_count source in
+    let sum = length-append (global_values source) (program_values source.blocks source.programs) in
+    omega (arith, rest, many, sum)

@@ -59,8 +59,8 @@ module _ (blocks : List PlainRoutine) where
   routine_counted counts r path right =
       let own = own_count r path in
       let rest = instances_counted counts r.instances path (λ i there n is. right n (i, there, is)) in
-      let many = length-append (own_values r.locals path) (instance_values (routine_values blocks) r.instances path) in
-      sums (own_cells r) (length (own_values r.locals path)) (sum_by (λ (i : Instance). instance_count counts i.of) r.instances) (length (instance_values (routine_values blocks) r.instances path)) (ap stopped (sym own)) rest ∙ ap stopped (sym many)
+      let many = length-append (own_values r path) (instance_values (routine_values blocks) r.instances path) in
+      sums (own_cells r) (length (own_values r path)) (sum_by (λ (i : Instance). instance_count counts i.of) r.instances) (length (instance_values (routine_values blocks) r.instances path)) (ap stopped (sym own)) rest ∙ ap stopped (sym many)
 
   -- what is among a list with one more
   among_last : (xs : List ℕ) (x n : ℕ) → Among (xs ++ x ∷ []) n → Among xs n ⊎ (x ≡ n)

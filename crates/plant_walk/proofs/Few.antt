@@ -40,7 +40,7 @@ module _ (f : ℕ → Path → List Path) (g : ℕ → ℕ) (less : (n : ℕ) (p
   values_few r path =
       let own = own_count r path in
       let rest = instance_values_few r.instances path in
-      let many = length-append (own_values r.locals path) (instance_values f r.instances path) in
+      let many = length-append (own_values r path) (instance_values f r.instances path) in
       omega (arith, own, rest, many)
 
 -- the same of clocks

@@ -19,7 +19,7 @@ use Rattle.plant_logic.specs.declared.logic.Instance.{Instance}
 use Rattle.plant_logic.specs.declared.logic.BlockRef.{BlockRef}
 use Rattle.plant_logic.specs.declared.logic.BlockRef.TheVariants.{Ton, Tof, RTrig, Declared}
 use Rattle.plant_logic.specs.Source.{PlainRoutine, Source}
-use Rattle.plant_logic.specs.Names.{own_words, instance_words, find_word, block_named}
+use Rattle.plant_logic.specs.Names.{own_words, row_words, instance_words, find_word, block_named}
 use Rattle.plant_logic.specs.Blocks.{levels}
 use Rattle.plant_logic.specs.Worlds.{Path}
 use Rattle.plant_logic.specs.Layout.{AreNamedApart}
@@ -204,7 +204,7 @@ behind_apart [] ys apart = apart
 behind_apart (x ∷ xs) ys apart = behind_apart xs ys (or_parts (is_among (xs ++ ys) x) (repeats (xs ++ ys)) apart).1
 
 pub instances_apart : (r : PlainRoutine) → AreNamedApart r → repeats (instance_words r.instances) ≡ false
-instances_apart r apart = behind_apart (own_words r.locals) (instance_words r.instances) apart
+instances_apart r apart = behind_apart (row_words r.rows) (instance_words r.instances) (behind_apart (own_words r.locals) (row_words r.rows ++ instance_words r.instances) apart)
 
 module _ (blocks : List PlainRoutine) (apart : All AreNamedApart blocks) where
   types_by : (d n : ℕ) (o : Option PlainRoutine) → slice_get blocks n ≡ o → ((m : ℕ) → length (levels [] paths_rule blocks d m) ≤ 1 + levels 0 routine_size blocks d m)

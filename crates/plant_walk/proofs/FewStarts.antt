@@ -16,7 +16,7 @@ use Rattle.st_names.specs.DeclaredNames.{PlainDeclared, declared_in}
 use Rattle.st_names.specs.Scopes as scopes
 use Rattle.st_names.specs.Scopes.{is_external}
 use Rattle.st_typing.specs.Faults.{AreTyped}
-use Rattle.st_typing.specs.Kinds.{initial_fits, instance_fits, sort_fits, declared_fits, globals_misfit, pou_misfit}
+use Rattle.st_typing.specs.Kinds.{initial_fits, instance_fits, array_stands, sort_fits, declared_fits, globals_misfit, pou_misfit}
 use Rattle.plant_logic.specs.declared.logic.Variable.{Variable}
 use Rattle.plant_logic.specs.declared.logic.Local.{Local}
 use Rattle.plant_logic.specs.Source.{PlainRoutine}
@@ -33,6 +33,10 @@ instance_none sections.Output e h = absurd (cc)
 instance_none sections.External e h = absurd (cc)
 instance_none sections.Global e h = absurd (cc)
 
+-- an array has none
+array_none : {P : Type 0} (stands : Bool) (e : PlainExpr (List ℕ)) → (is_none (Some e) && stands) ≡ true → P
+array_none stands e h = absurd (cc)
+
 -- a VAR_EXTERNAL has none
 inside : (external other fit : Bool) (e : PlainExpr (List ℕ)) → (if external then is_none (Some e) && other else fit) ≡ true → external ≡ false
 inside true other fit e h = absurd (cc)
@@ -46,6 +50,7 @@ module _ (units : List PlainUnit) (own : List PlainDeclared) where
       let within = inside (is_external d.section) (is_kind k (scopes.global_kind units d.name)) (initial_fits units own (Some k) (Some e)) e
       (ap (λ o. if is_external d.section then is_none o && is_kind k (scopes.global_kind units d.name) else initial_fits units own (Some k) o) (sym is) ∙ fit) in
       rw within (omega (arith, less))
+  own_start d (sort.Array bounds k) (Some e) rest locals is fit less = array_none (array_stands units d.name bounds k d.section) e (ap (λ o. is_none o && array_stands units d.name bounds k d.section) (sym is) ∙ fit)
   own_start d (sort.Block word) (Some e) rest locals is fit less = instance_none d.section e (ap (instance_fits d.section) (sym is) ∙ fit)
 
   own_starts : (ds : List PlainDeclared) → list_all (declared_fits units own) ds ≡ true → count_body (listed (flat_map start_of ds)) ≤ length (flat_map local_of ds)
@@ -58,6 +63,7 @@ module _ (units : List PlainUnit) (own : List PlainDeclared) where
       → count_body (listed (start_by d.name o ++ rest)) ≤ length (global_by d s ++ globals)
   global_start d s None rest globals is fit less = let sum = length-append (global_by d s) globals in omega (arith, less, sum)
   global_start d (sort.Kind k) (Some e) rest globals is fit less = omega (arith, less)
+  global_start d (sort.Array bounds k) (Some e) rest globals is fit less = array_none (array_stands units d.name bounds k d.section) e (ap (λ o. is_none o && array_stands units d.name bounds k d.section) (sym is) ∙ fit)
   global_start d (sort.Block word) (Some e) rest globals is fit less = instance_none d.section e (ap (instance_fits d.section) (sym is) ∙ fit)
 
   global_starts : (ds : List PlainDeclared) → list_all (declared_fits units own) ds ≡ true → count_body (listed (flat_map start_of ds)) ≤ length (flat_map global_of ds)
@@ -79,4 +85,4 @@ block_starts_few units typed n r at = routine_starts units r (block_typed units 
 pub global_starts_few : (units : List PlainUnit) → AreTyped units → count_body (source_in units).starts ≤ length (source_in units).globals
 global_starts_few units typed =
     global_starts units [] (declared_globals units)
-    (each_global (globals_misfit units) (pou_misfit units) (declared_fits units []) (λ ss fits. (globals_fit units ss fits).1) 0 units typed.are_shallow.are_short.constant.are_apart.kinded.kinds)
+    (each_global (globals_misfit units) (pou_misfit units) (declared_fits units []) (λ ss fits. (globals_fit units ss fits).1) 0 units typed.are_few.are_shallow.are_short.constant.are_apart.kinded.kinds)

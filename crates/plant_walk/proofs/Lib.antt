@@ -2,7 +2,7 @@ pub mod Small
 pub mod Standing
 pub mod Ranges
 mod Counted
-mod Bases
+pub mod Bases
 mod Few
 mod FewPaths
 mod FewStarts

@@ -11,7 +11,7 @@ use Rattle.st_tree.specs.Numbers.{count_stmt, count_body, count_branches, count_
 use Rattle.st_tree.specs.Costs.{weight, weight_all, branches_weight, choices_weight}
 use Rattle.block_order.specs.Chains.{Among}
 use Rattle.plant_logic.specs.declared.logic.Instance.{Instance}
-use Rattle.plant_logic.specs.Source.{PlainRoutine, Source}
+use Rattle.plant_logic.specs.Source.{PlainRoutine, Source, global_cells}
 use Rattle.plant_logic.specs.Paths.{called_in}
 use Rattle.plant_logic.specs.Layout.{AreNamedApart}
 use Rattle.plant_logic.proofs.Layouts.{all_at}
@@ -19,7 +19,7 @@ use Rattle.plant_limits.specs.Counts.{instance_slots, routine_slots, instance_we
 use Rattle.block_frames.specs.Reached.{AsksFor, Reaches, by_program, by_block}
 use Rattle.block_frames.specs.Small.{HasFewCells, HasFewSteps, IsSmall}
 use Rattle.plant_walk.specs.Sound.{IsSound}
-use Rattle.plant_walk.proofs.Small.{sound_named, few_globals}
+use Rattle.plant_walk.proofs.Small.{sound_named, few_globals, few_global_cells}
 use Rattle.plant_walk.proofs.Few.{routine_values_few, routine_clocks_few}
 use Rattle.plant_walk.proofs.FewPaths.{weight_of, body_heavy, named, instances_apart, routine_paths_few}
 use Rattle.plant_walk.proofs.FewStarts.{program_starts_few, block_starts_few, global_starts_few}
@@ -89,7 +89,7 @@ module _ (source : Source) (sound : IsSound source) (slots_are : (n : ℕ) (r : 
     (sizes_are : (n : ℕ) (r : PlainRoutine) → slice_get source.blocks n ≡ Some r → type_size source.blocks n ≡ routine_size (type_size source.blocks) r) where
   program_slots : (k : ℕ) (p : PlainRoutine) → slice_get source.programs k ≡ Some p → routine_slots (type_slots source.blocks) p ≤ 65536
   program_slots k p at =
-      let limit : length source.globals + sum_by (routine_slots (type_slots source.blocks)) source.programs ≤ 65536 = sound.limits.slots in
+      let limit : global_cells source + sum_by (routine_slots (type_slots source.blocks)) source.programs ≤ 65536 = sound.limits.slots in
       let one = one_at (routine_slots (type_slots source.blocks)) source.programs k p at in
       omega (arith, limit, one)
 
@@ -144,6 +144,7 @@ module _ (source : Source) (sound : IsSound source) (slots_are : (n : ℕ) (r : 
 
   pub sound_small : IsSmall source
   sound_small = record {
+    globals = (let few = few_global_cells source sound in omega (arith, few));
     starts = (let few = global_starts in let globals = few_globals source sound in omega (arith, few, globals));
     program_cells = λ k p at. few_cells p (program_slots k p at) (program_starts k p at);
     program_steps = λ k p at. few_steps p (all_at AreNamedApart source.programs k p (sound_named source sound).in_programs at) (program_size k p at);

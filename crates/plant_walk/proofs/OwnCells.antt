@@ -15,7 +15,7 @@ use Rattle.plant_logic.specs.Blocks.{AreBelow, HasItsTypes}
 use Rattle.plant_logic.specs.Worlds.{Path}
 use Rattle.plant_logic.specs.Layout.{ClockAt, values_rule, routine_values, clocks_rule, routine_clocks, global_values, program_values, cell_paths, all_clocks}
 use Rattle.plant_logic.specs.Seats.{StandsFrom, program_values_before, program_clocks_before, program_values_base, program_clocks_base, is_of_standard}
-use Rattle.plant_logic.proofs.Seats.{values_length, routine_length, clocks_length, routine_clocks_length, program_stands, program_clocks_stand}
+use Rattle.plant_logic.proofs.Seats.{global_count, values_length, routine_length, clocks_length, routine_clocks_length, program_stands, program_clocks_stand}
 use Rattle.plant_limits.specs.Limits.{KeepsSlots}
 use Rattle.block_walk.specs.declared.frame.Base.{Base}
 use Rattle.block_walk.specs.declared.frame.Frame.{Frame}
@@ -85,10 +85,9 @@ stands_within all base xs s stands h =
 
 globals_within : (source : Source) (j : ℕ) → j < global_cells source → j < length (cell_paths source)
 globals_within source j less =
-    let words = length-map source.globals (λ (global : Variable). folded global.name) in
-    let values = length-map (global_words source.globals) (λ word. word ∷ []) in
-    let all = length-append (global_values source.globals) (program_values source.blocks source.programs) in
-    omega (arith, less, words, values, all)
+    let values = global_count source in
+    let all = length-append (global_values source) (program_values source.blocks source.programs) in
+    omega (arith, less, values, all)
 
 module _ (source : Source) (order : List ℕ) (below : AreBelow source.blocks order) (frames : List Frame) (are : IsFrames source order frames) (types : HasItsTypes source) (names : HasAllNames source)
     (n : ℕ) (p : PlainRoutine) (at : slice_get source.programs n ≡ Some p) where

@@ -17,7 +17,7 @@ use Rattle.st_names.specs.Taken.{is_among, repeats}
 use Rattle.st_names.proofs.Entries.{turned}
 use Rattle.st_typing.specs.Faults as faults
 use Rattle.plant_logic.specs.declared.logic.Variable.{Variable}
-use Rattle.plant_logic.specs.Source.{Source}
+use Rattle.plant_logic.specs.Source.{Source, global_cells}
 use Rattle.plant_logic.specs.Pous.{pous_of, program_pous, block_names}
 use Rattle.plant_logic.specs.Units.{routine_of, source_in}
 use Rattle.plant_logic.specs.Names.{global_words, find_global}
@@ -38,7 +38,12 @@ sound_types source sound = subst HasItsTypes (sym sound.are_theirs) (typed_types
 
 pub few_globals : (source : Source) → IsSound source → length source.globals ≤ 65536
 few_globals source sound =
-    let slots : length source.globals + sum_by (routine_slots (type_slots source.blocks)) source.programs ≤ 65536 = sound.limits.slots in
+    let slots : global_cells source + sum_by (routine_slots (type_slots source.blocks)) source.programs ≤ 65536 = sound.limits.slots in
+    omega (arith, slots)
+
+pub few_global_cells : (source : Source) → IsSound source → global_cells source ≤ 65536
+few_global_cells source sound =
+    let slots : global_cells source + sum_by (routine_slots (type_slots source.blocks)) source.programs ≤ 65536 = sound.limits.slots in
     omega (arith, slots)
 
 count_is : (b : Bool) (p : PlainPou) (n : ℕ) (rest : List PlainPou) → n ≡ length rest → (if b then n else 1 + n) ≡ length (cond (not b) (p ∷ rest) rest)
@@ -64,7 +69,7 @@ few_in units e =
     omega (arith, within, many, counted)
 
 pub few_programs : (source : Source) → IsSound source → length source.programs ≤ 512
-few_programs source sound = subst (λ (s : Source). length s.programs ≤ 512) (sym sound.are_theirs) (few_in sound.units sound.typed.few)
+few_programs source sound = subst (λ (s : Source). length s.programs ≤ 512) (sym sound.are_theirs) (few_in sound.units sound.typed.are_few.few)
 
 apart : (words : List (List ℕ)) (k i : ℕ) (d : List ℕ) → repeats words ≡ false → k < i → i < length words → bytes_eq (get_or words k d) (get_or words i d) ≡ false
 apart [] k i d once before within = absurd (omega arith)

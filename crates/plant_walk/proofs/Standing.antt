@@ -8,7 +8,7 @@ use Rattle.plant_logic.specs.declared.logic.Variable.{Variable}
 use Rattle.plant_logic.specs.Source.{Source}
 use Rattle.plant_logic.specs.Names.{global_words, find_global}
 use Rattle.plant_logic.specs.Worlds.{World, assign, path_of}
-use Rattle.plant_logic.specs.Layout.{global_values, program_values, cell_paths, all_clocks}
+use Rattle.plant_logic.specs.Layout.{row_values, variable_values, global_values, program_values, cell_paths, all_clocks}
 use Rattle.plant_logic.proofs.Seats.{word_at}
 use Rattle.plant_cells.specs.declared.clock.Clock.{Clock}
 use Rattle.plant_cells.specs.Cells.{PlainCells, value_at, assigned}
@@ -35,9 +35,10 @@ at_front (x ∷ xs) ys (suc i) a at = at_front xs ys i a at
 -- the path of a global's number
 pub global_at : (source : Source) (i : ℕ) (g : Variable) → slice_get source.globals i ≡ Some g → slice_get (cell_paths source) i ≡ Some (path_of g.name)
 global_at source i g at =
-    at_front (global_values source.globals) (program_values source.blocks source.programs) i (path_of g.name)
+    at_front (global_values source) (program_values source.blocks source.programs) i (path_of g.name)
+    (at_front (variable_values source.globals) (row_values source.rows []) i (path_of g.name)
     (slice_get-map (λ word. word ∷ []) (global_words source.globals) i
-    ∙ ap (option_map (λ word. word ∷ [])) (slice_get-map (λ (v : Variable). folded v.name) source.globals i ∙ ap (option_map (λ (v : Variable). folded v.name)) at))
+    ∙ ap (option_map (λ word. word ∷ [])) (slice_get-map (λ (v : Variable). folded v.name) source.globals i ∙ ap (option_map (λ (v : Variable). folded v.name)) at)))
 
 pub cell_holds : (source : Source) (cells : PlainCells) (w : World) (i : ℕ) (g : Variable) → slice_get source.globals i ≡ Some g → StandFor source cells w → value_at cells i ≡ w.values (path_of g.name)
 cell_holds source cells w i g at stands = value_held source cells w stands i (path_of g.name) (global_at source i g at)

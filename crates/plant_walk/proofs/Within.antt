@@ -1,41 +1,47 @@
 -- What a frame of a source names is there where the values and the standard blocks of its routine are.
-use Rattle.std.proofs.Common.{◌≡◌, ◌∙◌, ap, sym, subst, refl, ℕ, zero, suc, ◌+◌, ◌-◌, ◌<◌, ◌≤◌, Bool, true, false, List, [], ◌∷◌, length, Option, Some, None, slice_get, if◌then◌else◌, inl, inr, arith}
+use Rattle.std.proofs.Common.{◌≡◌, ◌∙◌, ap, sym, subst, refl, ℕ, zero, suc, ◌+◌, ◌-◌, ◌<◌, ◌≤◌, Bool, true, false, List, [], ◌∷◌, ◌++◌, length, take, pos, ◌+ℤ◌, Option, Some, None, slice_get, if◌then◌else◌, inl, inr, arith}
 use Rattle.std.specs.Prelude.{◌&&◌, nat_lt, is_some, unwrap_or, option_map, option_and_then}
+use Rattle.std.specs.List.{list_all, range_with_len}
+use Rattle.std.specs.Option.{option_map_or}
 use Rattle.std.specs.Str.{bytes_eq}
 use Rattle.std.proofs.lemmas.Bool.{cases_lt, cases_Bool, lt-ltb}
 use Rattle.std.proofs.lemmas.Bool.Decides.{nat_tests}
 use Rattle.std.proofs.lemmas.List.{length-map}
 use Rattle.std.proofs.lemmas.List.Quantifiers.{position-Some}
 use Rattle.std.proofs.lemmas.Option.{slice_get_within}
+use Rattle.plant_types.specs.declared.values.Bounds.{Bounds}
+use Rattle.plant_types.specs.Values.{row_length}
 use Rattle.plant_types.specs.Words.{folded}
+use Rattle.st_names.specs.Scopes.{or_other}
 use Rattle.st_tree.specs.Plain.{PlainBody, done}
 use Rattle.st_tree.specs.View.{view_body}
 use Rattle.st_tree.specs.Mapping.{mapped_body, body_known}
 use Rattle.block_order.specs.Chains.{Among}
 use Rattle.plant_logic.specs.declared.logic.Variable.{Variable}
+use Rattle.plant_logic.specs.declared.logic.Row.{Row}
 use Rattle.plant_logic.specs.declared.logic.Instance.{Instance}
 use Rattle.plant_logic.specs.declared.logic.BlockRef.{BlockRef}
 use Rattle.plant_logic.specs.declared.logic.BlockRef.TheVariants.{Ton, Tof, RTrig, Declared}
-use Rattle.plant_logic.specs.Source.{PlainRoutine, Source, own_cells, global_cells}
-use Rattle.plant_logic.specs.Names.{find_word, own_words, global_words, instance_words, kinds_named, meant_in}
+use Rattle.plant_logic.specs.Source.{PlainRoutine, Source, row_cells, own_cells, global_cells}
+use Rattle.plant_logic.specs.Names.{find_word, own_words, row_words, global_words, instance_words, bounds_named, kinds_named, meant_in}
 use Rattle.plant_logic.specs.Blocks.{AreBelow, HasItsTypes, DeclaresThere}
-use Rattle.plant_logic.specs.Worlds.{Path, in_word, pt_word, clk_word}
+use Rattle.plant_logic.specs.Worlds.{Path, index_word, in_word, pt_word, clk_word}
 use Rattle.plant_logic.specs.Layout.{ClockAt, own_values, block_values, instance_values, values_rule, routine_values, block_clocks, instance_clocks, clocks_rule, routine_clocks}
 use Rattle.plant_logic.specs.Seats.{StandsFrom, value_count, clock_count, own_or_global, member_number, is_of_standard}
 use Rattle.plant_logic.proofs.Agreeing.{among_at, values_ask, clocks_ask}
 use Rattle.plant_logic.proofs.Layouts.{all_at}
 use Rattle.plant_logic.proofs.Levels.{by_its_rule}
 use Rattle.plant_logic.proofs.Members.{member_at, clock_at, instance_of_number}
-use Rattle.plant_logic.proofs.Seats.{at_front, stands_left, stands_right, stands_moved, own_count, own_at, block_length, routine_length, block_clocks_length, routine_clocks_length}
+use Rattle.plant_logic.proofs.Seats.{variable_among, row_of_number, row_ends, own_row_numbered, stands_left, stands_right, stands_moved, own_count, own_at, block_length, routine_length, block_clocks_length, routine_clocks_length}
 use Rattle.block_walk.specs.declared.frame.Seat.{Seat}
 use Rattle.block_walk.specs.declared.frame.Base.{Base}
 use Rattle.block_walk.specs.declared.frame.Frame.{Frame}
 use Rattle.block_walk.specs.Walks.{slot_of, member_slot, base_of}
 use Rattle.block_walk.proofs.Firsts.{first_is, first_past}
-use Rattle.block_frames.specs.Numbers.{variable_number, shown_number, numbers, numbered_in, HasItsNames, HasAllNames}
+use Rattle.block_frames.specs.Numbers.{variable_number, array_number, shown_number, numbers, numbered_in, HasItsNames, HasAllNames}
 use Rattle.block_frames.specs.Reached.{flagged}
 use Rattle.block_frames.specs.Frames.{place_in, seated, AreSeats, IsFrame, framed, IsFrames}
-use Rattle.codegen.specs.Within.{has_input, has_shown, has_output, has_called, has_instance, there, routine_there, frame_there}
+use Rattle.codegen.specs.Within.{has_row, has_input, has_shown, has_output, has_called, has_instance, there, routine_there, frame_there}
 use Rattle.plant_walk.proofs.Known.{both, meant_goes}
 use Rattle.plant_walk.proofs.Costs.{element, place_at, place_within}
 
@@ -46,6 +52,14 @@ there_is (Some n) h = refl
 where_called : (b x : Bool) → x ≡ true → (if b then x else true) ≡ true
 where_called true x h = h
 where_called false x h = refl
+
+-- what holds of so many slots from one on
+all_slots : (test : ℕ → Bool) (first n : ℕ) → ((j : ℕ) → j < n → test (first + j) ≡ true) → list_all test (range_with_len first n ++ []) ≡ true
+all_slots test first zero each = refl
+all_slots test first (suc n) each =
+    let here : first + 0 ≡ first = omega arith in
+    both (test first) (list_all test (range_with_len (first + 1) n ++ [])) (ap test (sym here) ∙ each 0 (omega arith))
+    (all_slots test (first + 1) n (λ j less. let same : first + 1 + j ≡ first + suc j = omega arith in ap test same ∙ each (suc j) (omega (arith, less))))
 
 -- where tests have the numbers that values and standard blocks have in two lists, and those of the globals
 module _ (source : Source) (order : List ℕ) (below : AreBelow source.blocks order) (paths : List Path) (clocks : List ClockAt) (has_value has_clock : ℕ → Bool)
@@ -129,7 +143,7 @@ module _ (source : Source) (order : List ℕ) (below : AreBelow source.blocks or
         let n = global_cells source in
         let past : nat_lt (n + i) n ≡ false = grind (arith, nat_tests) in
         let same : n + i - n ≡ i = omega arith in
-        let at = values i (folded name ∷ path) (at_front (own_values r.locals path) (instance_values (routine_values source.blocks) r.instances path) i (folded name ∷ path) (own_at r.locals path name i found_own)) in
+        let at = values i (folded name ∷ path) (variable_among source.blocks r path i (folded name ∷ path) (own_at r.locals path name i found_own)) in
         rw past (subst (λ k. has_value (base.values + k) ≡ true) (sym same) (value_there (base.values + i) (folded name) path at))
     variable_by name None (Some j) found_own found_global h =
         let less = global_within name j found_global in
@@ -139,11 +153,50 @@ module _ (source : Source) (order : List ℕ) (below : AreBelow source.blocks or
     variable_goes : (name : List ℕ) → is_some (variable_number source r name) ≡ true → has_value (slot_of (global_cells source) base (unwrap_or (variable_number source r name) 0)) ≡ true
     variable_goes name h = variable_by name (find_word (own_words r.locals) name) (find_word (global_words source.globals) name) refl refl h
 
+    -- each element of an array
+    abbrev place : (own other : Option ℕ) → Option ℕ
+    place own other = own_or_global (global_cells source + length r.locals) (option_map (λ k. row_cells (take k r.rows)) own) (option_map (λ n. length source.globals + n) (option_map (λ k. row_cells (take k source.rows)) other))
+
+    abbrev bounds_by : (own other : Option ℕ) → Bounds
+    bounds_by own other = option_map_or (λ (row : Row). row.bounds) (or_other (option_and_then (slice_get r.rows) own) (option_and_then (slice_get source.rows) other)) (record { low = pos 0; high = pos 0 })
+
+    array_by : (name : List ℕ) (own other : Option ℕ) → find_word (row_words r.rows) name ≡ own → find_word (row_words source.rows) name ≡ other → is_some (place own other) ≡ true
+        → has_row has_value (slot_of (global_cells source) base (unwrap_or (place own other) 0)) (bounds_by own other) ≡ true
+    array_by name (Some k) other found_own found_global h =
+        let globals = global_cells source in
+        let cells = row_cells (take k r.rows) in
+        let n = globals + length r.locals + cells in
+        let row = row_of_number r.rows name k found_own in
+        let past : nat_lt n globals ≡ false = grind (arith, nat_tests) in
+        let slot : slot_of globals base n ≡ base.values + (length r.locals + cells) = rw past (let same : n - globals ≡ length r.locals + cells = omega arith in ap (λ m. base.values + m) same) in
+        let bounds : bounds_by (Some k) other ≡ row.0.bounds = ap (λ o. option_map_or (λ (row : Row). row.bounds) (or_other o (option_and_then (slice_get source.rows) other)) (record { low = pos 0; high = pos 0 })) row.1 in
+        (λ x. has_row has_value (slot x) (bounds x))
+        ∙ all_slots has_value (base.values + (length r.locals + cells)) (row_length row.0.bounds)
+        (λ j less.
+        let at = own_row_numbered source.blocks r path k row.0 j row.1 less in
+        let same : base.values + (length r.locals + (cells + j)) ≡ base.values + (length r.locals + cells) + j = omega arith in
+        let word = index_word (row.0.bounds.low +ℤ pos j) in
+        let there : slice_get paths (base.values + (length r.locals + (cells + j))) ≡ Some (word ∷ folded row.0.name ∷ path) = values (length r.locals + (cells + j)) (word ∷ folded row.0.name ∷ path) at in
+        value_there (base.values + (length r.locals + cells) + j) word (folded row.0.name ∷ path) (subst (λ m. slice_get paths m ≡ Some (word ∷ folded row.0.name ∷ path)) same there))
+    array_by name None (Some k) found_own found_global h =
+        let globals = global_cells source in
+        let n = length source.globals + row_cells (take k source.rows) in
+        let row = row_of_number source.rows name k found_global in
+        let ends = row_ends source.rows k row.0 row.1 in
+        let less : n < globals = omega (arith, ends) in
+        let slot : slot_of globals base n ≡ n = rw (lt-ltb n globals less) refl in
+        let bounds : bounds_by None (Some k) ≡ row.0.bounds = ap (λ o. option_map_or (λ (row : Row). row.bounds) o (record { low = pos 0; high = pos 0 })) row.1 in
+        (λ x. has_row has_value (slot x) (bounds x)) ∙ all_slots has_value n (row_length row.0.bounds) (λ j within. global_there (n + j) (omega (arith, ends, within)))
+    array_by name None None found_own found_global h = absurd (cc)
+
+    array_goes : (name : List ℕ) → is_some (array_number source r name) ≡ true → has_row has_value (slot_of (global_cells source) base (unwrap_or (array_number source r name) 0)) (bounds_named source r name) ≡ true
+    array_goes name h = array_by name (find_word (row_words r.rows) name) (find_word (row_words source.rows) name) refl refl h
+
     -- the seat of an instance
     seat_at : (k : ℕ) (i : Instance) → slice_get r.instances k ≡ Some i → (seat : Seat) × (slice_get seats k ≡ Some seat) × Sits base seat i.of (folded i.name ∷ path)
     seat_at k i at =
         let long = own_count r path in
-        let own = own_values r.locals path in
+        let own = own_values r path in
         let rest = instance_values (routine_values source.blocks) r.instances path in
         let none = instance_clocks (routine_clocks source.blocks) r.instances path in
         seats_sit r base path r.instances seats (own_cells r) 0 k i are (stands_right paths base.values (base.values + own_cells r) own rest (omega (arith, long)) values)
@@ -195,7 +248,7 @@ module _ (source : Source) (order : List ℕ) (below : AreBelow source.blocks or
         variable_goes (λ name h. instance_by name (find_word (instance_words r.instances) name) refl h)
         (λ instance name h. input_by instance name (find_word (instance_words r.instances) instance) refl h)
         (λ instance name h. output_by instance name (find_word (instance_words r.instances) instance) refl h)
-        (kinds_named source r) (λ name bounds h. absurd (cc)) r.body names.in_body
+        (kinds_named source r) (λ name bounds h. array_goes name h) r.body names.in_body
 
   module _ (frames : List Frame) (are : IsFrames source order frames) (types : HasItsTypes source) (names : HasAllNames source) where
     abbrev reached : (limit k : ℕ) → Base → Bool

@@ -185,7 +185,7 @@ fn opened(alloc: Global, logic: &Logic, order: &[usize], made: &Made) -> Result<
     typed_names_are_known();
     let all = made.values[logic.programs.len()];
     let mut cells = Cells::zeros(alloc, all, &made.standards.list)?;
-    start_frame(&made.start, logic.globals.len(), 0, 0, 0, &mut cells);
+    start_frame(&made.start, made.values[0], 0, 0, 0, &mut cells);
     start_programs(
         logic,
         order,
@@ -250,7 +250,7 @@ fn codes_in(
     let codes = codes_of(
         alloc,
         frames,
-        laid.globals.len(),
+        laid.values[0],
         order.len(),
         &laid.values,
         &laid.clocks,

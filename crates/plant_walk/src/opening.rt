@@ -26,7 +26,7 @@ pub fn start_programs(
     requires clocks { AreBases (program_clocks_base (source_of logic.now)) (length (source_of logic.now).programs) clocks.now }
     ensures { cells.new ≡ programs_started (source_of logic.now) order.now frames.now (length (source_of logic.now).programs) 0 cells.old }
 {
-    let globals = logic.globals.len();
+    let globals = values[0];
     let mut place = order.len();
     for program in 0..logic.programs.len() {
         start_frame(

@@ -1,13 +1,13 @@
 //! Where the values of each program begin.
 
 ghost use Rattle.std.specs.Prelude.{◌≡◌, ◌+◌, length, map, IfOk};
-ghost use Rattle.plant_logic.specs.Source.{view_routine, source_of};
+ghost use Rattle.plant_logic.specs.Source.{row_cells, view_routine, source_of};
 ghost use Rattle.plant_logic.specs.Blocks.{AreBelow};
 ghost use Rattle.plant_logic.specs.Seats.{program_values_base};
 ghost use Rattle.plant_limits.specs.Limits.{KeepsSlots};
 ghost use Rattle.plant_walk.specs.Bases.{stopped, instance_count, value_count, numbers_in, AreCounted, AreBases};
 
-use plant_logic::{BlockRef, Logic, Routine};
+use plant_logic::{BlockRef, Logic, Routine, Row, row_cells};
 use std::alloc::{AllocError, Global};
 
 /// Where counts stop: one above the limit on slots.
@@ -34,11 +34,22 @@ fn instance_count(counts: &[usize], block: BlockRef) -> usize
     }
 }
 
+/// How many elements arrays have together, up to where counts stop.
+fn row_count(rows: &[Row]) -> usize
+    ensures { result ≡ stopped (row_cells rows.now) }
+{
+    let mut total = 0;
+    for row in rows {
+        total = add(total, row.elements());
+    }
+    total
+}
+
 /// How many values a routine has, by the counts of the block types, up to where counts stop.
 fn value_count(counts: &[usize], routine: &Routine) -> usize
     ensures { result ≡ stopped (value_count (numbers_in counts.now) (view_routine routine.now)) }
 {
-    let mut total = routine.locals.len().min(LAST);
+    let mut total = add(routine.locals.len(), row_count(&routine.rows));
     for instance in &routine.instances {
         total = add(total, instance_count(counts, instance.of));
     }
@@ -68,7 +79,7 @@ pub fn value_bases(alloc: Global, logic: &Logic, order: &[usize]) -> Result<Vec<
 {
     let counts = count_types(alloc, &logic.blocks, order)?;
     let mut row = Vec::new(alloc);
-    let mut at = logic.globals.len();
+    let mut at = logic.globals.len() + row_cells(&logic.rows);
     row.push(at)?;
     for program in &logic.programs {
         at = add(at, value_count(&counts, program));

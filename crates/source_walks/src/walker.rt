@@ -122,7 +122,7 @@ impl Walker {
         let program = program as usize;
         let ended = walk_frame(
             &self.frames,
-            self.logic.globals.len(),
+            self.values[0],
             self.order.len() + program,
             self.values[program],
             self.clocks[program],

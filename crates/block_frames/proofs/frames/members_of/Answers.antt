@@ -1,9 +1,9 @@
-use Rattle.std.proofs.Common.{◌∙◌, ap, map}
+use Rattle.std.proofs.Common.{◌∙◌, ◌++◌, ap, map}
 use Rattle.std.proofs.lemmas.List.{take_all}
 use Rattle.st_names.specs.Taken.{repeats}
 use Rattle.plant_logic.specs.declared.logic.Routine.{Routine}
 use Rattle.plant_logic.specs.Source.{PlainRoutine, view_routine}
-use Rattle.plant_logic.specs.Names.{own_words, instance_words}
+use Rattle.plant_logic.specs.Names.{own_words, row_words, instance_words}
 use Rattle.plant_logic.specs.Layout.{AreNamedApart}
 use Rattle.plant_logic.proofs.Layouts.{all_at}
 use Rattle.block_frames.specs.declared.names.Variables.{Variables}
@@ -12,18 +12,18 @@ use Rattle.block_frames.proofs.Joined.{fused}
 use Rattle.block_frames.proofs.Built.{earlier_apart, routine_at, mapped_on}
 use Rattle.block_frames.proofs.frames.members_of.Goals as goal
 
-pub own_variables-requires : goal.own_variables-requires
-own_variables-requires c =
+pub member_variables-requires : goal.member_variables-requires
+member_variables-requires c =
     let blocks = c.args.blocks.now in
     let block = c.block-item.result in
     let k = c.loop-block.block-index in
-    ap (λ l. repeats (own_words l)) c.deref.ensures.value ∙ earlier_apart (own_words block.locals.items) (instance_words block.instances.items) (all_at AreNamedApart (map view_routine blocks) k (view_routine block) c.requires (routine_at blocks k block c.loop-block-test.true c.block-item.is))
+    ap (λ l. repeats (own_words l)) c.deref.ensures.value ∙ earlier_apart (own_words block.locals.items) (row_words block.rows.items ++ instance_words block.instances.items) (all_at AreNamedApart (map view_routine blocks) k (view_routine block) c.requires (routine_at blocks k block c.loop-block-test.true c.block-item.is))
 
 pub loop-block-preserved : goal.loop-block-preserved
 loop-block-preserved c =
     let blocks = c.args.blocks.now in
-    let v = c.in_ok-own_variables.field-0 in
-    let are = c.in_ok-own_variables.ensures in
+    let v = c.in_ok-member_variables.field-0 in
+    let are = c.in_ok-member_variables.ensures in
     let l = c.loop-block in (
       mapped_on (λ (x : Variables). x.names) (λ (r : Routine). local_names r.locals.items) blocks l.block-index c.block-item.result l.members.items c.push.new.self.items v c.loop-block-test.true c.block-item.is l.invariant.0 (are.names_are ∙ ap local_names c.deref.ensures.value) c.in_ok-push.ensures.items,
       mapped_on (λ (x : Variables). x.kinds.items) (λ (r : Routine). local_kinds r.locals.items) blocks l.block-index c.block-item.result l.members.items c.push.new.self.items v c.loop-block-test.true c.block-item.is l.invariant.1 (are.kinds_are ∙ ap local_kinds c.deref.ensures.value) c.in_ok-push.ensures.items,

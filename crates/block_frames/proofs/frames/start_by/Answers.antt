@@ -23,5 +23,5 @@ returns c =
     let of = c.requires.known in
     IfOk-weaker c.start_in.result (IsStartIn _ (view_body c.deref.result.now)) (IsStart source) (λ frame made.
     start_made source frame made.seats_are
-    (made.starts_are source r (record { globals_are = of.globals_are; own_are = c.no_variables-own.ensures; instances_are = c.no_instances-instances.ensures; members_are = of.members_are }) ∙ ap (λ b. mapped_body (numbers source r) (meant_in source r (view_body b))) c.deref.ensures.value)
+    (made.starts_are source r (record { globals_are = of.globals_are; global_arrays_are = of.arrays_are; own_are = c.no_variables-own.ensures.variables; own_arrays_are = c.no_variables-own.ensures.arrays; instances_are = c.no_instances-instances.ensures; members_are = of.members_are }) ∙ ap (λ b. mapped_body (numbers source r) (meant_in source r (view_body b))) c.deref.ensures.value)
     made.body_is (made.marked ∙ sym (or-false _)) made.counted) c.start_in.ensures

@@ -1,9 +1,10 @@
 use Rattle.std.proofs.Common.{◌≡◌, ◌∙◌, ap, sym, subst, refl, length, arith}
-use Rattle.std.proofs.lemmas.List.{length-map}
-use Rattle.plant_logic.specs.Source.{source_of}
+use Rattle.std.proofs.lemmas.List.{length-map, get_or_default}
+use Rattle.plant_logic.specs.Source.{source_of, global_cells}
 use Rattle.plant_limits.specs.Counts.{routine_cost, type_cost, program_costs}
 use Rattle.block_frames.specs.Numbers.{HasAllNames}
 use Rattle.program_codes.specs.Codes.{AllNamesFit, CostNoMore}
+use Rattle.plant_walk.proofs.Bases.{values_begin}
 use Rattle.plant_walk.proofs.Coded.{sound_steady, names_same, codes_same}
 use Rattle.plant_walk.proofs.Small.{sound_types}
 use Rattle.plant_walk.proofs.Apart.{programs_use_first}
@@ -27,13 +28,13 @@ codes_of-requires-clause-named c =
     let clocks = c.args.laid.now.clocks.items in
     let names : HasAllNames source = subst HasAllNames (sym laid.sound.are_theirs) (c.typed_names_are_known.ensures laid.sound.units laid.sound.typed) in
     let many = length-map source.programs (routine_cost (type_cost source.blocks)) in
-    let fit : AllNamesFit frames (length source.globals) (length order) values clocks (program_costs source) =
+    let fit : AllNamesFit frames (global_cells source) (length order) values clocks (program_costs source) =
     all_names_fit source order laid.below frames laid.are_frames (sound_types source laid.sound) names laid.sound.limits.slots values clocks (program_costs source) laid.values_begin laid.clocks_begin many in
-    let globals_ok = c.args.laid.now.globals.ok in
-    let globals_len = c.len.ensures in
-    let globals_same = ap length c.requires.globals in
-    let globals_are : c.len.result ≡ length source.globals = omega (arith, globals_ok.0, globals_len, globals_same) in
-    names_same frames frames (length source.globals) c.len.result (length order) values c.deref.result.now clocks c.deref-2.result.now (program_costs source) c.args.costs.now
+    let long = c.requires.laid.values_begin.long in
+    let globals_are : c.index.result.now ≡ global_cells source =
+    c.index.ensures ∙ get_or_default c.args.laid.now.values.items 0 c.index.result.now 0 (omega (arith, long)) ∙ c.requires.laid.values_begin.each 0 (omega arith) ∙ values_begin source
+    in
+    names_same frames frames (global_cells source) c.index.result.now (length order) values c.deref.result.now clocks c.deref-2.result.now (program_costs source) c.args.costs.now
     refl (sym globals_are) (sym c.deref.ensures.value) (sym c.deref-2.ensures.value) (sym c.requires.costs) fit
 
 pub codes_of-requires-clause-small : goal.codes_of-requires-clause-small
@@ -74,9 +75,9 @@ returns c =
     let source = source_of c.args.logic.now in
     let frames = c.args.frames.items in
     let order = c.args.order.now in
-    let globals_ok = c.args.laid.now.globals.ok in
-    let globals_len = c.len.ensures in
-    let globals_same = ap length c.requires.globals in
-    let globals_are : c.len.result ≡ length source.globals = omega (arith, globals_ok.0, globals_len, globals_same) in
-    codes_same frames frames c.len.result (length source.globals) (length order) (length order) c.deref.result.now c.args.laid.now.values.items c.deref-2.result.now c.args.laid.now.clocks.items c.args.costs.now (program_costs source) c.in_ok-codes.codes.items
+    let long = c.requires.laid.values_begin.long in
+    let globals_are : c.index.result.now ≡ global_cells source =
+    c.index.ensures ∙ get_or_default c.args.laid.now.values.items 0 c.index.result.now 0 (omega (arith, long)) ∙ c.requires.laid.values_begin.each 0 (omega arith) ∙ values_begin source
+    in
+    codes_same frames frames c.index.result.now (global_cells source) (length order) (length order) c.deref.result.now c.args.laid.now.values.items c.deref-2.result.now c.args.laid.now.clocks.items c.args.costs.now (program_costs source) c.in_ok-codes.codes.items
     refl globals_are refl c.deref.ensures.value c.deref-2.ensures.value c.requires.costs c.in_ok-codes.ensures

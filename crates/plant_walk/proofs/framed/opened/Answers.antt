@@ -1,14 +1,14 @@
 use Rattle.std.proofs.Common.{◌≡◌, ◌∙◌, ap, sym, subst, length, get_or, arith}
 use Rattle.std.proofs.lemmas.List.{length-map, get_or_default}
 use Rattle.std.proofs.lemmas.Grind.{common_steps}
-use Rattle.plant_logic.specs.Source.{view_routine, source_of}
+use Rattle.plant_logic.specs.Source.{view_routine, source_of, global_cells}
 use Rattle.plant_logic.specs.Layout.{cell_paths}
 use Rattle.plant_logic.specs.Worlds.{opening}
 use Rattle.plant_cells.specs.Cells.{PlainCells}
 use Rattle.block_frames.specs.Numbers.{HasAllNames}
 use Rattle.block_frames.specs.Stands.{StandFor}
 use Rattle.block_frames.specs.Opening.{programs_started, opening_cells}
-use Rattle.plant_walk.proofs.Bases.{values_end}
+use Rattle.plant_walk.proofs.Bases.{values_begin, values_end}
 use Rattle.plant_walk.proofs.Small.{sound_named, sound_types}
 use Rattle.plant_walk.proofs.Started.{opened}
 use Rattle.plant_walk.proofs.framed.opened.Goals as goal
@@ -35,13 +35,13 @@ returns c =
     c.index-all.ensures ∙ get_or_default made.values.items c.len.result c.index-all.result.now 0 (omega (arith, count, long)) ∙ ap (λ n. get_or made.values.items n 0) count
     ∙ are.values_begin.each (length source.programs) (omega arith) ∙ values_end source
     in
-    let globals_ok = logic.globals.ok in
-    let globals_len = c.len-2.ensures in
-    let globals_are : c.len-2.result ≡ length source.globals = omega (arith, globals_ok.0, globals_len) in
+    let globals_are : c.index.result.now ≡ global_cells source =
+    c.index.ensures ∙ get_or_default made.values.items 0 c.index.result.now 0 (omega (arith, long)) ∙ are.values_begin.each 0 (omega arith) ∙ values_begin source
+    in
     let last : c.start_programs.new.cells ≡ programs_started source order frames (length source.programs) 0 c.start_frame.new.cells =
     c.start_programs.ensures ∙ (λ i. programs_started source order (c.deref-3.ensures.value i) (length source.programs) 0 c.start_frame.new.cells)
     in
-    let is = opened source order frames first.start c.deref-2.result.now c.len-2.result c.index-all.result.now c.deref.result.now c.in_ok-cells.cells c.start_frame.new.cells c.start_programs.new.cells (c.deref-2.ensures.value ∙ first.table_is) globals_are all (c.deref.ensures.value ∙ c.requires.standards)
+    let is = opened source order frames first.start c.deref-2.result.now c.index.result.now c.index-all.result.now c.deref.result.now c.in_ok-cells.cells c.start_frame.new.cells c.start_programs.new.cells (c.deref-2.ensures.value ∙ first.table_is) globals_are all (c.deref.ensures.value ∙ c.requires.standards)
     c.in_ok-cells.ensures c.start_frame.ensures last
     in
     subst (λ (cells : PlainCells). StandFor source cells (opening source)) (sym is) stands

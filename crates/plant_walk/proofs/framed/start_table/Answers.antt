@@ -4,6 +4,9 @@ use Rattle.plant_walk.proofs.framed.start_table.Goals as goal
 pub start_of-requires-clause-few : goal.start_of-requires-clause-few
 start_of-requires-clause-few c = c.requires.small.starts
 
+pub start_of-requires-clause-cells : goal.start_of-requires-clause-cells
+start_of-requires-clause-cells c = c.requires.small.globals
+
 pub returns : goal.returns
 returns c = record {
   start = c.in_ok-start_of.field-0;

@@ -3,6 +3,7 @@ use Rattle.std.proofs.lemmas.List.{length-map}
 use Rattle.std.proofs.lemmas.Grind.{common_steps}
 use Rattle.plant_logic.specs.Source.{view_routine, source_of}
 use Rattle.block_frames.specs.Opening.{programs_started}
+use Rattle.plant_walk.proofs.Bases.{values_begin}
 use Rattle.plant_walk.proofs.Started.{started_more, started_all}
 use Rattle.plant_walk.proofs.opening.start_programs.Goals as goal
 
@@ -24,13 +25,11 @@ loop-program-preserved c =
     let end = c.len-program-end.ensures in
     let less : i < length source.programs = omega (arith, ok.0, long, test, end) in
     let most : i ≤ length source.programs = omega (arith, less) in
-    let globals_ok = c.args.logic.now.globals.ok in
-    let globals_len = c.len-globals.ensures in
-    let globals_are : c.len-globals.result ≡ length source.globals = omega (arith, globals_ok.0, globals_len) in
+    let globals_are = c.requires.values.each 0 (omega arith) ∙ values_begin source in
     let place = c.loop-program.invariant.place_is in
     record {
       place_is = omega (arith, place);
-      left_is = started_more source order frames (length source.programs) i c.len-globals.result c.loop-program.place (get_or c.args.values.now i 0) (get_or c.args.clocks.now i 0) c.loop-program.cells c.start_frame.new.cells
+      left_is = started_more source order frames (length source.programs) i (get_or c.args.values.now 0 0) c.loop-program.place (get_or c.args.values.now i 0) (get_or c.args.clocks.now i 0) c.loop-program.cells c.start_frame.new.cells
           (programs_started source order frames (length source.programs) 0 c.args.cells.now) less globals_are place (c.requires.values.each i most) (c.requires.clocks.each i most) c.start_frame.ensures c.loop-program.invariant.left_is;
     }
 

@@ -1,6 +1,6 @@
 use Rattle.std.proofs.Common.{◌≡◌, ◌∙◌, ◌<◌, ◌+◌, ◌++◌, ◌∷◌, [], ap, subst, length, map, get_or, arith}
 use Rattle.std.proofs.lemmas.List.{length-map}
-use Rattle.plant_logic.specs.Source.{view_routine, source_of}
+use Rattle.plant_logic.specs.Source.{row_cells, view_routine, source_of}
 use Rattle.plant_logic.specs.Seats.{program_values_base}
 use Rattle.plant_walk.specs.Bases.{stopped, value_count, numbers_in, AreBases, AreCounted}
 use Rattle.plant_walk.proofs.Bases.{bases_none, bases_more, values_begin, values_next}
@@ -8,16 +8,20 @@ use Rattle.plant_walk.proofs.Counted.{routine_at, program_counted}
 use Rattle.plant_walk.proofs.Few.{bases_few}
 use Rattle.plant_walk.proofs.values.value_bases.Goals as goal
 
+pub row_cells-requires : goal.row_cells-requires
+row_cells-requires c = let few = c.requires.slots in let same = ap row_cells c.deref-2.ensures.value in omega (arith, few, same)
+
 pub loop-program-init : goal.loop-program-init
 loop-program-init c =
     let source = source_of c.args.logic.now in
-    let is = c.len-at.ensures in
+    let is = c.len.ensures in
     let ok = c.args.logic.now.globals.ok in
+    let rows = c.row_cells.ensures ∙ ap row_cells c.deref-2.ensures.value in
     let first = values_begin source in
-    let begins : c.len-at.result ≡ program_values_base source 0 = omega (arith, is, ok.0, first) in
+    let begins : c.len.result + c.row_cells.result ≡ program_values_base source 0 = omega (arith, is, ok.0, rows, first) in
     record {
       at_is = begins;
-      so_far = bases_none (program_values_base source) c.push.new.self.items c.len-at.result (c.in_ok-push.ensures.items ∙ ap (λ l. l ++ c.len-at.result ∷ []) c.new-row.ensures.items) begins;
+      so_far = bases_none (program_values_base source) c.push.new.self.items (c.len.result + c.row_cells.result) (c.in_ok-push.ensures.items ∙ ap (λ l. l ++ (c.len.result + c.row_cells.result) ∷ []) c.new-row.ensures.items) begins;
     }
 
 pub loop-program-preserved : goal.loop-program-preserved

@@ -1,7 +1,7 @@
 use Rattle.std.proofs.Common.{◌≡◌, ◌<◌, ◌+◌, sym, subst, refl, length, get_or, Some, arith}
 use Rattle.std.specs.Prelude.{slice_get}
 use Rattle.std.proofs.lemmas.Option.{slice_get_read}
-use Rattle.plant_logic.specs.Source.{Source, source_of}
+use Rattle.plant_logic.specs.Source.{Source, source_of, global_cells}
 use Rattle.block_frames.specs.Numbers.{HasAllNames}
 use Rattle.block_frames.specs.Frames.{program_base}
 use Rattle.program_codes.specs.Codes.{base_in, IsCodeOf}
@@ -32,7 +32,7 @@ returns c =
     let clocks_are = are.clocks_begin.each n (omega (arith, there)) in
     let base_is : base_in inside.values.items inside.clocks.items n ≡ program_base source n = λ i. record { values = values_are i; clocks = clocks_are i } in
     let cost = get_or (program_costs source) n 0 in
-    let is : IsCodeOf frames (length source.globals) (length order + n) (program_base source n) cost code = subst (λ base. IsCodeOf frames (length source.globals) (length order + n) base cost code) base_is made in
+    let is : IsCodeOf frames (global_cells source) (length order + n) (program_base source n) cost code = subst (λ base. IsCodeOf frames (global_cells source) (length order + n) base cost code) base_is made in
     let p = the_program source n in
     let found = is_there source n there in
     let types = sound_types source are.sound in

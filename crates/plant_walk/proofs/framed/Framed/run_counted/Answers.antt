@@ -2,7 +2,7 @@ use Rattle.std.proofs.Common.{◌*◌, ◌-◌, [], ◌≡◌, ◌∙◌, ◌<�
 use Rattle.std.specs.Prelude.{slice_get}
 use Rattle.std.proofs.lemmas.List.{get_or_default}
 use Rattle.std.proofs.lemmas.Option.{slice_get_read}
-use Rattle.plant_logic.specs.Source.{Source, source_of}
+use Rattle.plant_logic.specs.Source.{Source, source_of, global_cells}
 use Rattle.plant_logic.specs.Worlds.{run_program}
 use Rattle.plant_logic.specs.Seats.{program_values_base, program_clocks_base}
 use Rattle.plant_cells.specs.Runs.{ended}
@@ -82,10 +82,10 @@ returns-clause-ran c w stands =
     let names : HasAllNames source = subst HasAllNames (sym are.sound.are_theirs) (c.typed_names_are_known.ensures are.sound.units are.sound.typed) in
     let here : StandFor source c.args.cells.now w = subst (λ (s : Source). StandFor s c.args.cells.now w) (sym c.self.view_is) stands in
     let agree = c.frames_agree.ensures source order frames are.are_frames are.below types (sound_named source are.sound) names c.args.moment n p (is_there source n there) w c.args.cells.now here in
-    let placed = path_inside frames (length source.globals) (length order + n) (base_in inside.values.items inside.clocks.items n) (get_or (program_costs source) n 0) code is ended c.run_code_counted-ended.ensures.path in
-    let as_frame = ends_as_frame frames (length source.globals) (length order + n) (base_in inside.values.items inside.clocks.items n) (get_or (program_costs source) n 0) code is ended c.run_code_counted-ended.ensures.path c.args.moment c.args.cells.now new
+    let placed = path_inside frames (global_cells source) (length order + n) (base_in inside.values.items inside.clocks.items n) (get_or (program_costs source) n 0) code is ended c.run_code_counted-ended.ensures.path in
+    let as_frame = ends_as_frame frames (global_cells source) (length order + n) (base_in inside.values.items inside.clocks.items n) (get_or (program_costs source) n 0) code is ended c.run_code_counted-ended.ensures.path c.args.moment c.args.cells.now new
     (λ l. (_, c.run_code_counted-ended.ensures.ran l)) in
-    let whole = ran_is source order frames n there have_paths frames (length order + n) refl refl ended placed c.args.moment (length source.globals) (get_or inside.values.items n 0) (get_or inside.clocks.items n 0) c.index.result.now
+    let whole = ran_is source order frames n there have_paths frames (length order + n) refl refl ended placed c.args.moment (global_cells source) (get_or inside.values.items n 0) (get_or inside.clocks.items n 0) c.index.result.now
     c.args.cells.now new (run_program source n c.args.moment w) refl values_are clocks_are base_is as_frame agree
     in
     subst (λ (s : Source). Agree s (run_program s n c.args.moment w) (ran s c.walked.result new)) c.self.view_is
@@ -109,7 +109,7 @@ returns-clause-within c =
     let have_paths = c.frames_have_paths.ensures source order frames are.are_frames are.below (sound_types source are.sound) n (the_program source n) (is_there source n there) in
     let paths_long = are.paths_begin.long in
     let base_is : c.index.result.now ≡ program_paths_base source n = c.index.ensures ∙ get_or_default inside.paths.items n c.index.result.now 0 (omega (arith, there, paths_long)) ∙ are.paths_begin.each n most in
-    let placed = path_inside frames (length source.globals) (length order + n) (base_in inside.values.items inside.clocks.items n) (get_or (program_costs source) n 0) code is c.run_code_counted-ended.result.0 c.run_code_counted-ended.ensures.path in
+    let placed = path_inside frames (global_cells source) (length order + n) (base_in inside.values.items inside.clocks.items n) (get_or (program_costs source) n 0) code is c.run_code_counted-ended.result.0 c.run_code_counted-ended.ensures.path in
     let whole = within_is source order frames n there have_paths frames (length order + n) refl refl c.run_code_counted-ended.result.0 placed c.index.result.now base_is in
     subst (λ (s : Source). IsWithin s c.walked.result) c.self.view_is (subst (IsWithin source) (sym c.walked.ensures) whole)
 
@@ -134,7 +134,7 @@ walked-requires c =
     let have_paths = c.frames_have_paths.ensures source order frames are.are_frames are.below (sound_types source are.sound) n (the_program source n) (is_there source n there) in
     let paths_long = are.paths_begin.long in
     let base_is : c.index.result.now ≡ program_paths_base source n = c.index.ensures ∙ get_or_default inside.paths.items n c.index.result.now 0 (omega (arith, there, paths_long)) ∙ are.paths_begin.each n most in
-    let placed = path_inside frames (length source.globals) (length order + n) (base_in inside.values.items inside.clocks.items n) (get_or (program_costs source) n 0) code is c.run_code_counted-ended.result.0 c.run_code_counted-ended.ensures.path in
+    let placed = path_inside frames (global_cells source) (length order + n) (base_in inside.values.items inside.clocks.items n) (get_or (program_costs source) n 0) code is c.run_code_counted-ended.result.0 c.run_code_counted-ended.ensures.path in
     fits_in source order frames n there have_paths frames (length order + n) refl refl c.run_code_counted-ended.result.0 placed c.index.result.now 4294967296 base_is are.paths_fit
 
 pub returns-clause-cost : goal.returns-clause-cost
@@ -176,7 +176,7 @@ returns-clause-count c =
       frames = inside.frames;
       are_frames = are.are_frames;
       code = code;
-      made = subst (λ base. IsMade inside.frames (length source.globals) (length inside.order.items) n base (get_or (program_costs source) n 0) code) base_is (c.self.invariant.0.codes_are.made n code at);
+      made = subst (λ base. IsMade inside.frames (global_cells source) (length inside.order.items) n base (get_or (program_costs source) n 0) code) base_is (c.self.invariant.0.codes_are.made n code at);
       result = ended [] c.run_code_counted-ended.result.0 c.run_code_counted-ended.new.cells;
       left = 4 * code.cost + 4 - c.run_code_counted-ended.result.1;
       runs = c.run_code_counted-ended.ensures.ran [];
