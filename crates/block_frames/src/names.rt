@@ -194,11 +194,7 @@ pub fn member_variables(alloc: Global, locals: &[Local]) -> Result<Variables, Al
 
 /// A routine's own variables, and behind them its own arrays. No two of either have one name, and together they have few cells. Fails if
 /// allocation fails.
-pub fn own_variables(
-    alloc: Global,
-    locals: &[Local],
-    rows: &[Row],
-) -> Result<Variables, AllocError>
+pub fn own_variables(alloc: Global, locals: &[Local], rows: &[Row]) -> Result<Variables, AllocError>
     requires locals { repeats (own_words locals.now) ≡ false }
     requires rows { repeats (row_words rows.now) ≡ false }
     requires few { length locals.now + row_cells rows.now < 2 ^ 32 }

@@ -14,10 +14,10 @@ pub use laws::{
     answered_by_rule, assigned_global_stays_in_range, block_type_begins, block_type_has_clocks,
     block_type_has_values, block_type_runs, call_taken, calls_of_number, carried_world_is_in_range,
     clock_stands, clocks_stand_once, global_is_in_range, instance_clocks_stand, instance_found,
-    instance_values_stand, kinds_stand_at_all_values, member_stands, named_element_stands, named_value_stands,
-    opening_world_is_in_range, order_is_of_source, program_clocks_stand, program_stays_in_range,
-    program_values_stand, typed_names_are_distinct, typed_types_are_there, value_of_number,
-    value_written, values_stand_once,
+    instance_values_stand, kinds_stand_at_all_values, member_stands, named_element_stands,
+    named_value_stands, opening_world_is_in_range, order_is_of_source, program_clocks_stand,
+    program_stays_in_range, program_values_stand, typed_names_are_distinct, typed_types_are_there,
+    value_of_number, value_written, values_stand_once,
 };
 pub use logic::{BlockRef, Instance, Local, Logic, Routine, Row, Variable, row_cells};
 pub use units::logic_of;
