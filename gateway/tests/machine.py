@@ -1,13 +1,16 @@
-"""A Debian 12 of its own: debootstrap's least in a folder, with its own systemd in namespaces of its own. It shares the network alone.
+"""A Debian 12 of its own: debootstrap's least in a folder, with its own systemd in namespaces of its own. It shares the network, or has one
+that begins empty.
 
 Wants root, debootstrap, and a cgroup2 file system. All its processes end with it."""
 
 from __future__ import annotations
 
 import os
+import shutil
 import subprocess
 from pathlib import Path
 
+import pytest
 from browser_help import until
 
 ARCHIVE = "http://deb.debian.org/debian"
@@ -48,14 +51,23 @@ def groups() -> Path | None:
     return None
 
 
+def wanted(*more: str) -> None:
+    """Fails a test where what it wants for a machine isn't there."""
+    names = ("debootstrap", "unshare", "nsenter", *more)
+    missing = [name for name in names if shutil.which(name) is None]
+    if missing or groups() is None:
+        pytest.fail(f"there is no {', '.join(missing) or 'cgroup2 file system'}")
+
+
 class Machine:
     """The folder, and the systemd that was booted in it."""
 
-    def __init__(self, folder: Path) -> None:
+    def __init__(self, folder: Path, own_network: bool = False) -> None:
         self.folder = folder
+        self._spaces = (*SPACES, "--net") if own_network else SPACES
         self._group: Path | None = None
         self._process: subprocess.Popen[bytes] | None = None
-        self._pid = 0  # of its systemd
+        self.pid = 0  # of its systemd
 
     def install(self) -> None:
         """Fetches the least Debian with systemd, and none of what its packages only recommend."""
@@ -72,21 +84,34 @@ class Machine:
         """Starts its systemd, and waits until that has started what it starts."""
         place = groups()
         assert place is not None
-        self._group = place / f"alarmd-test-{os.getpid()}"
+        self._group = place / f"alarmd-test-{os.getpid()}-{self.folder.name}"
         self._group.mkdir()
         within = f'echo $$ >"{self._group}/cgroup.procs"; exec "$@"'
-        words = ["unshare", *SPACES, "--fork", "--kill-child", "sh", "-c", BOOT, str(self.folder)]
+        words = [
+            "unshare",
+            *self._spaces,
+            "--fork",
+            "--kill-child",
+            "sh",
+            "-c",
+            BOOT,
+            str(self.folder),
+        ]
         self._process = subprocess.Popen(
             ["sh", "-c", within, "sh", *words], stdin=subprocess.DEVNULL, start_new_session=True
         )
         path = Path(f"/proc/{self._process.pid}/task/{self._process.pid}/children")
         until(lambda: path.read_text().split(), "the machine's first process")
-        self._pid = int(path.read_text().split()[0])
-        name = Path(
-            f"/proc/{self._pid}/comm"
-        )  # of a shell at first, which is on this machine still
+        self.pid = int(path.read_text().split()[0])
+        name = Path(f"/proc/{self.pid}/comm")  # of a shell at first, which is on this machine still
         until(lambda: name.read_text() == "systemd\n", "the machine's systemd")
         until(lambda: self.state() in ("running", "degraded"), "the machine has started")
+
+    def put(self, package: Path) -> None:
+        """This package is the one beside which the commands are typed."""
+        for old in (self.folder / "root").glob("*.deb"):
+            old.unlink()
+        shutil.copy(package, self.folder / "root")
 
     def state(self) -> str:
         """What systemd says of the whole."""
@@ -94,7 +119,7 @@ class Machine:
 
     def try_run(self, command: str, given: str = "") -> subprocess.CompletedProcess[str]:
         """A line of a shell, by root, in /root."""
-        enter = ["nsenter", f"--target={self._pid}", *SPACES, "--root", "--wd"]
+        enter = ["nsenter", f"--target={self.pid}", *self._spaces, "--root", "--wd"]
         words = [*enter, "env", "-i", *INSIDE, "sh", "-c", f"cd /root\n{command}"]
         return subprocess.run(words, input=given, capture_output=True, text=True, timeout=LIMIT)
 
@@ -118,6 +143,7 @@ class Machine:
             self._process.wait()
         if self._group is not None:
             until(self._emptied, "the machine's processes have ended")
+        self._process = self._group = None
 
     def _emptied(self) -> bool:
         """Whether its groups of processes could be removed."""

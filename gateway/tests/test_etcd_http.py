@@ -209,6 +209,66 @@ def test_a_slow_answer_counts() -> None:
     asked(work)
 
 
+def asking() -> int:
+    """How many requests to nodes are under way."""
+    return sum("_ask" in str(task.get_coro()) for task in asyncio.all_tasks())
+
+
+def test_nothing_is_left_under_way() -> None:
+    """Who was silent is asked no further once another node has answered, or nobody waits any more."""
+
+    async def work() -> None:
+        good, silent = Node(), Node()
+        silent.halted = True
+        async with nodes(good, silent):
+            client = HttpEtcd([silent.url, good.url], 8.0)
+            assert await client.post(TXN, {}) == {"succeeded": True}
+            assert asking() == 0
+            good.halted = True
+            with pytest.raises(asyncio.TimeoutError):
+                await asyncio.wait_for(client.post(TXN, {}), 4.0)
+            assert (asking(), silent.asked, good.asked) == (0, 2, 2)
+            await client.close()
+
+    asked(work)
+
+
+def test_a_refusal_is_an_answer() -> None:
+    """No other node is asked after it."""
+
+    async def work() -> None:
+        refuses, good = Node(404, {"error": "etcdserver: requested lease not found"}), Node()
+        async with nodes(refuses, good):
+            with pytest.raises(EtcdRefused):
+                await post([refuses.url, good.url])
+            assert (refuses.asked, good.asked) == (1, 0)
+
+    asked(work)
+
+
+def test_an_answer_and_a_fault_at_one_moment(monkeypatch: pytest.MonkeyPatch) -> None:
+    """The answer counts, whichever is looked at first."""
+
+    async def work() -> None:
+        for _ in range(20):
+            both, begun = asyncio.Event(), [0]
+
+            async def ask(number: int, *words: object) -> dict[str, bool]:
+                begun[0] += 1
+                if begun[0] == 3:
+                    both.set()
+                await both.wait()
+                if number != 1:
+                    raise NoEtcd("no leader")
+                return {"succeeded": True}
+
+            client = HttpEtcd([CLOSED] * 3, 0.4)
+            monkeypatch.setattr(client, "_ask", ask)
+            assert await client.post(TXN, {}) == {"succeeded": True}
+
+    asked(work)
+
+
 @pytest.mark.parametrize(
     ("status", "answer", "fault"),
     [

@@ -387,6 +387,49 @@ def test_no_new_record_by_one_that_leads_no_more(tmp_path: Path, plant: Plant) -
     trial(work, tmp_path, plant)
 
 
+def test_a_new_record_of_another_leader_stays(tmp_path: Path, plant: Plant) -> None:
+    """One that leads no more, and doesn't know it, makes no room for its own where the other one's is."""
+
+    async def work(etcd: FakeEtcd, side: Sides) -> None:
+        a, b = await side("a"), await side("b")
+        await a.lead()
+        await a.log.append(Entry("scan 0"))
+        assert a.candidate.lease is not None
+        etcd.end(a.candidate.lease)
+        await b.lead()
+        await b.log.succeed([Entry("scan 5"), Entry("scan 6")])
+        with pytest.raises(Deposed):
+            await a.log.succeed([Entry("scan 1")])
+        await a.look()
+        await a.look()
+        assert a.lines() == b.lines() == ["scan 5", "scan 6"]
+
+    trial(work, tmp_path, plant)
+
+
+def test_a_new_record_after_a_longer_one_that_came_to_nothing(tmp_path: Path, plant: Plant) -> None:
+    """Nothing of that one is in the log: it was written, and then the lease ended."""
+
+    async def work(etcd: FakeEtcd, side: Sides) -> None:
+        a, b = await side("a"), await side("b")
+        await a.lead()
+        lease = a.candidate.lease
+        assert lease is not None
+        etcd.before[4] = partial(etcd.end, lease)
+        with pytest.raises(Deposed):
+            await a.log.succeed([Entry(f"scan {moment}") for moment in range(60)])
+        await a.candidate.beat()  # it finds that the lease is lost
+        await a.lead()
+        await a.log.succeed([Entry("scan 7")])
+        for _ in range(3):
+            await b.look()
+        await a.log.append(Entry("scan 8"))
+        await b.look()
+        assert a.lines() == b.lines() == ["scan 7", "scan 8"]
+
+    trial(work, tmp_path, plant)
+
+
 @pytest.mark.parametrize("lease_ends", [True, False])
 def test_no_new_record_over_what_came_meanwhile(
     tmp_path: Path, plant: Plant, monkeypatch: pytest.MonkeyPatch, lease_ends: bool
@@ -490,6 +533,23 @@ def test_another_lease_is_asked_for_where_one_has_ended(
             await notice()
             assert a.candidate.lease is None
         await a.lead()
+
+    trial(work, tmp_path, plant)
+
+
+def test_a_beat_without_an_answer_leaves_the_lease(tmp_path: Path, plant: Plant) -> None:
+    """It may still be kept in time: who leads goes on to lead by it."""
+
+    async def work(etcd: FakeEtcd, side: Sides) -> None:
+        a = await side("a")
+        await a.lead()
+        lease = a.candidate.lease
+        etcd.deaf = 2
+        for _ in range(2):
+            assert not await a.candidate.beat()
+        assert await a.candidate.beat() and a.candidate.lease == lease
+        assert etcd.leases == {lease}
+        await a.log.append(Entry("scan 0"))
 
     trial(work, tmp_path, plant)
 

@@ -156,7 +156,7 @@ def test_who_doesnt_read_is_given_up_and_nobody_waits(monkeypatch: pytest.Monkey
                 while site.do(lambda: len(site.web.live)) == 2:  # until the deaf one is given up
                     assert number < 50_000
                     begun = time.monotonic()
-                    for _ in range(10):
+                    for _ in range(3):  # so few that the page is read in time, however busy
                         number += 1
                         site.do(lambda: scan(number))
                     assert time.monotonic() - begun < PATIENCE

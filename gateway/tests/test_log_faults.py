@@ -151,6 +151,34 @@ def test_old_records_go_block_by_block(
     trial(behind, tmp_path, plant)
 
 
+def records(etcd: FakeEtcd) -> set[bytes]:
+    """The numbers of the records of which etcd has an entry."""
+    return {key.split(b"/")[4] for key in etcd.keys if b"/entry/" in key}
+
+
+def test_all_old_records_go(tmp_path: Path, plant: Plant, monkeypatch: pytest.MonkeyPatch) -> None:
+    """Also where several have become too old before one was deleted; then nothing is asked of etcd for a while."""
+
+    async def work(etcd: FakeEtcd, side: Sides) -> None:
+        a = await side("a")
+        await a.lead()
+        for moment in range(5):
+            await a.log.succeed([Entry(f"scan {moment}"), Entry(f"scan {moment}")])
+        for _ in range(9):
+            await a.log.tidy()
+        assert records(etcd) == {b"000005", b"000006"}
+        asked: list[str] = []
+        with monkeypatch.context() as quiet:
+            quiet.setattr(a.log.asks, "ask", lambda *words: asked.append("ask"))
+            await a.log.tidy()
+        assert asked == []
+        await a.log.succeed([Entry("scan 6")])  # from then on there is another one
+        await a.log.tidy()
+        assert records(etcd) == {b"000006", b"000007"}
+
+    trial(work, tmp_path, plant)
+
+
 def test_nothing_is_rid_of_by_one_that_follows(tmp_path: Path, plant: Plant) -> None:
     async def work(etcd: FakeEtcd, side: Sides) -> None:
         a, b = await side("a"), await side("b")
@@ -158,7 +186,8 @@ def test_nothing_is_rid_of_by_one_that_follows(tmp_path: Path, plant: Plant) -> 
         await a.log.append(Entry("scan 0"))
         for moment in (10, 20):
             await a.log.succeed([Entry(f"scan {moment}")])
-        await b.look()
+        while b.log.known.record < 3:
+            await b.look()
         await b.log.tidy()
         assert any(b"/entry/000001/" in key for key in etcd.keys)
 

@@ -3,56 +3,24 @@ another: install, look, plant, crash, refusal, upgrade, operators, removal. Besi
 
 from __future__ import annotations
 
-import re
 import shutil
 import ssl
 from collections.abc import Iterator
-from dataclasses import dataclass, field
 from http.client import HTTPSConnection
 from pathlib import Path
 
 import pytest
 from browser_help import browser, until
+from chapter import ONE, steps
 from http_help import Client
-from machine import Machine, groups
+from machine import Machine, wanted
 from package_help import GATEWAY, built, fields
 
 pytestmark = [pytest.mark.server, pytest.mark.package]
 
-CHAPTER = "## One machine, from an empty Debian to alarms on the page"
 ANNA = "a long password"
 PAGE = "http://127.0.0.1:8080/"
 EXAMPLE = "http://127.0.0.1:8081/"
-
-
-@dataclass
-class Step:
-    """A command of the chapter, and what it is said to print."""
-
-    command: str
-    printed: list[str] = field(default_factory=list)
-
-
-def steps() -> dict[int, list[Step]]:
-    """The commands of the chapter, by its numbered parts. What stands up to END is input of the command above."""
-    text = (GATEWAY.parent / "docs" / "OPERATION.md").read_text()
-    chapter = text[text.index(CHAPTER) + len(CHAPTER) :].partition("\n## ")[0]
-    found: dict[int, list[Step]] = {}
-    for line in chapter.splitlines():
-        if number := re.match(r"\*\*(\d+)\.", line):
-            part = found.setdefault(int(number[1]), [])
-        elif line.startswith("    # "):
-            part.append(Step(line[6:]))
-        elif line.startswith("    ") and "<<END" in part[-1].command and not ended(part[-1]):
-            part[-1].command += f"\n{line[4:]}"
-        elif line.startswith("    "):
-            part[-1].printed.append(line[4:])
-    return found
-
-
-def ended(step: Step) -> bool:
-    """Whether the input of a command is whole."""
-    return step.command.endswith("\nEND")
 
 
 class Plant(Machine):
@@ -61,7 +29,7 @@ class Plant(Machine):
     def follow(self, part: int) -> list[str]:
         """Runs the commands of a part, each with what it is said to print, and gives what each printed."""
         outputs = []
-        for step in steps()[part]:
+        for step in steps(ONE)[part]:
             command = step.command.replace(
                 "192.168.1.5", "127.0.0.1"
             )  # the address of another network
@@ -69,12 +37,6 @@ class Plant(Machine):
             assert output.splitlines()[: len(step.printed)] == step.printed or not step.printed
             outputs.append(output)
         return outputs
-
-    def put(self, package: Path) -> None:
-        """The package is the one beside which the commands are typed."""
-        for old in (self.folder / "root").glob("*.deb"):
-            old.unlink()
-        shutil.copy(package, self.folder / "root")
 
     def left(self) -> set[str]:
         """All that bears the package's name, but for the file of the package, logs and what apt keeps."""
@@ -105,9 +67,7 @@ def second(alarmd: Path, tmp_path_factory: pytest.TempPathFactory) -> Path:
 @pytest.fixture(scope="module")
 def machine(tmp_path_factory: pytest.TempPathFactory, first: Path) -> Iterator[Plant]:
     """A machine that has the package's file, and nothing else."""
-    wanted = [name for name in ("debootstrap", "unshare", "nsenter") if shutil.which(name) is None]
-    if wanted or groups() is None:
-        pytest.fail(f"there is no {', '.join(wanted) or 'cgroup2 file system'}")
+    wanted()
     folder = tmp_path_factory.mktemp("machine")
     found = Plant(folder / "root")
     try:
@@ -151,7 +111,7 @@ def test_it_installs_from_debians_archive_alone(machine: Plant) -> None:
 
 
 def test_the_example_is_an_alarm_on_its_page(machine: Plant) -> None:
-    start, stop = steps()[2]
+    start, stop = steps(ONE)[2]
     machine.run(start.command)
     until(lambda: code(EXAMPLE) in ("UNACK", "RTNUN"), "the level is low, or was")
     with browser() as page:
@@ -254,7 +214,7 @@ def test_operators_at_other_machines_log_in(machine: Plant) -> None:
 
 
 def test_what_is_removed_leaves_configuration_and_records(machine: Plant) -> None:
-    remove, purge = steps()[8]
+    remove, purge = steps(ONE)[8]
     machine.run(remove.command)
     assert machine.run("ls /var/lib/alarmd /etc/alarmd").split()[:2] == [
         "/etc/alarmd:",

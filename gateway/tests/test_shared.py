@@ -279,6 +279,27 @@ def test_what_is_too_old_goes_beside_the_work(
     trial(Pair(alarmd, tmp_path, without_programs, rotate_at=20), work)
 
 
+def test_half_of_the_time_is_the_logs(
+    alarmd: Path, tmp_path: Path, monkeypatch: pytest.MonkeyPatch
+) -> None:
+    """What is too old is deleted no sooner again than it took etcd the last time."""
+    took: list[tuple[float, float]] = []
+
+    async def slow(log: etcd_log.EtcdLog) -> None:
+        begin = asyncio.get_running_loop().time()
+        await asyncio.sleep(0.3)
+        took.append((begin, asyncio.get_running_loop().time()))
+
+    async def work(pair: Pair) -> None:
+        await pair.join("a")
+        await until(lambda: len(took) > 3, "some deletions")
+
+    monkeypatch.setattr(etcd_log.EtcdLog, "tidy", slow)
+    trial(Pair(alarmd, tmp_path, tank), work)
+    for (begin, end), (again, _) in zip(took, took[1:]):
+        assert again - end > 0.9 * (end - begin)
+
+
 def test_the_old_record_is_whole_before_the_new_one_is_followed(
     alarmd: Path, tmp_path: Path, monkeypatch: pytest.MonkeyPatch
 ) -> None:
