@@ -67,7 +67,7 @@ class Commands:
             moment = 4_000_000_000_001
         pairs = [(some.choice([name, name.upper(), name.lower()]), self.given(kind)) for name, kind in some.sample(self.inputs, some.randrange(len(self.inputs) + 1))]
         if some.random() < 0.03:
-            pairs.append((some.choice([it[0] for it in self.plant.globals] + ["nothing"]), "1"))
+            pairs.append((some.choice([it[0] for it in self.plant.globals] + [it.text for it in self.plant.arrays] + ["nothing"]), "1"))
         gap = some.choice([" ", "\t"])
         line = gap.join([f"scan {some.choice(['', '', '0'])}{moment}"] + [f"{name}={text}" for name, text in pairs])
         self.take(line, self.server.scan(moment, pairs))

@@ -4,10 +4,10 @@ import re
 from dataclasses import dataclass
 
 KEYWORDS = set(
-    "AND AT BOOL BY CASE DINT DO ELSE ELSIF END_CASE END_FOR END_FUNCTION_BLOCK END_IF END_PROGRAM END_VAR FALSE FOR FUNCTION_BLOCK IF MOD NOT OF OR"
+    "AND ARRAY AT BOOL BY CASE DINT DO ELSE ELSIF END_CASE END_FOR END_FUNCTION_BLOCK END_IF END_PROGRAM END_VAR FALSE FOR FUNCTION_BLOCK IF MOD NOT OF OR"
     " PROGRAM THEN TIME TO TRUE VAR VAR_EXTERNAL VAR_GLOBAL VAR_INPUT VAR_OUTPUT XOR".split()
 )
-SYMBOLS = [":=", "=>", "<=", ">=", "<>", "..", ":", ";", ",", "(", ")", ".", "+", "-", "*", "/", "&", "=", "<", ">"]
+SYMBOLS = [":=", "=>", "<=", ">=", "<>", "..", ":", ";", ",", "(", ")", "[", "]", ".", "+", "-", "*", "/", "&", "=", "<", ">"]
 DIGITS = r"[0-9](?:_?[0-9])*"
 INTEGER = re.compile(rf"2#[01](?:_?[01])*|8#[0-7](?:_?[0-7])*|16#[0-9a-f](?:_?[0-9a-f])*|{DIGITS}", re.I)
 ADDRESS = re.compile(r"%[IQM][XBWDL]?(?:\*|[0-9]+(?:\.[0-9]+)*)", re.I)
@@ -133,6 +133,7 @@ def tokens(text):
 
 # ----------------------------------------------------------------------------------------------------------------------- grammar
 
+KINDS = ["BOOL", "DINT", "TIME"]
 LEVELS = [["OR"], ["XOR"], ["AND", "&"], ["=", "<>"], ["<", ">", "<=", ">="], ["+", "-"], ["*", "/", "MOD"]]
 
 
@@ -175,21 +176,32 @@ class Parser:
 
     def declaration(self, is_global=False):
         self.take("word")
-        kinds = ["BOOL", "DINT", "TIME"]
+        kinds = KINDS
         if is_global and self.kind() == "AT":
             self.at += 1
             self.take("address")
         else:
-            kinds.append("word")
+            kinds = KINDS + ["word", "ARRAY"]
             while self.kind() == ",":
                 self.at += 1
                 self.take("word")
         self.take(":")
-        self.take(*kinds)
+        if self.take(*kinds).kind == "ARRAY":
+            self.array()
         if self.kind() == ":=":
             self.at += 1
             self.expression(DEEPEST_EXPRESSION)
         self.take(";")
+
+    def array(self):
+        """What follows ARRAY."""
+        self.take("[")
+        self.bound()
+        self.take("..")
+        self.bound()
+        self.take("]")
+        self.take("OF")
+        self.take(*KINDS)
 
     # ---- statements, of which so many levels may stand one in another
 
@@ -205,7 +217,12 @@ class Parser:
         head = self.take("word", "IF", "CASE", "FOR").kind
         expression, inner = lambda: self.expression(DEEPEST_EXPRESSION), lambda: self.statements(levels - 1)
         if head == "word":
-            if self.take(":=", "(").kind == ":=":
+            follows = self.take(":=", "(", "[").kind
+            if follows == "[":
+                expression()
+                self.take("]")
+                self.take(":=")
+            if follows != "(":
                 return expression()
             if self.kind() != ")":
                 self.argument()
@@ -307,9 +324,22 @@ class Parser:
             return depth
         if self.kind() == "integer":
             self.integer(2**31 - 1)
-        elif self.take("literal", "word").kind == "word" and self.kind() == ".":
+        elif self.take("literal", "word").kind == "word":
+            return self.variable(levels)
+        return 1
+
+    def variable(self, levels):
+        """What follows the first word of a variable, an output or an element."""
+        if self.kind() == ".":
             self.at += 1
             self.take("word")
+        elif self.kind() == "[":
+            if levels == 1:
+                self.fail()
+            self.at += 1
+            depth = 1 + self.expression(levels - 1)
+            self.take("]")
+            return depth
         return 1
 
 

@@ -23,7 +23,7 @@ STANDARD = {
 
 
 class Trap(Exception):
-    """A trap: OVERFLOW or DIVZERO, and where: the path, and the number of the statement."""
+    """A trap: OVERFLOW, DIVZERO or INDEX, and where: the path, and the number of the statement."""
 
     def __init__(self, kind):
         super().__init__(kind)
@@ -47,6 +47,36 @@ class Read:
     kind: str
     place: tuple
     text: str
+
+
+@dataclass(frozen=True)
+class Array:
+    """An array as it is declared: its place is ('global', name) or ('own', name), as that of a variable, and its elements are of the kind."""
+
+    kind: str
+    place: tuple
+    low: int
+    high: int
+    text: str
+
+
+@dataclass(frozen=True)
+class Element:
+    """An element of an array, by an index that may be any expression."""
+
+    array: Array
+    index: object
+
+    @property
+    def kind(self):
+        return self.array.kind
+
+    def place(self, read):
+        """Its place, with its number at the end; the index is evaluated, and tested against the bounds."""
+        number = value(self.index, read)
+        if not self.array.low <= number <= self.array.high:
+            raise Trap("INDEX")
+        return self.array.place + (number,)
 
 
 @dataclass(frozen=True)
@@ -83,6 +113,8 @@ def value(expression, read):
         return expression.value
     if isinstance(expression, Read):
         return read(expression.place)
+    if isinstance(expression, Element):
+        return read(expression.place(read))
     if isinstance(expression, Unary):
         operand = value(expression.operand, read)
         return 1 - operand if expression.operator == "NOT" else in_range(expression.kind, -operand)
@@ -134,7 +166,9 @@ class Empty:
 
 @dataclass
 class Assign:
-    target: Read
+    """Gives a variable or an element a value."""
+
+    target: Read | Element
     right: object
 
 
@@ -173,17 +207,23 @@ class For:
 
 @dataclass
 class Routine:
-    """A program or a function block: variables are (name, kind, section, initial value or None), instances (name, block type)."""
+    """A program or a function block: variables are (name, kind, section, initial value or None), instances (name, block type). What VAR_EXTERNAL names is a
+    global as the plant has it, a variable or an array."""
 
     name: str
     is_block: bool
     variables: list = field(default_factory=list)
+    arrays: list = field(default_factory=list)
     instances: list = field(default_factory=list)
     externals: list = field(default_factory=list)
     body: list = field(default_factory=list)
 
     def section(self, name):
         return [(it, kind) for it, kind, section, _ in self.variables if section == name]
+
+    def names(self):
+        """What it declares, VAR_EXTERNAL apart, in small letters."""
+        return {it[0].lower() for it in self.variables + self.instances} | {it.place[1] for it in self.arrays}
 
 
 def inner(statement):

@@ -2,8 +2,8 @@
 
 from dataclasses import dataclass, field
 
-from language import BINDS, BINDS_UNARY, BOOL, DINT, STANDARD, TIME
-from language import Assign, Binary, Call, Case, Empty, For, If, Literal, Read, Routine, Trap, Unary, value
+from language import BINDS, BINDS_UNARY, BOOL, DINT, RANGES, STANDARD, TIME
+from language import Array, Assign, Binary, Call, Case, Element, Empty, For, If, Literal, Read, Routine, Trap, Unary, value
 
 UNITS = [("d", 86_400_000), ("h", 3_600_000), ("m", 60_000), ("s", 1000), ("ms", 1)]
 EPOCHS = ["2024-01-01T00:00:00Z", "1999-12-31T23:59:59Z", "2024-02-28T23:59:59Z", "1970-01-01T00:00:00Z"]
@@ -23,11 +23,12 @@ class AlarmRow:
 
 @dataclass
 class Plant:
-    """Globals are (name, kind, region or None, initial value or None); blocks by name, each after those that it declares. `has_delays` is whether the table of alarms is
-    of version 2, which has a column of delays."""
+    """Globals are (name, kind, region or None, initial value or None), and beside them stand arrays; blocks by name, each after those that it declares. `has_delays`
+    is whether the table of alarms is of version 2, which has a column of delays."""
 
     epoch: str
     globals: list = field(default_factory=list)
+    arrays: list = field(default_factory=list)
     blocks: dict = field(default_factory=dict)
     programs: list = field(default_factory=list)
     areas: list = field(default_factory=list)
@@ -41,6 +42,7 @@ class Maker:
 
     # How many there may be.
     GLOBALS, BLOCKS, PROGRAMS, ALARMS = range(6, 18), [0, 1, 2, 3], [0, 1, 2, 3, 3], [0, 1, 3, 5, 9]
+    GLOBAL_ARRAYS, OWN_ARRAYS = [0, 1, 2, 3], [0, 0, 1, 1, 2]
 
     def __init__(self, random):
         self.random, self.names = random, 0
@@ -81,7 +83,7 @@ class Maker:
         some = self.random
         if depth <= 0 or some.random() < 0.25:
             of_kind = [it for it in reads if it.kind == kind]
-            return some.choice(of_kind) if of_kind and some.random() < 0.75 else self.literal(kind)
+            return self.leaf(some.choice(of_kind), reads, depth) if of_kind and some.random() < 0.75 else self.literal(kind)
         below = lambda kind: self.expression(kind, reads, depth - 1)
         if some.random() < 0.13:
             return Unary("NOT" if kind == BOOL else "-", kind, below(kind))
@@ -90,6 +92,36 @@ class Maker:
             return Binary(some.choice(["=", "<>"] if of == BOOL else ["=", "<>", "<", ">", "<=", ">="]), BOOL, below(of), below(of))
         operators = {BOOL: ["AND", "OR", "XOR", "&"], DINT: ["+", "-", "*", "/", "MOD"], TIME: ["+", "-"]}
         return Binary(some.choice(operators[kind]), kind, below(kind), below(kind))
+
+    def leaf(self, it, reads, depth):
+        """A variable, or an element of an array."""
+        return self.element(it, reads, depth) if isinstance(it, Array) else it
+
+    def number(self, number):
+        return Literal(DINT, number, self.random.choice([f"{number}", f"{number}", f"{number}", f"DINT#{number}"]))
+
+    def element(self, array, reads, depth):
+        """An element. Its index is a literal within the bounds or just outside of them, what MOD makes of a variable so that it is within them, or any expression."""
+        some, low, high = self.random, array.low, array.high
+        pick = some.random()
+        dints = [it for it in reads if it.kind == DINT and not isinstance(it, Array)]
+        if pick < 0.50 or not dints:
+            return Element(array, self.number(some.randrange(low, high + 1)))
+        if pick < 0.53:
+            outside = [it for it in (low - 1, high + 1) if RANGES[DINT][0] <= it <= RANGES[DINT][1]]
+            return Element(array, self.number(some.choice(outside)))
+        if pick < 0.87:
+            return Element(array, Binary("+", DINT, self.place_in(some.choice(dints), high - low + 1), self.number(low)))
+        if pick < 0.92:
+            return Element(array, some.choice(dints))
+        return Element(array, self.expression(DINT, reads, min(depth, 2) - 1))
+
+    def place_in(self, dint, length):
+        """A number from 0 on and below the length; one time in four it may be below 0."""
+        rest = Binary("MOD", DINT, dint, self.number(length))
+        if self.random.random() < 0.25:
+            return rest
+        return Binary("MOD", DINT, Binary("+", DINT, rest, self.number(length)), self.number(length))
 
     def constant(self, kind):
         """An expression without reads that doesn't trap."""
@@ -106,11 +138,15 @@ class Maker:
 
     def variables(self, routine, assigned=False, controls=frozenset()):
         own = [Read(kind, ("own", name.lower()), name) for name, kind, _, _ in routine.variables]
-        hidden = {it.place[1] for it in own} | {name.lower() for name, _ in routine.instances}
+        hidden = routine.names()
         for name, kind, region, _ in self.plant.globals:
             if name.lower() not in hidden and not (assigned and region == "I"):
                 own.append(Read(kind, ("global", name.lower()), name))
         return [it for it in own if not assigned or it.place not in controls]
+
+    def arrays(self, routine):
+        hidden = routine.names()
+        return routine.arrays + [it for it in self.plant.arrays if it.place[1] not in hidden]
 
     def members(self, block):
         if block in STANDARD:
@@ -118,7 +154,7 @@ class Maker:
         return self.plant.blocks[block].section("VAR_INPUT"), self.plant.blocks[block].section("VAR_OUTPUT")
 
     def reads(self, routine):
-        found = self.variables(routine)
+        found = self.variables(routine) + self.arrays(routine)
         for name, block in routine.instances:
             for output, kind in self.members(block)[1]:
                 found.append(Read(kind, ("output", name.lower(), output.lower()), f"{name}.{output}"))
@@ -145,10 +181,10 @@ class Maker:
         return made or Empty()
 
     def assignment(self, routine, controls):
-        some, targets = self.random, self.variables(routine, True, controls)
+        some, targets = self.random, self.variables(routine, True, controls) + self.arrays(routine)
         if not targets:
             return None
-        target = some.choice(targets)
+        target = self.leaf(some.choice(targets), self.reads(routine), 2)
         if target.kind == BOOL and some.random() < 0.1:
             truth = some.randrange(2)
             return Assign(target, Literal(BOOL, truth, some.choice([f"{truth}", f"16#{truth}", f"0{truth}"])))
@@ -208,7 +244,16 @@ class Maker:
         number = lambda it: Literal(DINT, it, some.choice([f"{it}", f"DINT#{it}"]))
         bound = lambda it: some.choice([number(it), Binary("+", DINT, number(it - 1), number(1)) if it > -(2**31) else number(it)])
         step = some.choice([None, 1, 2, -1, -2, 3])
-        body = self.statements(routine, depth - 1, controls | {control.place}, 2)
+        body = []
+        if self.arrays(routine) and some.random() < 0.6:
+            # (over the elements of an array, and now and then past one of its ends)
+            array = some.choice(self.arrays(routine))
+            first = max(-(2**31), array.low - (some.random() < 0.07))
+            last = min(2**31 - 1, array.high + (some.random() < 0.07))
+            first, last, step = some.choice([(first, last, some.choice([None, 1, 2])), (last, first, some.choice([-1, -2]))])
+            reads = self.reads(routine) + [control] * 5
+            body = [Assign(Element(array, control), self.expression(array.kind, reads, some.choice([0, 1, 2])))]
+        body += self.statements(routine, depth - 1, controls | {control.place}, 2)
         return For(control, bound(first), bound(last), None if step is None else bound(step), body)
 
     # ---- routines and the plant
@@ -217,19 +262,34 @@ class Maker:
         self.names += 1
         return self.random.choice([stem, stem.upper(), f"{stem}_"]) + str(self.names)
 
+    def own_name(self, routine):
+        """The name of a variable or an array of a routine, now and then that of a global or of a global array."""
+        some, own = self.random, routine.names()
+        there = [it[0] for it in self.plant.globals] + [it.text for it in self.plant.arrays]
+        hidable = [name for name in there if name.lower() not in own]
+        return some.choice(hidable) if hidable and some.random() < 0.12 else self.name("v")
+
+    def array(self, where, name):
+        """An array of 1 to 6 elements, in seldom cases at an end of what a bound may be."""
+        some, length = self.random, self.random.randrange(1, 7)
+        low = some.choice([0, 0, 1, 1, -1, -length, -5, some.randrange(-20, 20), some.choice([-(2**31), 2**31 - length])])
+        return Array(some.choice([BOOL, DINT, DINT, TIME]), (where, name.lower()), low, low + length - 1, name)
+
     def routine(self, name, is_block):
         some, made = self.random, Routine(name, is_block)
         for _ in range(some.randrange(1, 5)):
-            own = {it[0].lower() for it in made.variables}
-            hidable = [it[0] for it in self.plant.globals if it[0].lower() not in own]
-            called = some.choice(hidable) if hidable and some.random() < 0.12 else self.name("v")
+            called = self.own_name(made)
             kind = some.choice([BOOL, DINT, DINT, TIME])
             section = some.choice(["VAR_INPUT", "VAR_OUTPUT", "VAR"]) if is_block else "VAR"
             made.variables.append((called, kind, section, self.constant(kind) if some.random() < 0.3 else None))
         for _ in range(some.choice([0, 1, 2, 3, 3])):
             made.instances.append((self.name("i"), some.choice([*STANDARD, *self.plant.blocks, *self.plant.blocks])))
-        own = {it[0].lower() for it in made.variables + made.instances}
+        for _ in range(some.choice(self.OWN_ARRAYS)):
+            called = self.own_name(made)
+            made.arrays.append(self.array("own", called))
+        own = made.names()
         made.externals = [it for it in self.plant.globals if it[0].lower() not in own and some.random() < 0.1]
+        made.externals += [it for it in self.plant.arrays if it.place[1] not in own and some.random() < 0.15]
         made.body = [self.statement(made, some.choice([1, 2, 2, 3]), frozenset()) for _ in range(some.randrange(1, 6))]
         return made
 
@@ -240,6 +300,7 @@ class Maker:
             region = some.choice(["I", "I", "I", "Q", "Q", "Q", "Q", "M", None])
             plant.globals.append((self.name("g"), kind, region, self.constant(kind) if some.random() < 0.3 else None))
         plant.globals.append((self.name("g"), BOOL, "I", None))
+        plant.arrays = [self.array("global", self.name("g")) for _ in range(some.choice(self.GLOBAL_ARRAYS))]
         for _ in range(some.choice(self.BLOCKS)):
             name = self.name("F")
             plant.blocks[name] = self.routine(name, True)
@@ -285,6 +346,8 @@ class Writer:
             return it.text
         if isinstance(it, Read):
             return self.named(it.text)
+        if isinstance(it, Element):
+            return self.element(it)
         if isinstance(it, Unary):
             binds, operand = BINDS_UNARY, self.expression(it.operand, BINDS_UNARY)
             if it.operator == "-" and isinstance(it.operand, Literal):
@@ -296,13 +359,17 @@ class Writer:
             text = left + self.gap() + self.keyword(it.operator) + self.gap() + right
         return f"( {text})" if binds < least or self.random.random() < 0.1 else text
 
+    def element(self, it):
+        gap = lambda: self.random.choice(["", "", "", " ", "\n", "(* i *)"])
+        return f"{self.named(it.array.text)}{gap()}[{gap()}{self.expression(it.index)}{gap()}]"
+
     def body(self, statements):
         return "".join(self.statement(it) + self.random.choice([";", " ;", ";\n", "; "]) for it in statements)
 
     def statement(self, it):
         word, expression = self.keyword, self.expression
         if isinstance(it, Assign):
-            return f"{self.named(it.target.text)} := {expression(it.right)}"
+            return f"{expression(it.target)} := {expression(it.right)}"
         if isinstance(it, Call):
             return f"{it.instance}({', '.join(self.argument(*argument) for argument in it.arguments)})"
         otherwise = f"{word('ELSE')} {self.body(it.otherwise)}" if getattr(it, "otherwise", None) is not None else ""
@@ -329,11 +396,25 @@ class Writer:
     def declaration(self, name, kind, initial):
         return f"{name} : {kind}" + ("" if initial is None else f" := {self.expression(initial)}") + ";"
 
+    def bound(self, number):
+        """A bound, in decimal digits or to a base; blanks and comments may stand behind its minus."""
+        some, rest = self.random, abs(number)
+        sign = some.choice(["-", "-", "- ", "-(* *)"]) if number < 0 else ""
+        return sign + some.choice([f"{rest}"] * 6 + [f"16#{rest:x}", f"2#{rest:b}", f"00{rest}"])
+
+    def declared_array(self, it):
+        bounds = f"{self.bound(it.low)}{self.random.choice(['..', ' .. '])}{self.bound(it.high)}"
+        return f"{self.named(it.text)} : {self.keyword('ARRAY')}{self.random.choice(['', ' '])}[{bounds}] {self.keyword('OF')} {it.kind};"
+
+    def external(self, it):
+        return self.declared_array(it) if isinstance(it, Array) else self.declaration(it[0], it[1], None)
+
     def routine(self, it):
         kind = "FUNCTION_BLOCK" if it.is_block else "PROGRAM"
         sections = [f"{section} {self.declaration(name, kind, initial)}" for name, kind, section, initial in it.variables]
         sections += [f"VAR {self.declaration(name, self.named(block), None)}" for name, block in it.instances]
-        sections += [f"VAR_EXTERNAL {self.declaration(name, kind, None)}" for name, kind, _, _ in it.externals]
+        sections += [f"VAR {self.declared_array(array)}" for array in it.arrays]
+        sections += [f"VAR_EXTERNAL {self.external(external)}" for external in it.externals]
         return f"{kind} {it.name}\n" + "".join(f"{section} END_VAR\n" for section in sections) + self.body(it.body) + f"\nEND_{kind}\n"
 
     def sources(self, plant):
@@ -341,6 +422,8 @@ class Writer:
         for at, (name, kind, region, initial) in enumerate(plant.globals):
             place = "" if region is None else f" AT %{region}{self.random.choice(['X', 'D', ''])}{at}"
             lines.append(self.declaration(name + place, kind, initial))
+        for array in plant.arrays:
+            lines.insert(self.random.randrange(len(lines) + 1), self.declared_array(array))
         blocks = [self.routine(it) for it in plant.blocks.values()]
         self.random.shuffle(blocks)
         programs = [self.routine(it) for it in plant.programs]

@@ -3,8 +3,8 @@
 
     python3 tools/reference/refusals.py PROGRAM [FIRST_SEED [COUNT]]
 
-PROGRAM is the built server. A fault is a statement or a declaration that breaks one rule of docs/LANGUAGE.md (C6 to C9, C10 TURNS), put
-somewhere in a plant that keeps all rules; so the refusal's number, its file and its unit are known. The exit status is 0 where all agree.
+PROGRAM is the built server. A fault is a statement or a declaration that breaks one rule of docs/LANGUAGE.md (C6 to C9, C10 TURNS and
+ELEMENTS), put somewhere in a plant that keeps all rules; so the refusal's number, its file and its unit are known. The exit status is 0 where all agree.
 """
 
 import os
@@ -14,8 +14,12 @@ import sys
 import tempfile
 from dataclasses import dataclass
 
-from language import BOOL, DINT, TIME, inner
+from language import BOOL, DINT, TIME, Array, inner
 from plants import Maker, Writer
+
+
+# A value of each kind, and one of another kind.
+RIGHT, WRONG = {BOOL: "TRUE", DINT: "2", TIME: "T#1s"}, {BOOL: "2", DINT: "TRUE", TIME: "1"}
 
 
 @dataclass
@@ -74,10 +78,10 @@ class Faults:
             found += [("C10 TURNS", f"FOR {name} := 1 TO 10001 DO ; END_FOR"), ("C10 TURNS", f"FOR {name} := 2147483647 TO -2147483648 BY -1 DO ; END_FOR")]
         for name in self.own(TIME):
             found += [("C7", f"{name} := 1"), ("C7", f"{name} := T#1s / T#1s"), ("C9", f"FOR {name} := 1 TO 2 DO ; END_FOR")]
-        return found + self.statements_on_globals() + self.statements_on_instances()
+        return found + self.statements_on_globals() + self.statements_on_instances() + self.statements_on_arrays()
 
     def statements_on_globals(self):
-        own = {it[0].lower() for it in self.routine.variables + self.routine.instances}
+        own = self.routine.names()
         found = []
         for name, kind, region, _ in self.globals:
             if name.lower() not in own:
@@ -87,13 +91,40 @@ class Faults:
                     found.append(("C9", f"FOR {name} := 1 TO 2 DO ; END_FOR"))
         return found
 
+    def statements_on_arrays(self):
+        """Of arrays, and of an index where no array is."""
+        found = [("C6", "zz[1] := 1"), ("C6", "IF zz[1] = 1 THEN ; END_IF"), ("C6", f"{self.routine.name}[1] := 1")]
+        for name, kind, _, _ in self.routine.variables:
+            found += [("C7", f"{name}[1] := {RIGHT[kind]}"), ("C7", f"IF {name}[1] = {RIGHT[kind]} THEN ; END_IF")]
+        for name, _ in self.routine.instances:
+            found += [("C7", f"{name}[1] := 1"), ("C7", f"IF {name}[1] THEN ; END_IF")]
+        for array in self.maker.arrays(self.routine):
+            found += self.statements_on(array.text, array.kind, f"{array.text}[{array.low}]")
+        return found
+
+    def statements_on(self, name, kind, element):
+        """Of an array, with the text of one of its elements."""
+        right, wrong = RIGHT[kind], WRONG[kind]
+        found = [("C7", f"{name} := {right}"), ("C7", f"IF {name} = {right} THEN ; END_IF"), ("C7", f"IF {name} = {name} THEN ; END_IF"), ("C7", f"{name}()")]
+        found += [("C6", f"IF {name}.q THEN ; END_IF"), ("C9", f"FOR {name} := 1 TO 2 DO ; END_FOR"), ("C7", f"{name}[TRUE] := {right}")]
+        found += [("C7", f"{name}[T#1s] := {right}"), ("C7", f"IF {name}[TRUE] = {right} THEN ; END_IF"), ("C7", f"{name}[{name}] := {right}")]
+        found += [("C7", f"{element} := {wrong}"), ("C7", f"{element} := {name}"), ("C6", f"{element} := zz"), ("C6", f"{name}[zz] := {right}")]
+        found += [("C6", f"IF {name}[zz] = {right} THEN ; END_IF"), ("C7", f"IF {element} = {wrong if kind != BOOL else 'T#1s'} THEN ; END_IF")]
+        for control in self.own(DINT):
+            found.append(("C9" if kind == DINT else "C7", f"FOR {control} := 1 TO {element} DO ; END_FOR"))
+            found += [("C7", f"FOR {control} := {name} TO 2 DO ; END_FOR"), ("C9", f"FOR {control} := 1 TO 2 DO {control} := 1; {element} := {right}; END_FOR")]
+        for instance, block in self.routine.instances:
+            inputs, outputs = self.maker.members(block)
+            found += [("C7", f"{instance}({output} => {name})") for output, _ in outputs] + [("C7", f"{instance}({given} := {name})") for given, _ in inputs]
+        return found
+
     def statements_on_instances(self):
         found = []
         for name, block in self.routine.instances:
             inputs, outputs = self.maker.members(block)
             found += [("C7", f"{name} := 1"), ("C7", f"IF {name} THEN ; END_IF"), ("C6", f"{name}(zz := 1)"), ("C6", f"IF {name}.zz THEN ; END_IF")]
             for given, kind in inputs:
-                right, wrong = {BOOL: ("TRUE", "2"), DINT: ("2", "TRUE"), TIME: ("T#1s", "1")}[kind]
+                right, wrong = RIGHT[kind], WRONG[kind]
                 found += [("C6", f"{name}({given} := {right}, {given.lower()} := {right})"), ("C7", f"{name}({given} := {wrong})")]
                 found += [("C6", f"IF {name}.{given} = {right} THEN ; END_IF"), ("C6", f"{name}({given} := zz)")]
                 found += [("C6", f"{name}({given} => {target})") for target in self.own(kind)]
@@ -112,12 +143,41 @@ class Faults:
         found += [("C9", "VAR zz : DINT := 2147483647 + 1; END_VAR"), ("C6", "VAR zz : DINT := yy; END_VAR")]
         if self.routine.is_block:
             found += [("C7", "VAR_INPUT zz : TOF; END_VAR"), ("C7", "VAR_OUTPUT zz : R_TRIG; END_VAR"), ("C8", f"VAR zz : {self.routine.name}; END_VAR")]
-        own = {it[0].lower() for it in self.routine.variables + self.routine.instances + self.routine.externals}
+        found += self.sections_of_arrays(name)
         for name, kind, _, _ in self.globals:
-            if name.lower() not in own and not self.is_named(name):
+            if self.is_free(name):
                 other = {BOOL: DINT, DINT: TIME, TIME: BOOL}[kind]
-                found += [("C7", f"VAR_EXTERNAL {name} : {other}; END_VAR")]
+                found += [("C7", f"VAR_EXTERNAL {name} : {other}; END_VAR"), ("C7", f"VAR_EXTERNAL {name} : ARRAY[1..1] OF {kind}; END_VAR")]
         return found
+
+    def sections_of_arrays(self, name):
+        """Of arrays, where `name` is that of a variable of the routine."""
+        array = "ARRAY[1..2] OF DINT"
+        found = [("C7", f"VAR zz : {array} := 1; END_VAR"), ("C7", "VAR zz : ARRAY[0..0] OF BOOL := 0; END_VAR"), ("C6", f"VAR zz : {array} := yy; END_VAR")]
+        found += [("C9", "VAR zz : ARRAY[2..1] OF DINT; END_VAR"), ("C9", "VAR zz : ARRAY[2147483647..-2147483648] OF TIME; END_VAR")]
+        found += [("C6", f"VAR zz, yy, ZZ : {array}; END_VAR"), ("C6", f"VAR {name.swapcase()} : {array}; END_VAR"), ("C6", f"VAR_EXTERNAL zz : {array}; END_VAR")]
+        for bounds in ("0..4096", "1..4097", "-4096..0", "-2147483648..2147483647", "-2147483648..0", "2147479551..2147483647"):
+            found.append(("C10 ELEMENTS", f"VAR zz : ARRAY[{bounds}] OF {self.some.choice([BOOL, DINT, TIME])}; END_VAR"))
+        if self.routine.is_block:
+            found += [("C7", f"VAR_INPUT zz : {array}; END_VAR"), ("C7", f"VAR_OUTPUT zz : {array}; END_VAR"), ("C7", "VAR_INPUT zz : ARRAY[2..1] OF BOOL; END_VAR")]
+        for it in self.maker.arrays(self.routine):
+            found += [("C9" if it.kind == DINT else "C7", f"VAR zz : DINT := {it.text}[{it.low}]; END_VAR"), ("C7", f"VAR zz : {it.kind} := {it.text}; END_VAR")]
+        for it in self.maker.plant.arrays:
+            if self.is_free(it.text):
+                found += [("C7", f"VAR_EXTERNAL {it.text} : {text}; END_VAR") for text in self.other_arrays(it)]
+        return found
+
+    def other_arrays(self, it):
+        """What a VAR_EXTERNAL of a global array may not say."""
+        same = f"ARRAY[{it.low}..{it.high}] OF "
+        found = [it.kind, same + {BOOL: DINT, DINT: TIME, TIME: BOOL}[it.kind], f"{same}{it.kind} := {RIGHT[it.kind]}"]
+        found += [f"ARRAY[{it.low}..{it.high + 1}] OF {it.kind}"] if it.high < 2**31 - 1 else []
+        return found + ([f"ARRAY[{it.low - 1}..{it.high}] OF {it.kind}", f"ARRAY[{it.low - 1}..{it.high - 1}] OF {it.kind}"] if it.low > -(2**31) else [])
+
+    def is_free(self, name):
+        """Whether the routine declares no such name, by VAR_EXTERNAL either, and its text doesn't have it."""
+        external = {(it.text if isinstance(it, Array) else it[0]).lower() for it in self.routine.externals}
+        return name.lower() not in self.routine.names() | external and not self.is_named(name)
 
     def is_named(self, name):
         """Whether the routine's own text may name a global, so that another kind for it breaks more than one rule."""

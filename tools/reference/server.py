@@ -3,7 +3,7 @@
 import copy
 import datetime
 
-from language import BOOL, RANGES, STANDARD, Assign, Call, Case, For, If, Trap, numbers, value
+from language import BOOL, RANGES, STANDARD, Assign, Call, Case, Element, For, If, Trap, numbers, value
 
 CODES = ["NORM", "UNACK", "ACKED", "RTNUN", "LATUN", "LATAK", "SHELVED", "SUPPR", "OOS"]
 LAST_MOMENT = 4_000_000_000_000
@@ -139,6 +139,8 @@ class Server:
         self.globals = {name.lower(): (name, kind, region) for name, kind, region, _ in plant.globals}
         for name, _, _, initial in plant.globals:
             self.values["global", name.lower()] = 0 if initial is None else value(initial, None)
+        for array in plant.arrays:
+            self.open_array(array, ())
         for program in plant.programs:
             self.open(program, (program.name.lower(),))
         self.faulted = [False] * len(plant.programs)
@@ -156,6 +158,8 @@ class Server:
         """Gives the variables of a routine and of its instances their initial values."""
         for name, _, _, initial in routine.variables:
             self.values[path + (name.lower(),)] = 0 if initial is None else value(initial, None)
+        for array in routine.arrays:
+            self.open_array(array, path)
         for name, block in routine.instances:
             below = path + (name.lower(),)
             if block in STANDARD:
@@ -165,14 +169,19 @@ class Server:
             else:
                 self.open(self.plant.blocks[block], below)
 
+    def open_array(self, array, path):
+        """Gives the elements of an array their initial values."""
+        for number in range(array.low, array.high + 1):
+            self.write(path, array.place + (number,), 0)
+
     # ---- a program's run
 
     def read(self, path, place):
         if place[0] == "global":
             return self.values[place]
-        below = path + place[1:2]
         if place[0] == "own":
-            return self.values[below]
+            return self.values[path + place[1:]]
+        below = path + place[1:2]
         return shown(self.calls[below], place[2]) if below in self.calls else self.values[below + place[2:]]
 
     def write(self, path, place, number):
@@ -189,16 +198,22 @@ class Server:
             self.run_one(routine, statement, path, printed, moment)
 
     def run_one(self, routine, statement, path, printed, moment):
-        def worth(expression):
+        read = lambda place: self.read(path, place)
+
+        def here(work):
             try:
-                return value(expression, lambda place: self.read(path, place))
+                return work()
             except Trap as trap:
                 trap.place = printed, self.numbers[routine.name][id(statement)]
                 raise
 
+        worth = lambda expression: here(lambda: value(expression, read))
+        # (the index of an element comes before the right side)
+        target = lambda it: here(lambda: it.place(read)) if isinstance(it, Element) else it.place
         go = lambda body: self.run_all(routine, body or [], path, printed, moment)
         if isinstance(statement, Assign):
-            self.write(path, statement.target.place, worth(statement.right))
+            place = target(statement.target)
+            self.write(path, place, worth(statement.right))
         elif isinstance(statement, If):
             go(next((body for test, body in statement.branches if worth(test)), statement.otherwise))
         elif isinstance(statement, Case):

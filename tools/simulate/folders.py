@@ -6,7 +6,7 @@ import os
 
 import files
 import misspellings
-from language import BOOL, STANDARD, Read
+from language import BOOL, STANDARD, Array, Read
 from plants import Maker, Writer
 
 FORM = "ABCDEFGHIJKLMNOPQRSTUVWXYZabcdefghijklmnopqrstuvwxyz0123456789_-."
@@ -27,6 +27,7 @@ class WideMaker(Maker):
     """Makes plants with more of everything."""
 
     GLOBALS, BLOCKS, PROGRAMS, ALARMS = range(10, 80), [2, 4, 6], [4, 8, 16, 32], [9, 20, 60]
+    GLOBAL_ARRAYS, OWN_ARRAYS = [0, 2, 6, 12], [0, 1, 2, 4]
 
 
 # ------------------------------------------------------------------------------------------------------------------------- plants
@@ -102,8 +103,11 @@ class Texts(Writer):
         """For each source its sections of globals, its blocks and its programs, in an order that keeps that of globals and that of programs."""
         some, plant, number = self.random, self.plant, len(self.sources)
         shares = [[] for _ in range(number)]
-        cuts = sorted(some.sample(range(len(plant.globals) + 1), min(some.choice([0, 0, 1, 3]), len(plant.globals))))
-        parts = [plant.globals[low:high] for low, high in zip([0, *cuts], [*cuts, len(plant.globals)])]
+        found = list(plant.globals)
+        for array in plant.arrays:
+            found.insert(some.randrange(len(found) + 1), array)
+        cuts = sorted(some.sample(range(len(found) + 1), min(some.choice([0, 0, 1, 3]), len(found))))
+        parts = [found[low:high] for low, high in zip([0, *cuts], [*cuts, len(found)])]
         for at, part in zip(self.rising(len(parts)), parts):
             shares[at].append(part)
         routines = [[] for _ in range(number)]
@@ -138,6 +142,8 @@ class Texts(Writer):
         return text.replace("\n", "\r\n") if self.random.random() < 0.1 else text
 
     def placed(self, it):
+        if isinstance(it, Array):
+            return self.declared_array(it)
         name, kind, region, initial = it
         some = self.random
         place = "" if region is None else f" AT %{region}{some.choice(['X', 'D', 'l', ''])}{some.choice(['*', '0', '7.3', str(some.randrange(99))])}"
@@ -351,18 +357,19 @@ class Folder:
         """Leaves the units that stand whole in what is left of the sources. Raises C6 where one of them names what is gone."""
         left = [(name, unit) for name in sources for end, unit in self.written.units[name] if end <= len(self.texts[name])]
         units = [unit for _, unit in left]
-        plant.globals = [it for unit in units if isinstance(unit, list) for it in unit]
+        declared = [it for unit in units if isinstance(unit, list) for it in unit]
+        plant.globals, plant.arrays = [it for it in declared if not isinstance(it, Array)], [it for it in declared if isinstance(it, Array)]
         plant.programs = [it for it in plant.programs if any(it is unit for unit in units)]
         plant.blocks = {name: it for name, it in plant.blocks.items() if any(it is unit for unit in units)}
-        there = {name.lower() for name, _, _, _ in plant.globals}
+        there = {name.lower() for name, _, _, _ in plant.globals} | {it.place[1] for it in plant.arrays}
         for name, unit in left:
             if not isinstance(unit, list) and not (global_names(unit) <= there and all(block in STANDARD or block in plant.blocks for _, block in unit.instances)):
                 files.refuse(f"CONFIG C6 {name} {unit.name}")
 
 
 def reads(it):
-    """All variables that stand in a tree."""
-    if isinstance(it, Read):
+    """All variables and arrays that stand in a tree."""
+    if isinstance(it, (Read, Array)):
         yield it
     elif isinstance(it, (list, tuple)):
         for each in it:
@@ -374,5 +381,6 @@ def reads(it):
 
 def global_names(routine):
     """The globals that a routine names, in small letters."""
-    return {it.place[1] for it in reads(routine.body) if it.place[0] == "global"} | {name.lower() for name, _, _, _ in routine.externals}
+    external = {it[0].lower() for it in routine.externals if isinstance(it, tuple)}
+    return external | {it.place[1] for it in reads((routine.body, routine.externals)) if it.place[0] == "global"}
 

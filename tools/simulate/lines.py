@@ -111,7 +111,7 @@ class Lines:
         most = some.choice([1, 2, 3, len(inputs)])
         pairs = [(some.choice([name, name, name.upper(), name.lower()]), self.given(kind)) for name, kind in some.sample(inputs, min(len(inputs), some.randrange(most + 1)))]
         if some.random() < 0.02:
-            pairs.append((some.choice([it[0] for it in self.plant.globals] + ["nothing", "AND", "_"]), some.choice(["1", "TRUE"])))
+            pairs.append((some.choice([it[0] for it in self.plant.globals] + [it.text for it in self.plant.arrays] + ["nothing", "AND", "_"]), some.choice(["1", "TRUE"])))
         if pairs and some.random() < 0.01:
             pairs.append((pairs[0][0].swapcase(), pairs[0][1]))
         some.shuffle(pairs)
