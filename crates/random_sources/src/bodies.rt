@@ -2,7 +2,8 @@
 
 use crate::dice::Dice;
 use crate::names::{
-    BLOCKS, BOOLS, Called, DINTS, GLOBALS, GROUPS, NAMES, PROGRAMS, Routine, THIRD, TIMES,
+    BLOCKS, BOOL_ROWS, BOOLS, Called, DINT_ROWS, DINTS, GLOBALS, GROUPS, NAMES, NUMS, PROGRAMS,
+    Routine, Row, THIRD, TIME_ROWS, TIMES,
 };
 use plant_types::Kind;
 use row_text::Page;
@@ -17,6 +18,8 @@ enum Piece {
     Target(&'static str),
     /// An expression of a kind, and at most so deep.
     Expr(Kind, u32),
+    /// An index of an array.
+    Index(Row),
     /// A list of statements, each at most so deep.
     List(u32),
     /// A statement at most so deep.
@@ -102,6 +105,15 @@ fn targets(kind: Kind) -> &'static [&'static str] {
     }
 }
 
+/// The arrays, by kind.
+fn rows(kind: Kind) -> &'static [Row] {
+    match kind {
+        Kind::Bool => BOOL_ROWS,
+        Kind::Dint => DINT_ROWS,
+        Kind::Time => TIME_ROWS,
+    }
+}
+
 /// The groups of globals that a body uses: of one it reads globals, of the other it reads and assigns them.
 #[derive(Clone, Copy, Drop)]
 struct Groups {
@@ -169,10 +181,40 @@ impl Writer<'_> {
         }
     }
 
-    /// Writes a literal or a name of a kind.
+    /// Writes an array's name and `[`, and has an index written and what stands behind it.
+    fn element(&mut self, kind: Kind, group: &'static str, end: &[Piece]) {
+        let row = self.dice.pick(rows(kind), NUMS);
+        self.name(row.name, group);
+        self.text.add("[");
+        self.next(end);
+        self.next(&[Piece::Index(row)]);
+    }
+
+    /// Writes an index of an array. Few are outside of its bounds.
+    fn index(&mut self, row: Row) {
+        match self.dice.below(40) {
+            0 => {
+                let word = self.dice.pick(row.outside, "0");
+                self.text.add(word);
+            }
+            1 => self.next(&[Piece::Expr(Kind::Dint, 1)]),
+            2..14 => self.next(&[Piece::Expr(Kind::Dint, 1), Piece::Words(row.rest)]),
+            _ => {
+                let word = self.dice.pick(row.inside, "0");
+                self.text.add(word);
+            }
+        }
+    }
+
+    /// Writes a literal, a name or an element of a kind.
     fn leaf(&mut self, kind: Kind) {
         if self.dice.is_one_of(3) {
             return self.literal(kind);
+        }
+        let groups = [self.groups.read, self.groups.assigned];
+        let group = self.dice.pick(&groups, "");
+        if self.dice.is_one_of(5) {
+            return self.element(kind, group, &[Piece::Words("]")]);
         }
         let routine = self.routine;
         let from = match kind {
@@ -181,8 +223,6 @@ impl Writer<'_> {
             Kind::Time => routine.times,
         };
         let name = self.dice.pick(from, "");
-        let groups = [self.groups.read, self.groups.assigned];
-        let group = self.dice.pick(&groups, "");
         self.name(name, group);
     }
 
@@ -239,18 +279,27 @@ impl Writer<'_> {
         }
     }
 
+    /// Writes what is assigned, or an array's name and `[`, behind which the rest is to be written.
+    fn target(&mut self, kind: Kind) {
+        let group = self.groups.assigned;
+        if self.dice.is_one_of(4) {
+            return self.element(kind, group, &[Piece::Words("] := ")]);
+        }
+        let target = self.dice.pick(targets(kind), "");
+        self.name(target, group);
+        self.text.add(" := ");
+    }
+
     /// Writes an assignment. Most of those to numbers and times keep them small, so that not all that follows overflows.
     fn assignment(&mut self) {
         let kind = self.kind();
-        let target = self.dice.pick(targets(kind), "");
-        self.name(target, self.groups.assigned);
-        self.text.add(" := ");
         let is_free = self.dice.is_one_of(4);
         match (kind, is_free) {
             (Kind::Dint, false) => self.next(&[Piece::Expr(kind, 3), Piece::Words(" MOD 50;\n")]),
             (Kind::Time, false) => self.next(&[Piece::Expr(kind, 0), Piece::Words(";\n")]),
             _ => self.next(&[Piece::Expr(kind, 3), Piece::Words(";\n")]),
         }
+        self.target(kind);
     }
 
     /// Puts the arguments of a call before all that waits, from the last to the first.
@@ -394,6 +443,7 @@ impl Writer<'_> {
             Piece::Words(words) => self.text.add(words),
             Piece::Target(name) => self.name(name, self.groups.assigned),
             Piece::Expr(kind, depth) => self.expression(kind, depth),
+            Piece::Index(row) => self.index(row),
             Piece::List(depth) => self.list(depth),
             Piece::Stmt(depth) => self.statement(depth),
             Piece::Call(called) => self.call_of(called),

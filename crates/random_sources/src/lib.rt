@@ -1,7 +1,7 @@
 //! Sources with random programs, from dice: the same for the same seed.
 //!
 //! A source (`source`) has two block types and 2 to 12 programs, which share globals, with bodies of every statement and every operator,
-//! nested, with calls and timers. Nothing here is part of the server.
+//! nested, with calls and timers, and with arrays, whose indices are now and then out of bounds. Nothing here is part of the server.
 #![tactic(auto)]
 
 mod bodies;

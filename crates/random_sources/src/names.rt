@@ -10,6 +10,18 @@ pub struct Called {
     pub outputs: &'static [(&'static str, Kind)],
 }
 
+/// An array. Each group of globals has one of the name, and so has each body of its own.
+#[derive(Clone, Copy, Drop)]
+pub struct Row {
+    pub name: &'static str,
+    /// Indices, of which nearly all are within its bounds.
+    pub inside: &'static [&'static str],
+    /// Indices that are just outside of them.
+    pub outside: &'static [&'static str],
+    /// What makes of a number before it an index within them.
+    pub rest: &'static str,
+}
+
 /// A program or a block type. Of the names that begin with `g` a body has those of the groups that it uses.
 #[derive(Clone, Copy, Drop)]
 pub struct Routine {
@@ -27,7 +39,7 @@ pub struct Routine {
     pub length: u32,
 }
 
-/// The globals: three inputs, and six groups of three, of which a group's number is the end of each name. Two groups have initial values.
+/// The globals: three inputs, and six groups of three variables and four arrays, of which a group's number is the end of each name. The variables of two groups have initial values.
 pub const GLOBALS: &str = "VAR_GLOBAL
   di AT %ID0 : DINT; bi AT %IX0.0 : BOOL; ti AT %IL0 : TIME;
   gx0 AT %QD0 : DINT; gp0 AT %QX0.0 : BOOL; gu0 AT %QL0 : TIME;
@@ -36,6 +48,12 @@ pub const GLOBALS: &str = "VAR_GLOBAL
   gx3 : DINT := -2; gp3 : BOOL := TRUE; gu3 : TIME := T#500ms;
   gx4 : DINT; gp4 : BOOL; gu4 : TIME;
   gx5 : DINT; gp5 : BOOL; gu5 : TIME;
+  gnums0 : ARRAY[-1..4] OF DINT; gfar0 : ARRAY[2147483646..2147483647] OF DINT; gbits0 : ARRAY[0..2] OF BOOL; gtimes0 : ARRAY[1..1] OF TIME;
+  gnums1 : ARRAY[-1..4] OF DINT; gfar1 : ARRAY[2147483646..2147483647] OF DINT; gbits1 : ARRAY[0..2] OF BOOL; gtimes1 : ARRAY[1..1] OF TIME;
+  gnums2 : ARRAY[-1..4] OF DINT; gfar2 : ARRAY[2147483646..2147483647] OF DINT; gbits2 : ARRAY[0..2] OF BOOL; gtimes2 : ARRAY[1..1] OF TIME;
+  gnums3 : ARRAY[-1..4] OF DINT; gfar3 : ARRAY[2147483646..2147483647] OF DINT; gbits3 : ARRAY[0..2] OF BOOL; gtimes3 : ARRAY[1..1] OF TIME;
+  gnums4 : ARRAY[-1..4] OF DINT; gfar4 : ARRAY[2147483646..2147483647] OF DINT; gbits4 : ARRAY[0..2] OF BOOL; gtimes4 : ARRAY[1..1] OF TIME;
+  gnums5 : ARRAY[-1..4] OF DINT; gfar5 : ARRAY[2147483646..2147483647] OF DINT; gbits5 : ARRAY[0..2] OF BOOL; gtimes5 : ARRAY[1..1] OF TIME;
 END_VAR
 ";
 
@@ -48,6 +66,43 @@ pub const DINTS: &[&str] = &["x", "y", "gx"];
 pub const BOOLS: &[&str] = &["p", "q", "gp"];
 
 pub const TIMES: &[&str] = &["u", "v", "gu"];
+
+/// The array that most indices are fit for: those that loops count through.
+pub const NUMS: Row = Row {
+    name: "gnums",
+    inside: &["-1", "0", "1", "2", "3", "4", "16#2", "i1", "i2"],
+    outside: &["-2", "5"],
+    rest: " MOD 3 + 1",
+};
+
+/// An array whose last index is the last number of a DINT.
+const FAR: Row = Row {
+    name: "gfar",
+    inside: &["2147483646", "2147483647", "DINT#16#7FFFFFFF"],
+    outside: &["2147483645", "-2147483648"],
+    rest: " MOD 1 + 2147483646",
+};
+
+const BITS: Row = Row {
+    name: "gbits",
+    inside: &["0", "1", "2", "2 - 1"],
+    outside: &["-1", "3"],
+    rest: " MOD 2 + 1",
+};
+
+const SPANS: Row = Row {
+    name: "gtimes",
+    inside: &["1", "1", "2#1"],
+    outside: &["0", "2"],
+    rest: " MOD 1 + 1",
+};
+
+/// The arrays, by kind.
+pub const DINT_ROWS: &[Row] = &[NUMS, NUMS, NUMS, FAR];
+
+pub const BOOL_ROWS: &[Row] = &[BITS];
+
+pub const TIME_ROWS: &[Row] = &[SPANS];
 
 const TON: Called = Called {
     name: "on",
@@ -84,7 +139,8 @@ const LOW: Routine = Routine {
     head: "FUNCTION_BLOCK Low
 VAR_INPUT n : DINT; c : BOOL := TRUE; w : TIME; END_VAR
 VAR_OUTPUT m : DINT := 3; d : BOOL; e : TIME; END_VAR
-VAR x, y, i1, i2 : DINT; p, q : BOOL; u, v : TIME; on : TON; edge : R_TRIG; END_VAR
+VAR x, y, i1, i2 : DINT; p, q : BOOL; u, v : TIME; on : TON; edge : R_TRIG;
+nums : ARRAY[-1..4] OF DINT; far : ARRAY[2147483646..2147483647] OF DINT; bits : ARRAY[0..2] OF BOOL; times : ARRAY[1..1] OF TIME; END_VAR
 ",
     end: "m := x; d := p; END_FUNCTION_BLOCK
 ",
@@ -101,7 +157,8 @@ const HIGH: Routine = Routine {
     head: "FUNCTION_BLOCK High
 VAR_INPUT n : DINT; c : BOOL; w : TIME := T#2s; END_VAR
 VAR_OUTPUT m : DINT; d : BOOL := TRUE; e : TIME; END_VAR
-VAR x, y, i1, i2 : DINT; p, q : BOOL; u, v : TIME; off : TOF; inner : Low; END_VAR
+VAR x, y, i1, i2 : DINT; p, q : BOOL; u, v : TIME; off : TOF; inner : Low;
+nums : ARRAY[-1..4] OF DINT; far : ARRAY[2147483646..2147483647] OF DINT; bits : ARRAY[0..2] OF BOOL; times : ARRAY[1..1] OF TIME; END_VAR
 ",
     end: "m := y; e := u; END_FUNCTION_BLOCK
 ",
@@ -118,7 +175,8 @@ pub const BLOCKS: [Routine; 2] = [LOW, HIGH];
 
 const FIRST: Routine = Routine {
     head: "
-VAR x : DINT := 5; y, i1, i2, i3 : DINT; p, q : BOOL; u, v : TIME; inner : Low; outer : High; on : TON; edge : R_TRIG; END_VAR
+VAR x : DINT := 5; y, i1, i2, i3 : DINT; p, q : BOOL; u, v : TIME; inner : Low; outer : High; on : TON; edge : R_TRIG;
+nums : ARRAY[-1..4] OF DINT; far : ARRAY[2147483646..2147483647] OF DINT; bits : ARRAY[0..2] OF BOOL; times : ARRAY[1..1] OF TIME; END_VAR
 ",
     end: "END_PROGRAM
 ",
@@ -132,7 +190,8 @@ VAR x : DINT := 5; y, i1, i2, i3 : DINT; p, q : BOOL; u, v : TIME; inner : Low; 
 
 const SECOND: Routine = Routine {
     head: "
-VAR x, y, i1, i2, i3 : DINT; p : BOOL := TRUE; q : BOOL; u, v : TIME := T#1m; outer : High; off : TOF; END_VAR
+VAR x, y, i1, i2, i3 : DINT; p : BOOL := TRUE; q : BOOL; u, v : TIME := T#1m; outer : High; off : TOF;
+nums : ARRAY[-1..4] OF DINT; far : ARRAY[2147483646..2147483647] OF DINT; bits : ARRAY[0..2] OF BOOL; times : ARRAY[1..1] OF TIME; END_VAR
 ",
     end: "END_PROGRAM
 ",
@@ -147,7 +206,9 @@ VAR x, y, i1, i2, i3 : DINT; p : BOOL := TRUE; q : BOOL; u, v : TIME := T#1m; ou
 /// The program that calls standard blocks alone.
 pub const THIRD: Routine = Routine {
     head: "
-VAR x, y : DINT := 2; i1, i2, i3 : DINT; p, q : BOOL; u, v : TIME; on : TON; off : TOF; edge : R_TRIG; END_VAR
+VAR_EXTERNAL gnums0 : ARRAY[-1..4] OF DINT; gx0 : DINT; END_VAR
+VAR x, y : DINT := 2; i1, i2, i3 : DINT; p, q : BOOL; u, v : TIME; on : TON; off : TOF; edge : R_TRIG;
+nums : ARRAY[-1..4] OF DINT; far : ARRAY[2147483646..2147483647] OF DINT; bits : ARRAY[0..2] OF BOOL; times : ARRAY[1..1] OF TIME; END_VAR
 ",
     end: "END_PROGRAM
 ",
