@@ -24,6 +24,7 @@ fn limit(word: &str) -> Limit {
         Limit::Turns,
         Limit::BlockDepth,
         Limit::Programs,
+        Limit::Elements,
         Limit::Slots,
         Limit::Size,
         Limit::Cost,

@@ -66,6 +66,7 @@ fn push_fault(page: &mut Page, files: &[File], units: &[Unit], fault: TypeFault)
         TypeFault::Turns => page.add("C10 TURNS"),
         TypeFault::BlockDepth => page.add("C10 BLOCK_DEPTH"),
         TypeFault::Programs => page.add("C10 PROGRAMS"),
+        TypeFault::Elements => page.add("C10 ELEMENTS"),
     }
 }
 

@@ -22,7 +22,7 @@
 //!
 //! - `OK` where they are well formed;
 //! - `C6 FILE UNIT` to `C9 FILE UNIT` for the first fault, where UNIT is `VAR_GLOBAL` or the block's or program's name;
-//! - `C10 TURNS`, `C10 BLOCK_DEPTH` or `C10 PROGRAMS` for a limit;
+//! - `C10 TURNS`, `C10 BLOCK_DEPTH`, `C10 PROGRAMS` or `C10 ELEMENTS` for a limit;
 //! - `NO UNIT FILE` for the first source that isn't spelled as the grammar says.
 //!
 //! Where one of their lines is `..`, only the text's first line or the plant's name is printed, and each line `with x := 1;` after the last

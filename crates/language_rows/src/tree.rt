@@ -97,11 +97,15 @@ fn show_argument(argument: &Argument<Text>, page: &mut Page) {
     page.add(", ");
 }
 
-fn show_label(label: Label, page: &mut Page) {
-    page.add_number(i128::from(label.low));
+fn show_range(low: i64, high: i64, page: &mut Page) {
+    page.add_number(i128::from(low));
     page.add("..");
-    page.add_number(i128::from(label.high));
+    page.add_number(i128::from(high));
     page.add(" ");
+}
+
+fn show_label(label: Label, page: &mut Page) {
+    show_range(label.low, label.high, page);
 }
 
 fn show_assignment(target: &Text, value: &Expr<Text>, page: &mut Page) {
@@ -213,12 +217,23 @@ fn section_name(kind: &SectionKind) -> &str {
     }
 }
 
-fn sort_name(sort: &Sort) -> &str {
+fn kind_name(kind: Kind) -> &'static str {
+    match kind {
+        Kind::Bool => "BOOL",
+        Kind::Dint => "DINT",
+        Kind::Time => "TIME",
+    }
+}
+
+fn show_sort(sort: &Sort, page: &mut Page) {
     match sort {
-        Sort::Kind(Kind::Bool) => "BOOL",
-        Sort::Kind(Kind::Dint) => "DINT",
-        Sort::Kind(Kind::Time) => "TIME",
-        Sort::Block(name) => name.as_str(),
+        Sort::Kind(kind) => page.add(kind_name(*kind)),
+        Sort::Block(name) => page.add(name.as_str()),
+        Sort::Array(bounds, kind) => {
+            page.add("ARRAY ");
+            show_range(i64::from(bounds.low), i64::from(bounds.high), page);
+            page.add(kind_name(*kind));
+        }
     }
 }
 
@@ -237,7 +252,7 @@ fn show_declaration(d: &Declaration, page: &mut Page) {
         page.add(" ");
     }
     page.add(region_name(&d.region));
-    page.add(sort_name(&d.sort));
+    show_sort(&d.sort, page);
     if let Some(initial) = &d.initial {
         page.add(" ");
         show(initial, page);
