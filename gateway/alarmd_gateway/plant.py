@@ -104,8 +104,10 @@ def _globals(source: str, tokens: list[Token]) -> Iterator[Variable]:
 
 
 def _declared(source: str, tokens: list[Token]) -> Iterator[Variable]:
-    """The variables of one declaration: `a, b : BOOL := TRUE`, `level AT %ID0 : DINT`."""
+    """The variables of one declaration: `a, b : BOOL := TRUE`, `level AT %ID0 : DINT`. An array isn't seen from outside."""
     colon = next(i for i, token in enumerate(tokens) if token.text == ":")
+    if tokens[colon + 1].word == "ARRAY":
+        return
     kind = Kind(tokens[colon + 1].word)
     given = tokens[colon + 3 :]
     initial = _of_kind(kind, value(given) if given else 0)

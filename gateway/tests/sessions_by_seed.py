@@ -8,7 +8,7 @@ from collections.abc import Iterator
 from alarmd_gateway.commands import Scan
 from alarmd_gateway.model import Kind, Order, Plant, Value, Variable, Verb
 
-EXAMPLES = ("tank", "farm", "pumps", "boilers", "burner", "coldroom", "built_in")
+EXAMPLES = ("tank", "farm", "pumps", "boilers", "burner", "coldroom", "rooms", "built_in")
 
 
 def _value(chance: random.Random, variable: Variable) -> Value:

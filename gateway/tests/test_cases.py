@@ -1,4 +1,4 @@
-"""Cases: the format, what differs beside each other, statuses; and the cases of the seven examples."""
+"""Cases: the format, what differs beside each other, statuses; and the cases of the examples."""
 
 from __future__ import annotations
 
@@ -12,7 +12,7 @@ from alarmd_gateway.case_text import Cases
 from alarmd_gateway.cases import beside, main, split_answers
 from alarmd_gateway.model import GatewayFault
 
-EXAMPLES = ["built_in", "coldroom", "tank", "tank/model", "pumps", "farm", "burner", "boilers"]
+EXAMPLES = ["built_in", "coldroom", "rooms", "tank", "tank/model", "pumps", "farm", "burner", "boilers"]
 
 
 def run(alarmd: Path, plant: Path, *cases: Path) -> int:

@@ -108,6 +108,27 @@ END_VAR VAR_GLOBAL x, Y : TIME := T#2s; END_VAR PROGRAM P END_PROGRAM"""
     ]
 
 
+def test_arrays_are_passed_over(tmp_path: Path) -> None:
+    source = """VAR_GLOBAL
+  w, v : ARRAY[-1..2] OF DINT; a AT %IX0.0 : BOOL; f : array [ 16#0 .. 3 ] of BOOL;
+END_VAR
+PROGRAM p
+  VAR_EXTERNAL w : ARRAY[-1..2] OF DINT; END_VAR
+  VAR i : DINT; END_VAR
+  w[-1] := 7;          (* 1 *)
+  FOR i := 0 TO 2 DO   (* 2 *)
+    w[i] := w[i - 1];  (* 3 *)
+  END_FOR;
+  CASE w[1] OF         (* 4 *)
+    7: f[w[0]] := a;   (* 5 *)
+  END_CASE;
+END_PROGRAM"""
+    found = plant.read(write(tmp_path, source))
+    assert [(one.name, one.line) for one in found.variables] == [("a", 2)]
+    places = [statements.read(found).place("p", number) for number in range(1, 7)]
+    assert [place.line if place else 0 for place in places] == [7, 8, 9, 11, 12, 0]
+
+
 def test_the_column_of_delays_may_be_there(tmp_path: Path) -> None:
     alarms = (
         "tag,area,priority,condition,suppress,latch,max_shelve_ms,on_delay_ms,text\r\n"

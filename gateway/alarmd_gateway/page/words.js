@@ -34,7 +34,7 @@ export const DONE = {
   return: "in service",
   restart: "restarted",
 };
-export const TRAPS = { DIVZERO: "division by zero", OVERFLOW: "overflow" };
+export const TRAPS = { DIVZERO: "division by zero", INDEX: "index out of bounds", OVERFLOW: "overflow" };
 
 // A civil time as short as it can be beside another one: the time of day, where that is another day the date and minutes, and the date
 // alone where it is another year.
