@@ -2,7 +2,7 @@
 
 use crate::known::Use;
 use crate::looking::Looking;
-use plant_types::Text;
+use plant_types::{Bounds, Text};
 use source_trees::{Cursor, Sought, mark_of};
 use st_tree::{Argument, Binary, Branch, Choice, Expr, Label, Literal, Stmt};
 use std::alloc::AllocError;
@@ -75,6 +75,35 @@ impl<'p> Looking<'p> {
         self.warn(cursor.mark(number), said)
     }
 
+    /// The bounds of an array of a name; `None` where it is no array.
+    fn bounds_of(&mut self, name: &Text) -> Option<Bounds> {
+        if let Some(local) = self.locals.find(name.as_str()) {
+            return local.bounds;
+        }
+        self.globals.find(name.as_str())?.bounds
+    }
+
+    /// Tells of an index of an array, at the token of whose name a number stands, that is a literal outside of its bounds.
+    fn index(
+        &mut self,
+        cursor: &Cursor<'_>,
+        (name, number): (&Text, usize),
+        index: &Expr<Text>,
+    ) -> Result<(), AllocError> {
+        let (Some(bounds), Expr::Literal(literal)) = (self.bounds_of(name), index) else {
+            return Ok(());
+        };
+        let (at, low, high) = (literal.worth(), bounds.low, bounds.high);
+        if i64::from(low) <= at && at <= i64::from(high) {
+            return Ok(());
+        }
+        let word = name.as_str();
+        let said = format!(in self.alloc;
+            "warning: {word}[{at}] is outside {low}..{high}, and traps here"
+        )?;
+        self.warn(cursor.mark(number), said)
+    }
+
     /// Goes through an expression.
     fn expr(&mut self, cursor: &mut Cursor<'_>, expr: &Expr<Text>) -> Result<(), AllocError> {
         match expr {
@@ -88,8 +117,9 @@ impl<'p> Looking<'p> {
                 Ok(())
             }
             Expr::Element(name, _, index) => {
-                let _ = cursor.pass_name(name);
+                let number = cursor.pass_name(name);
                 self.note(name, Use::Read);
+                self.index(cursor, (name, number), index)?;
                 self.expr(cursor, index)
             }
             Expr::Unary(_, a) => self.expr(cursor, a),
@@ -171,8 +201,9 @@ impl<'p> Looking<'p> {
                 value,
                 ..
             } => {
-                let _ = cursor.pass_name(array);
+                let number = cursor.pass_name(array);
                 self.assign(array)?;
+                self.index(cursor, (array, number), index)?;
                 self.expr(cursor, index)?;
                 self.expr(cursor, value)
             }

@@ -1,6 +1,6 @@
 //! Variables, and what is done with each.
 
-use plant_types::Region;
+use plant_types::{Bounds, Region};
 use st_parser::SectionKind;
 use std::alloc::{AllocError, Global};
 use word_index::Names;
@@ -25,6 +25,8 @@ pub struct Known {
     pub section: SectionKind,
     pub region: Option<Region>,
     pub is_instance: bool,
+    /// The bounds of an array.
+    pub bounds: Option<Bounds>,
     /// Whether it is declared with an initial value.
     pub has_value: bool,
     pub is_read: bool,
@@ -48,6 +50,7 @@ impl Known {
             section: SectionKind::Global,
             region: None,
             is_instance: false,
+            bounds: None,
             has_value: false,
             is_read: false,
             is_assigned: false,
@@ -98,6 +101,7 @@ impl Known {
         self.mark = other.mark;
         self.section = other.section;
         self.region = other.region;
+        self.bounds = other.bounds;
         self.has_value = other.has_value;
     }
 }

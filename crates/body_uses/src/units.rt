@@ -39,6 +39,10 @@ fn known_by(source: usize, section: SectionKind, declaration: &Declaration, name
     known.section = section;
     known.region = declaration.region;
     known.is_instance = matches!(declaration.sort, Sort::Block(_));
+    known.bounds = match declaration.sort {
+        Sort::Array(bounds, _) => Some(bounds),
+        _ => None,
+    };
     known.has_value = declaration.initial.is_some();
     known
 }

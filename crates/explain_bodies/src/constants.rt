@@ -61,6 +61,10 @@ impl<'t> Teller<'t> {
         let Some(declared) = body.scope.find(name) else {
             return Ok(());
         };
+        if body.scope.array(name).is_some() {
+            let why = "is an array, and the variable of a FOR is a DINT";
+            return self.say_at(STATEMENTS, number, why);
+        }
         let why = match declared.section() {
             SectionKind::Global | SectionKind::External => {
                 "is a global, and the variable of a FOR is declared in the program or block itself"

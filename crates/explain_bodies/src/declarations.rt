@@ -121,7 +121,7 @@ impl<'t> Teller<'t> {
             return self.no_global(number, hint.as_str());
         }
         let (Some(found), Some(kind)) = (sort_kind(sort), body.scope.global_kind(name)) else {
-            return Ok(());
+            return self.external_array(body, name, number, sort);
         };
         if found == kind {
             return Ok(());
@@ -203,11 +203,18 @@ impl<'t> Teller<'t> {
                 self.block_of(body, word, section, declaration.initial.is_some())?;
                 None
             }
+            Sort::Array(bounds, _) => {
+                self.array_sort(section, *bounds)?;
+                None
+            }
         };
         let Some(initial) = &declaration.initial else {
             return Ok(());
         };
         let part = self.value(body, initial, kind, declaration.names.first())?;
+        if let Sort::Array(_, kind) = &declaration.sort {
+            return self.tell_array_value(*kind, &part);
+        }
         if matches!(section, SectionKind::External) {
             let said = "a VAR_EXTERNAL has no initial value: its global has one";
             return self.say(KINDS, part.tokens(), &[said]);

@@ -64,17 +64,6 @@ fn binary_worth(op: Binary, number: usize, kind: Kind, worths: (Worth, Worth)) -
     }
 }
 
-/// The part that an element of an array and its index are, where the array's name has a number.
-fn element_part(first: usize, index: &Part) -> Part {
-    Part {
-        kind: None,
-        first,
-        behind: index.behind.saturating_add(1),
-        form: Form::Other,
-        worth: Worth::Varies(first),
-    }
-}
-
 impl<'t> Teller<'t> {
     /// Walks a literal.
     fn literal(&mut self, literal: Literal) -> Part {
@@ -102,6 +91,7 @@ impl<'t> Teller<'t> {
         let kind = body.scope.variable_kind(name);
         if kind.is_none() {
             self.tell_instance(body, name, number)?;
+            self.tell_array(body, name, number)?;
         }
         Ok(Part::variable(kind, number))
     }
@@ -192,9 +182,9 @@ impl<'t> Teller<'t> {
             Expr::Output(instance, name) => self.output(body, instance, name),
             Expr::Element(name, _, index) => {
                 let first = self.cursor.pass_name(name);
-                let _ = self.is_named(body, name, first, wanted)?;
+                let _ = self.is_named(body, name, first, Wanted::Array)?;
                 let part = self.expr(body, index, Wanted::of(Some(Kind::Dint)))?;
-                Ok(element_part(first, &part))
+                self.element(body, (name, first), &part)
             }
             Expr::Unary(op, a) => {
                 let number = self.cursor.pass(Sought::Operator);

@@ -6,6 +6,7 @@
 //! is there for itself. No clause says that what is told is right; that is tried on examples.
 #![tactic(auto)]
 
+mod arrays;
 mod calls;
 mod constants;
 mod declarations;

@@ -1,5 +1,6 @@
 //! Statements are walked.
 
+use crate::part::Form;
 use crate::teller::{KINDS, Teller};
 use plant_types::{Kind, Text};
 use source_trees::{Body, Wanted};
@@ -21,6 +22,7 @@ impl<'t> Teller<'t> {
         }
         if body.scope.variable_kind(name).is_none() {
             self.tell_instance(body, name, number)?;
+            self.tell_array(body, name, number)?;
             return Ok(None);
         }
         if !body.scope.is_assignable(name) {
@@ -89,10 +91,15 @@ impl<'t> Teller<'t> {
         value: &Expr<Text>,
     ) -> Result<(), AllocError> {
         let number = self.cursor.pass_name(array);
-        let _ = self.is_named(body, array, number, Wanted::of(None))?;
-        let _ = self.value(body, index, Some(Kind::Dint), None)?;
-        let _ = self.value(body, value, None, None)?;
-        Ok(())
+        let _ = self.is_named(body, array, number, Wanted::Array)?;
+        let index = self.expr(body, index, Wanted::of(Some(Kind::Dint)))?;
+        let element = self.element(body, (array, number), &index)?;
+        let part = self.expr(body, value, Wanted::of(element.kind))?;
+        let is_bit = element.kind == Some(Kind::Bool) && part.form == Form::Bit;
+        match element.kind {
+            Some(kind) if part.kind != Some(kind) && !is_bit => self.tell_unfit(&part, kind, None),
+            _ => Ok(()),
+        }
     }
 
     /// Walks a statement.

@@ -31,6 +31,18 @@ pub const KINDS: Breach = Breach {
     page: "docs/LANGUAGE.md, \"Kinds\"",
 };
 
+/// What isn't of its kind, of arrays.
+pub const ARRAYS: Breach = Breach {
+    rule: Rule::Kinds,
+    page: "docs/LANGUAGE.md, \"Arrays\"",
+};
+
+/// Bounds of an array that aren't in order.
+pub const BOUNDS: Breach = Breach {
+    rule: Rule::Constants,
+    page: "docs/LANGUAGE.md, \"Arrays\"",
+};
+
 /// A block that holds itself.
 pub const CIRCLES: Breach = Breach {
     rule: Rule::Blocks,

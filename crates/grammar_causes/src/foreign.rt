@@ -225,10 +225,6 @@ const KIND_WORDS: &[(&str, &str)] = &[
     ("WSTRING", TEXTS),
     ("STRUCT", KINDS),
     ("UNION", KINDS),
-    (
-        "ARRAY",
-        "' isn't part of the language: each of its variables has a name of its own",
-    ),
 ];
 
 /// What is said of what other dialects tell of a unit behind its name.

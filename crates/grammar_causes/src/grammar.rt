@@ -1,5 +1,6 @@
 //! The token with which no source can go on (C5).
 
+use crate::arrays::{told_of_array, unclosed_bracket};
 use crate::depth::too_deep;
 use crate::foreign::foreign_word;
 use crate::meant::meant_keyword;
@@ -334,6 +335,16 @@ fn found(
     stand: Stand,
 ) -> Result<String, AllocError> {
     let word = word_at(text, tokens, number);
+    if let Some(open) = unclosed_bracket(tokens, number, stand) {
+        let (line, column) = place_of(text, tokens, open);
+        return format!(in alloc;
+            "found '{word}': the '[' of line {line}, column {column} has no ']' before it"
+        );
+    }
+    let told = told_of_array(tokens, number, stand);
+    if !told.is_empty() {
+        return format!(in alloc; "found '{word}': {told}");
+    }
     if let Some(deep) = too_deep(tokens, number, stand) {
         return String::from_str(alloc, deep);
     }

@@ -4,6 +4,7 @@
 //! A cause is the bytes that are wrong and a sentence that a person understands. No clause says that it is the right one; that is tried on examples.
 #![tactic(auto)]
 
+mod arrays;
 mod depth;
 mod foreign;
 mod grammar;

@@ -1,6 +1,7 @@
 //! What blocks and programs count: each block once, after those of which it has instances.
 
 use crate::depths::{Depths, MOST_DEEP, is_block};
+use crate::elements::length_of;
 use crate::measures::{Measure, standard_slots};
 use crate::weights::{Instances, Scale, Weight};
 use plant_types::Text;
@@ -61,10 +62,12 @@ impl Counts {
         }
     }
 
-    /// What each name of a declaration counts: a variable 1, an instance what its block does.
+    /// What each name of a declaration counts: a variable 1, an array its elements, an instance what its block does.
     fn of_each(&self, declaration: &Declaration) -> u64 {
-        let Sort::Block(word) = &declaration.sort else {
-            return 1;
+        let word = match &declaration.sort {
+            Sort::Kind(_) => return 1,
+            Sort::Array(bounds, _) => return length_of(*bounds),
+            Sort::Block(word) => word,
         };
         if let Some(slots) = standard_slots(word) {
             return self.measure.of_standard(slots);

@@ -61,11 +61,11 @@ impl Depths {
         }
     }
 
-    /// How deep what is declared is; 0 for variables.
+    /// How deep what is declared is; 0 for variables and arrays.
     fn depth_in(&self, declaration: &Declaration) -> usize {
         match &declaration.sort {
             Sort::Block(word) => self.depth_of(word),
-            Sort::Kind(_) => 0,
+            Sort::Kind(_) | Sort::Array(_, _) => 0,
         }
     }
 

@@ -1,6 +1,7 @@
 //! All sources are looked through for what is past a limit.
 
 use crate::depths::too_deep;
+use crate::elements::long_arrays;
 use crate::fors::long_fors;
 use crate::measures::Measure;
 use crate::spots::Found;
@@ -18,6 +19,8 @@ pub enum Past {
     BlockDepth,
     /// There are more than 512 programs.
     Programs,
+    /// An array has more than 4,096 elements.
+    Elements,
     /// Slots, size or cost are too much.
     Counted(Measure),
 }
@@ -31,6 +34,7 @@ fn found_in(
 ) -> Result<Vec<Found>, AllocError> {
     let one = match past {
         Past::Turns => return long_fors(alloc, sources, units),
+        Past::Elements => return long_arrays(alloc, units),
         Past::BlockDepth => too_deep(alloc, units)?,
         Past::Programs => program_too_many(alloc, units)?,
         Past::Counted(measure) => too_much(alloc, sources, units, measure)?,
@@ -42,7 +46,7 @@ fn found_in(
     Ok(found)
 }
 
-/// With what the sources of a plant are past a limit, in order of text: all FORs with too many turns, else one place. None where a source isn't spelled as
+/// With what the sources of a plant are past a limit, in order of text: all FORs with too many turns, all arrays with too many elements, else one place. None where a source isn't spelled as
 /// the grammar says.
 pub fn where_past<'a>(
     alloc: Global,

@@ -1,12 +1,13 @@
 //! The program with which the sources are past a limit (C10 PROGRAMS, SLOTS, SIZE, COST).
 
 use crate::counts::Counts;
+use crate::elements::length_of;
 use crate::measures::Measure;
 use crate::spots::{Found, LIMITS, for_mark};
 use crate::weights::Weight;
 use plant_types::Text;
 use source_trees::{Source, joined, mark_of};
-use st_parser::{PouKind, Unit};
+use st_parser::{PouKind, Sort, Unit};
 use std::alloc::{AllocError, Global};
 use token_causes::cause_at;
 
@@ -15,9 +16,6 @@ const COSTS: &str = "docs/LANGUAGE.md, \"To read C10 COST\"";
 
 /// The most programs of a plant.
 const MOST_PROGRAMS: usize = 512;
-
-/// The most variables and standard blocks of a plant.
-const MOST_SLOTS: usize = 65_536;
 
 /// What is said where there are too many slots.
 const SLOTS: &str =
@@ -55,7 +53,15 @@ fn programs_of<'t>(
     Ok(titles)
 }
 
-/// The globals of units in order of text, each of which is a slot.
+/// How many slots each name of a global declaration has.
+fn slots_of(sort: &Sort) -> u64 {
+    match sort {
+        Sort::Array(bounds, _) => length_of(*bounds),
+        _ => 1,
+    }
+}
+
+/// The globals of units in order of text, and the slots of each.
 fn globals_of(alloc: Global, units: &[Unit]) -> Result<Vec<Title<'_>>, AllocError> {
     let mut titles = Vec::new(alloc);
     for (source, unit) in units.iter().enumerate() {
@@ -65,7 +71,7 @@ fn globals_of(alloc: Global, units: &[Unit]) -> Result<Vec<Title<'_>>, AllocErro
                     titles.push(Title {
                         source,
                         name,
-                        weight: Weight::of(1),
+                        weight: Weight::of(slots_of(&declaration.sort)),
                     })?;
                 }
             }
@@ -176,6 +182,15 @@ fn first_past<'a, 't>(
     None
 }
 
+/// What programs or globals count together.
+fn total_of(titles: &[Title<'_>]) -> u64 {
+    let mut total = 0u64;
+    for title in titles {
+        total = total.saturating_add(title.weight.total);
+    }
+    total
+}
+
 /// What is said of a program that is past a limit, where most of what it counts stands.
 fn told(
     alloc: Global,
@@ -199,14 +214,13 @@ fn told(
     }))
 }
 
-/// What is said at the name that is one too many; nothing where there are no more than so many.
-fn one_too_many(
+/// What is said at a name with which there are too many; nothing where there is none.
+fn too_many_with(
     alloc: Global,
-    titles: &[Title<'_>],
-    most: usize,
+    title: Option<&Title<'_>>,
     words: &[&str],
 ) -> Result<Option<Found>, AllocError> {
-    let Some(title) = titles.get(most) else {
+    let Some(title) = title else {
         return Ok(None);
     };
     Ok(Some(Found {
@@ -221,7 +235,7 @@ pub fn program_too_many(alloc: Global, units: &[Unit]) -> Result<Option<Found>, 
     let count = titles.len().to_string(alloc)?;
     let behind = " programs, and at most 512 are allowed: with this one they are too many";
     let words = ["there are ", count.as_str(), behind];
-    one_too_many(alloc, titles.as_slice(), MOST_PROGRAMS, &words)
+    too_many_with(alloc, titles.get(MOST_PROGRAMS), &words)
 }
 
 /// The program with which the sources are past a limit, or where the globals alone have too many slots, the global; `None` where there is none.
@@ -237,12 +251,10 @@ pub fn too_much(
         Measure::Slots => globals_of(alloc, units)?,
         _ => Vec::new(alloc),
     };
-    let before = globals.len() as u64;
-    let mut total = before;
-    for title in titles.as_slice() {
-        total = total.saturating_add(title.weight.total);
-    }
-    if globals.len() > MOST_SLOTS {
+    let before = total_of(globals.as_slice());
+    let total = before.saturating_add(total_of(titles.as_slice()));
+    let past = first_past(measure, globals.as_slice(), 0);
+    if past.is_some() {
         let count = written(alloc, total)?;
         let words = [
             "there are ",
@@ -250,7 +262,7 @@ pub fn too_much(
             SLOTS,
             "this global they are too many",
         ];
-        return one_too_many(alloc, globals.as_slice(), MOST_SLOTS, &words);
+        return too_many_with(alloc, past, &words);
     }
     match first_past(measure, titles.as_slice(), before) {
         Some(title) => told(alloc, sources, measure, (title, total)),

@@ -12,6 +12,7 @@ fn past_of(limit: Limit) -> Option<Past> {
         Limit::Turns => Some(Past::Turns),
         Limit::BlockDepth => Some(Past::BlockDepth),
         Limit::Programs => Some(Past::Programs),
+        Limit::Elements => Some(Past::Elements),
         Limit::Slots => Some(Past::Counted(Measure::Slots)),
         Limit::Size => Some(Past::Counted(Measure::Size)),
         Limit::Cost => Some(Past::Counted(Measure::Cost)),
@@ -19,7 +20,7 @@ fn past_of(limit: Limit) -> Option<Past> {
     }
 }
 
-/// Where a limit isn't kept, and by what: of FORs with too many turns each, in order of text.
+/// Where a limit isn't kept, and by what: of FORs with too many turns and of arrays with too many elements each, in order of text.
 pub fn spots_past(
     alloc: Global,
     texts: &PlantTexts<'_>,

@@ -111,7 +111,11 @@ fn bools_of(alloc: Global, units: &[Unit]) -> Result<Names, AllocError> {
     for unit in units {
         for section in &unit.globals {
             for declaration in &section.declarations {
-                if !matches!(declaration.sort, Sort::Kind(Kind::Dint | Kind::Time)) {
+                let is_other = matches!(
+                    declaration.sort,
+                    Sort::Kind(Kind::Dint | Kind::Time) | Sort::Array(_, _)
+                );
+                if !is_other {
                     for name in &declaration.names {
                         names.add(alloc, name.as_str())?;
                     }

@@ -96,7 +96,6 @@ fn hole_of(bytes: &[u8]) -> Option<(usize, Option<TokenKind>)> {
         [b'\'', ..] => Some((closed_len(bytes, b'\''), Some(TokenKind::Integer(0)))),
         [b'"', ..] => Some((closed_len(bytes, b'"'), Some(TokenKind::Integer(0)))),
         [b'{', ..] => Some((closed_len(bytes, b'}'), None)),
-        [b'[', ..] => Some((closed_len(bytes, b']'), None)),
         [b'#', b'a'..=b'z' | b'A'..=b'Z' | b'_', ..] => Some((1, None)),
         [b'#', ..] => Some((line_len(bytes), None)),
         [b'|', b'|', ..] => Some((2, Some(TokenKind::Keyword(Keyword::Or)))),

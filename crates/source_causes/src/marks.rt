@@ -56,9 +56,6 @@ fn said_beside(before: &[u8], bytes: &[u8]) -> &'static str {
             "no ' stands in a number: underscores may part its digits, as in 1_000"
         }
         (_, [b'"', ..]) if quotes_name(bytes, before) => "a name stands without quotes here",
-        (_, [b'[', ..]) if same_word(last_word(before), b"STRING") => {
-            "the language has no texts: its kinds are BOOL, DINT and TIME"
-        }
         ([.., b'.'], [b'%', ..]) => "a bit of a number has no name",
         (_, [b'$', b'0'..=b'9' | b'a'..=b'f' | b'A'..=b'F', ..]) => {
             "a number to the base 16 is written 16#FF"

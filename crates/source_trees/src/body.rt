@@ -26,16 +26,25 @@ pub struct Body<'t> {
     doubts: Names,
 }
 
-/// Whether it isn't certain what a declared name is: the block of an instance isn't there, or the instance can't stand there, or a VAR_EXTERNAL isn't of the
-/// kind of its global.
+/// Whether it isn't certain what a declared name is: the block of an instance isn't there, or the instance or the array can't stand there, or a VAR_EXTERNAL
+/// isn't declared as its global is.
 fn is_doubtful(plant: &Trees<'_>, scope: &BodyScope<'_>, declared: &Declared<'_>) -> bool {
     match (declared.sort(), declared.section()) {
         (Sort::Block(word), SectionKind::Local) => !plant.is_sure_block(word),
         (Sort::Block(_), _) => true,
         (Sort::Kind(kind), SectionKind::External) => match scope.global_kind(declared.name()) {
             Some(found) => found != *kind || plant.titles.doubts(declared.name()),
-            None => false,
+            None => scope.is_global(declared.name()),
         },
+        (Sort::Array(bounds, kind), SectionKind::External) => {
+            match scope.global_array(declared.name()) {
+                Some((other, found)) => {
+                    (other, found) != (*bounds, *kind) || plant.titles.doubts(declared.name())
+                }
+                None => scope.is_global(declared.name()),
+            }
+        }
+        (Sort::Array(_, _), SectionKind::Input | SectionKind::Output) => true,
         _ => false,
     }
 }
@@ -110,7 +119,7 @@ impl<'t> Body<'t> {
     pub fn block_word(&self, name: &Text) -> Option<&Text> {
         match self.scope.find(name)?.sort() {
             Sort::Block(word) => Some(word),
-            Sort::Kind(_) => None,
+            Sort::Kind(_) | Sort::Array(_, _) => None,
         }
     }
 

@@ -13,6 +13,8 @@ const LONGEST_QUOTE: usize = 48;
 pub enum Sought {
     Literal,
     Operator,
+    /// What closes an index.
+    CloseBracket,
 }
 
 /// Whether a keyword is an operator.
@@ -46,6 +48,7 @@ fn is_sought(sought: Sought, kind: TokenKind) -> bool {
     match (sought, kind) {
         (Sought::Operator, TokenKind::Keyword(keyword)) => is_operator_word(keyword),
         (Sought::Operator, TokenKind::Symbol(symbol)) => is_operator_symbol(symbol),
+        (Sought::CloseBracket, TokenKind::Symbol(symbol)) => symbol == Symbol::CloseBracket,
         (Sought::Literal, TokenKind::Keyword(Keyword::True | Keyword::False)) => true,
         (
             Sought::Literal,

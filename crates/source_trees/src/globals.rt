@@ -5,7 +5,7 @@ use crate::near::Nearest;
 use crate::search::{global_named, owner_of};
 use plant_types::{Kind, same_word};
 use st_names::sort_kind;
-use st_parser::{Declaration, Unit};
+use st_parser::{Declaration, Sort, Unit};
 use std::alloc::{AllocError, Global};
 
 /// Offers the names of a declaration of BOOL globals.
@@ -48,19 +48,29 @@ fn undeclared<'a>(alloc: Global, units: &'a [Unit], name: &'a str) -> Result<Str
     format!(in alloc; "no BOOL global is called '{name}'{hint}")
 }
 
-/// The kind of a global of a name; `None` if there is none.
-fn kind_of(units: &[Unit], name: &str) -> Option<Kind> {
-    let declaration = global_named(units, name)?;
-    sort_kind(&declaration.sort)
+/// What is said of a global that is no BOOL; empty where it may be one.
+fn other_sort(alloc: Global, name: &str, sort: &Sort) -> Result<String, AllocError> {
+    match sort {
+        Sort::Kind(kind) => {
+            let kind = kind_text(*kind);
+            format!(in alloc; "'{name}' is a {kind}, and an alarm watches BOOL globals")
+        }
+        Sort::Array(_, _) => format!(in alloc;
+            "'{name}' is an array, and an alarm watches BOOL globals: assign an element to one"
+        ),
+        Sort::Block(_) => Ok(String::new(alloc)),
+    }
 }
 
 /// Why a name is no BOOL global's, in a plant of units.
 pub fn no_bool_global(alloc: Global, units: &[Unit], name: &str) -> Result<String, AllocError> {
-    match kind_of(units, name) {
-        Some(kind) => {
-            let kind = kind_text(kind);
-            format!(in alloc; "'{name}' is a {kind}, and an alarm watches BOOL globals")
-        }
-        None => undeclared(alloc, units, name),
+    let Some(declaration) = global_named(units, name) else {
+        return undeclared(alloc, units, name);
+    };
+    let said = other_sort(alloc, name, &declaration.sort)?;
+    if said.is_empty() {
+        undeclared(alloc, units, name)
+    } else {
+        Ok(said)
     }
 }

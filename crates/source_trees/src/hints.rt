@@ -24,6 +24,8 @@ pub enum Wanted {
     Control,
     /// An instance of a block.
     Instance,
+    /// An array.
+    Array,
 }
 
 impl Wanted {
@@ -45,7 +47,8 @@ fn fits(body: &Body<'_>, name: &Text, sort: &Sort, wanted: Wanted) -> bool {
         Wanted::Number => matches!(kind, Some(Kind::Dint | Kind::Time)),
         Wanted::Target => body.scope.is_assignable(name),
         Wanted::Control => body.scope.is_control(name),
-        Wanted::Instance => kind.is_none(),
+        Wanted::Instance => matches!(sort, Sort::Block(_)),
+        Wanted::Array => matches!(sort, Sort::Array(_, _)),
     }
 }
 
@@ -60,6 +63,7 @@ fn unfit(alloc: Global, name: &str, declared: &Declared<'_>) -> Result<String, A
             let word = word.as_str();
             format!(in alloc; "; '{name}' is there, and is an instance of {word}")
         }
+        Sort::Array(_, _) => format!(in alloc; "; '{name}' is there, and is an array"),
     }
 }
 

@@ -24,15 +24,15 @@ pub struct Titles {
     titles: Vec<Title>,
 }
 
-/// Whether it isn't certain which inputs and outputs a block has: it declares a name twice, or an instance in the place of an input or an output.
+/// Whether it isn't certain which inputs and outputs a block has: it declares a name twice, or an instance or an array in the place of an input or an output.
 fn is_mixed(alloc: Global, sections: &[Section]) -> Result<bool, AllocError> {
     let mut names = Names::new(alloc);
     let list = declared_in(alloc, sections)?;
     for declared in &list {
         let is_new = names.add(alloc, declared.name().as_str())?;
         let is_member = matches!(declared.section(), SectionKind::Input | SectionKind::Output);
-        let is_instance = matches!(declared.sort(), Sort::Block(_));
-        if !is_new || (is_member && is_instance) {
+        let is_variable = matches!(declared.sort(), Sort::Kind(_));
+        if !is_new || (is_member && !is_variable) {
             return Ok(true);
         }
     }

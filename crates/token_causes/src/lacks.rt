@@ -92,7 +92,9 @@ fn is_below(text: &[u8], tokens: &[Token], number: usize) -> bool {
 fn begins_by(after: Option<TokenKind>) -> bool {
     matches!(
         after,
-        Some(TokenKind::Symbol(Symbol::Becomes | Symbol::Gives | Symbol::Open))
+        Some(TokenKind::Symbol(
+            Symbol::Becomes | Symbol::Gives | Symbol::Open | Symbol::OpenBracket
+        ))
     )
 }
 

@@ -113,6 +113,7 @@ pub fn wants_value(kind: TokenKind) -> bool {
             symbol,
             Symbol::Becomes
                 | Symbol::Open
+                | Symbol::OpenBracket
                 | Symbol::Plus
                 | Symbol::Minus
                 | Symbol::Times

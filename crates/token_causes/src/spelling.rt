@@ -146,8 +146,6 @@ fn bracket_fault(bytes: &[u8]) -> &'static str {
         [b'(', b'*', ..] => "a comment begins here, and no *) ends it",
         [b'/', b'*', ..] => "a comment begins here, and no */ ends it",
         [b'"' | b'\'', ..] => "texts in quotes aren't part of the language",
-        [b'[', b':', b'=', ..] => "an assignment is written :=",
-        [b'[' | b']', ..] => "arrays aren't part of the language",
         [b'{' | b'}', ..] => {
             "braces aren't part of the language: there are no pragmas, and words as THEN and END_IF enclose statements"
         }
