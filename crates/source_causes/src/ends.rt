@@ -18,7 +18,24 @@ pub fn is_inner(keyword: Keyword) -> bool {
             | Keyword::Dint
             | Keyword::Time
             | Keyword::At
+            | Keyword::Array
     )
+}
+
+/// Whether the token of a number is the OF behind the bounds of an array.
+fn is_of_array(tokens: &[Token], number: usize) -> bool {
+    if kind_at(tokens, number) != Some(TokenKind::Keyword(Keyword::Of)) {
+        return false;
+    }
+    for i in (0..number).rev() {
+        match kind_at(tokens, i) {
+            Some(TokenKind::Keyword(Keyword::Array)) => return true,
+            Some(TokenKind::Keyword(keyword)) if !is_inner(keyword) => return false,
+            Some(TokenKind::Symbol(Symbol::Semicolon)) => return false,
+            _ => {}
+        }
+    }
+    false
 }
 
 /// Whether a statement, a declaration or the head of a statement begins right behind a token.
@@ -43,7 +60,9 @@ fn is_before_statement(kind: TokenKind) -> bool {
 pub fn start_of_declaration(tokens: &[Token], number: usize) -> usize {
     for i in (0..number).rev() {
         match kind_at(tokens, i) {
-            Some(kind) if is_before_statement(kind) => return i.saturating_add(1),
+            Some(kind) if is_before_statement(kind) && !is_of_array(tokens, i) => {
+                return i.saturating_add(1);
+            }
             _ => {}
         }
     }
@@ -70,7 +89,9 @@ pub fn next_end(tokens: &[Token], number: usize) -> usize {
     for i in number..tokens.len() {
         match kind_at(tokens, i) {
             Some(TokenKind::Symbol(Symbol::Semicolon)) => return i,
-            Some(TokenKind::Keyword(keyword)) if !is_inner(keyword) => return i,
+            Some(TokenKind::Keyword(keyword)) if !is_inner(keyword) && !is_of_array(tokens, i) => {
+                return i;
+            }
             _ => {}
         }
     }
