@@ -201,23 +201,45 @@ fn of_parentheses(tokens: &[Token], number: usize, stand: Stand) -> &'static str
     }
 }
 
+/// Whether a `.` has an output behind it, with which a condition goes on.
+fn is_output_of_condition(tokens: &[Token], number: usize) -> bool {
+    let behind = kind_at(tokens, number.saturating_add(2));
+    kind_at(tokens, number) == Some(TokenKind::Symbol(Symbol::Point))
+        && matches!(
+            behind,
+            Some(TokenKind::Keyword(Keyword::Then | Keyword::And | Keyword::Or | Keyword::Xor))
+        )
+}
+
 /// Whether a condition seems to stand behind ELSE: the token of a number goes on with it.
 fn is_behind_else(tokens: &[Token], number: usize, stand: Stand) -> bool {
     let is_behind = stand == Stand::Begun
         && kind_before(tokens, number, 2) == Some(TokenKind::Keyword(Keyword::Else));
+    let is_output = is_output_of_condition(tokens, number);
     is_behind
-        && matches!(
-            kind_at(tokens, number),
-            Some(
-                TokenKind::Symbol(
-                    Symbol::Less
-                        | Symbol::Greater
-                        | Symbol::AtMost
-                        | Symbol::AtLeast
-                        | Symbol::Unequal
-                ) | TokenKind::Keyword(Keyword::Then | Keyword::And | Keyword::Or | Keyword::Xor)
-            )
-        )
+        && (is_output
+            || matches!(
+                kind_at(tokens, number),
+                Some(
+                    TokenKind::Symbol(
+                        Symbol::Less
+                            | Symbol::Greater
+                            | Symbol::AtMost
+                            | Symbol::AtLeast
+                            | Symbol::Unequal
+                    ) | TokenKind::Keyword(
+                        Keyword::Then | Keyword::And | Keyword::Or | Keyword::Xor
+                    )
+                )
+            ))
+}
+
+/// Whether the token of a number is the word before it once more.
+fn is_doubled(text: &[u8], tokens: &[Token], number: usize) -> bool {
+    let before = word_at(text, tokens, number.saturating_sub(1)).as_bytes();
+    number > 0
+        && kind_at(tokens, number) == Some(TokenKind::Word)
+        && same_word(word_at(text, tokens, number).as_bytes(), before)
 }
 
 /// What is said behind the token of a number; empty where nothing is.
@@ -344,6 +366,9 @@ fn found(
     let told = told_of_array(tokens, number, stand);
     if !told.is_empty() {
         return format!(in alloc; "found '{word}': {told}");
+    }
+    if is_doubled(text, tokens, number) && !lacks_end(text, tokens, number, stand) {
+        return format!(in alloc; "found '{word}': it stands here twice");
     }
     if let Some(deep) = too_deep(tokens, number, stand) {
         return String::from_str(alloc, deep);

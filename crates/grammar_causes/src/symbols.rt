@@ -176,6 +176,19 @@ fn at_value(symbol: Symbol, after: Option<TokenKind>) -> &'static str {
     }
 }
 
+/// What is said of two symbols behind the name of an argument, which are written as one; empty of others.
+fn parted(symbol: Symbol, after: Option<TokenKind>) -> &'static str {
+    match (symbol, after) {
+        (Symbol::Equal, Some(TokenKind::Symbol(Symbol::Greater))) => {
+            "an output is taken with =>, without a blank in it, as in t(Q => b)"
+        }
+        (Symbol::Colon, Some(TokenKind::Symbol(Symbol::Equal))) => {
+            "an input is given with :=, without a blank in it, as in t(IN := a)"
+        }
+        _ => "",
+    }
+}
+
 /// What is said of the symbols of a call that are written in another way.
 fn in_call(stand: Stand, symbol: Symbol) -> &'static str {
     match (stand, symbol) {
@@ -205,9 +218,10 @@ fn in_call(stand: Stand, symbol: Symbol) -> &'static str {
 
 /// What is said of a symbol, by where it stands; empty where that says nothing.
 pub fn of_symbol(found: Beside, symbol: Symbol) -> &'static str {
-    let both = match symbol_of(found.before) {
-        Some(before) => doubled(before, symbol),
-        None => "",
+    let both = match (symbol_of(found.before), found.stand) {
+        (Some(before), _) => doubled(before, symbol),
+        (None, Stand::Argued) => parted(symbol, found.after),
+        _ => "",
     };
     if !both.is_empty() {
         return both;

@@ -226,7 +226,13 @@ fn past_keyword(
         None => None,
     };
     if let (true, Some(closing)) = (is_closed_wrongly(tokens, number), closing) {
-        return with_keyword(alloc, number, closing);
+        let is_part = kind_at(tokens, number) == Some(TokenKind::Keyword(Keyword::Elsif));
+        let keyword = if is_part && closing == Keyword::EndCase {
+            Keyword::Else
+        } else {
+            closing
+        };
+        return with_keyword(alloc, number, keyword);
     }
     if is_closed_wrongly(tokens, number) {
         return match kind_at(tokens, behind) {

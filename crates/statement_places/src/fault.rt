@@ -66,6 +66,7 @@ fn place_in(kind: Option<TokenKind>) -> &'static str {
 fn reason(trap: &str) -> &'static str {
     match trap {
         "DIVZERO" => "divides by 0",
+        "INDEX" => "has an index outside its array",
         _ => "has a result beyond the range of its kind",
     }
 }
