@@ -118,7 +118,11 @@ impl<'t> Teller<'t> {
         let said = format!(in self.alloc;
             "the low bound {low_bound} is above the high bound {high_bound}"
         )?;
-        self.say(BOUNDS, (first, behind_bounds(low, bounds)), &[said.as_str()])
+        self.say(
+            BOUNDS,
+            (first, behind_bounds(low, bounds)),
+            &[said.as_str()],
+        )
     }
 
     /// Tells of the initial value of arrays of elements of a kind.

@@ -126,7 +126,8 @@ fn of_bracket(tokens: &[Token], number: usize, stand: Stand) -> &'static str {
         (Stand::Valued, _) => "an index stands right behind the name of an array, as in w[1]",
         (Stand::Value, _) => "there are no lists of values: each element is assigned by itself",
         (Stand::Statement | Stand::Head, _) => "the name of an array is missing before it",
-        (Stand::Controlled, _) => "an element controls no FOR: that is a variable of the unit's own",
+        (Stand::Controlled, _) =>
+            "an element controls no FOR: that is a variable of the unit's own",
         (Stand::Taken, _) => "an output is handed to a variable, which => has behind it alone",
         _ => "",
     }
@@ -153,8 +154,7 @@ pub fn told_of_array(tokens: &[Token], number: usize, stand: Stand) -> &'static 
         }
         TokenKind::Symbol(Symbol::Comma) if open_bracket(tokens, number).is_some() => ONE_INDEX,
         TokenKind::Symbol(Symbol::CloseBracket)
-            if symbol_of(kind_before(tokens, number, 1)) == Some(Symbol::OpenBracket) =>
-        {
+            if symbol_of(kind_before(tokens, number, 1)) == Some(Symbol::OpenBracket) => {
             "an index is missing before it, as in w[1]"
         }
         TokenKind::Symbol(Symbol::CloseBracket) if open_bracket(tokens, number).is_none() => {
