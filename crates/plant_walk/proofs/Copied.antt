@@ -27,9 +27,9 @@ framed_same source made order o frames f names n values v clocks c paths p codes
     (subst (λ x. IsFramed source order frames names values clocks paths x) (sym e8) h)))))))
 
 -- and so does what is kept, where headings are the same but for where they are in memory
-pub kept_same : (source made : Source) (order o : List ℕ) (first : ℕ) (globals g : List Variable) (programs h : List Heading) (cells k : PlainCells)
-    → made ≡ source → o ≡ order → g ≡ globals → map view_heading h ≡ map view_heading programs → k ≡ cells → IsKept source order first globals programs cells → IsKept made o first g h k
-kept_same source made order o first globals g programs h cells k e1 e2 e3 e4 e5 kept =
-    subst (λ x. IsKept x o first g h k) (sym e1)
-    (subst (λ x. IsKept source x first g h k) (sym e2)
-    (record { first_is = kept.first_is; globals_are = e3 ∙ kept.globals_are; programs_are = e4 ∙ kept.programs_are; opens = subst (λ x. StandFor source x (opening source)) (sym e5) kept.opens }))
+pub kept_same : (source made : Source) (order o : List ℕ) (first : ℕ) (globals g : List Variable) (programs h : List Heading) (cells k : PlainCells) (begin : ℕ)
+    → made ≡ source → o ≡ order → g ≡ globals → map view_heading h ≡ map view_heading programs → k ≡ cells → IsKept source order first globals programs cells begin → IsKept made o first g h k begin
+kept_same source made order o first globals g programs h cells k begin e1 e2 e3 e4 e5 kept =
+    subst (λ x. IsKept x o first g h k begin) (sym e1)
+    (subst (λ x. IsKept source x first g h k begin) (sym e2)
+    (record { first_is = kept.first_is; globals_are = e3 ∙ kept.globals_are; programs_are = e4 ∙ kept.programs_are; opens = subst (λ x. StandFor source x (opening source)) (sym e5) kept.opens; begins = kept.begins }))

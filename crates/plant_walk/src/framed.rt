@@ -18,7 +18,8 @@ ghost use Rattle.plant_walk.specs.Framed.{HasStart, IsLaid, all_standards};
 ghost use Rattle.plant_walk.specs.Kept.{IsKept};
 ghost use Rattle.plant_walk.specs.Headings.{heading_of, view_heading};
 ghost use Rattle.plant_walk.specs.Sound.{IsSound};
-ghost use Rattle.plant_walk.specs.Bases.{program_paths_base};
+ghost use Rattle.plant_logic.specs.Seats.{program_values_base};
+ghost use Rattle.plant_walk.specs.Bases.{AreBases, program_paths_base};
 ghost use Rattle.plant_walk.specs.Runs.{Agree, HasCells, IsProgramCode, IsWithin, TakesInstructions, paths_in, ran, walked_by};
 
 use crate::headings::{Heading, copy_headings, copy_variables, headings_of};
@@ -60,6 +61,8 @@ pub struct Framed {
     programs: Vec<Heading>,
     names: Names,
     cells: Cells,
+    /// How many cells the globals have: the number of the first program's first value.
+    begin: usize,
     paths: Vec<u32>,
     codes: Vec<Code>,
 }
@@ -77,6 +80,7 @@ impl Drop for Framed {
             programs: _,
             names: _,
             cells: _,
+            begin: _,
             paths: _,
             codes: _,
         } = self;
@@ -96,7 +100,7 @@ impl Model for Framed {
 
     ghost view = { λ framed. source_of framed.logic };
 
-    ghost invariant = { λ framed. IsFramed (source_of framed.logic) framed.order.items framed.frames framed.names framed.values.items framed.clocks.items framed.paths.items framed.codes.items × IsKept (source_of framed.logic) framed.order.items framed.first framed.globals.items framed.programs.items framed.cells };
+    ghost invariant = { λ framed. IsFramed (source_of framed.logic) framed.order.items framed.frames framed.names framed.values.items framed.clocks.items framed.paths.items framed.codes.items × IsKept (source_of framed.logic) framed.order.items framed.first framed.globals.items framed.programs.items framed.cells framed.begin };
 }
 
 /// What is made of a source, so that its programs can get their codes.
@@ -203,7 +207,7 @@ fn laid_of(alloc: Global, logic: &Logic, order: &[usize]) -> Result<(Laid, Vec<F
     requires below { AreBelow (source_of logic.now).blocks order.now }
     ensures seats { IfOk result (λ m. m.0.seats ≡ m.1.items) }
     ensures laid { IfOk result (λ m. IsLaid (source_of logic.now) order.now m.1.items m.0.names m.0.values.items m.0.clocks.items m.0.paths.items) }
-    ensures kept { IfOk result (λ m. IsKept (source_of logic.now) order.now (length order.now) m.0.globals.items m.0.programs.items m.0.cells) }
+    ensures kept { IfOk result (λ m. IsKept (source_of logic.now) order.now (length order.now) m.0.globals.items m.0.programs.items m.0.cells (global_cells (source_of logic.now))) }
 {
     let globals = copy_variables(alloc, &logic.globals)?;
     let programs = headings_of(alloc, &logic.programs)?;
@@ -259,6 +263,14 @@ fn codes_in(
     Ok(codes)
 }
 
+/// How many cells the globals of a source have, by where the values of its programs begin.
+fn begin_of(logic: &Shown<Logic>, values: &Vec<usize>) -> usize
+    requires { AreBases (program_values_base (source_of logic.now)) (length (source_of logic.now).programs) values.now.items }
+    ensures { result ≡ global_cells (source_of logic.now) }
+{
+    values[0]
+}
+
 /// A source made ready to run, by what is kept of it, by its frames, which are let go, and by what its programs cost. Fails if allocation fails.
 fn framed_by(
     alloc: Global,
@@ -270,10 +282,11 @@ fn framed_by(
 ) -> Result<Framed, AllocError>
     requires seats { laid.seats ≡ frames.items }
     requires laid { IsLaid (source_of logic) order.now.items frames.items laid.names laid.values.items laid.clocks.items laid.paths.items }
-    requires kept { IsKept (source_of logic) order.now.items (length order.now.items) laid.globals.items laid.programs.items laid.cells }
+    requires kept { IsKept (source_of logic) order.now.items (length order.now.items) laid.globals.items laid.programs.items laid.cells (global_cells (source_of logic)) }
     requires costs { costs.now ≡ program_costs (source_of logic) }
     ensures { IfOk result (λ framed. framed ≡ source_of logic) }
 {
+    let begin = begin_of(&logic, &laid.values);
     let codes = codes_in(alloc, &logic, order, &laid, frames, costs)?;
     let Laid {
         seats,
@@ -296,6 +309,7 @@ fn framed_by(
         programs,
         names,
         cells,
+        begin,
         paths,
         codes,
     })
@@ -380,6 +394,7 @@ impl Framed {
             paths: Vec::from_slice(alloc, &self.paths)?,
             codes: copy_codes(alloc, &self.codes)?,
             first: self.first,
+            begin: self.begin,
             logic: self.logic.again(),
             order: self.order.again(),
             values: self.values.again(),
@@ -393,6 +408,13 @@ impl Framed {
         ensures sound { IsSound self.now }
     {
         self.globals.as_slice()
+    }
+
+    /// How many cells the globals have, which are the first of all cells: one for each variable, and behind these one for each element of an array.
+    pub fn global_cells(&self) -> usize
+        ensures { result ≡ global_cells self.now }
+    {
+        self.begin
     }
 
     /// The programs in order of text, numbered from 0, with their names as declared, their variables and their instances.

@@ -44,7 +44,7 @@ impl Levelled {
         ensures { IfOk result (AreLevelsOf framed.now) }
     {
         sound_source_is_small();
-        let globals = framed.globals().len();
+        let globals = framed.global_cells();
         let parts = parts_of(alloc, framed)?;
         let levels = plan_of(alloc, parts.as_slice(), globals)?;
         let parts = shared(alloc, parts)?;

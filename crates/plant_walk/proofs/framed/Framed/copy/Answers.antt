@@ -19,5 +19,5 @@ invariant_of-result c =
     let same_paths : c.in_ok-from_slice.field-0.items ≡ own.paths.items = search rules in
     let same_codes : c.in_ok-copy_codes.field-0.items ≡ own.codes.items = search rules in (
       framed_same _ _ _ _ _ _ _ _ _ _ _ _ _ _ _ _ same_source same_order same_frames same_names same_values same_clocks same_paths same_codes c.self.invariant.0,
-      kept_same _ _ _ _ _ _ _ _ _ _ _ same_source same_order same_globals same_programs same_cells c.self.invariant.1,
+      kept_same _ _ _ _ _ _ _ _ _ _ _ _ same_source same_order same_globals same_programs same_cells c.self.invariant.1,
     )
