@@ -46,8 +46,8 @@ fn found_in(
     Ok(found)
 }
 
-/// With what the sources of a plant are past a limit, in order of text: all FORs with too many turns, all arrays with too many elements, else one place. None where a source isn't spelled as
-/// the grammar says.
+/// With what the sources of a plant are past a limit, in order of text: all FORs with too many turns, all arrays with too many elements, else one place. None
+/// where a source isn't spelled as the grammar says.
 pub fn where_past<'a>(
     alloc: Global,
     texts: &[(&'a str, &'a [u8])],
