@@ -7,7 +7,7 @@ ghost use Rattle.scan_logic.specs.Levels.{AreLevelsOf};
 use crate::parts::{parts_of, shared};
 use level_plan::Levels;
 use level_runs::plan_of;
-use plant_walk::{Framed, sound_source_is_small};
+use plant_walk::Framed;
 use slice_store::Parts;
 use std::alloc::{AllocError, Global};
 use std::marker::Model;
@@ -43,10 +43,8 @@ impl Levelled {
     pub fn of(alloc: Global, framed: &Framed) -> Result<Levelled, AllocError>
         ensures { IfOk result (AreLevelsOf framed.now) }
     {
-        sound_source_is_small();
-        let globals = framed.global_cells();
         let parts = parts_of(alloc, framed)?;
-        let levels = plan_of(alloc, parts.as_slice(), globals)?;
+        let levels = plan_of(alloc, parts.as_slice(), framed.global_cells())?;
         let parts = shared(alloc, parts)?;
         Ok(Levelled { parts, levels })
     }

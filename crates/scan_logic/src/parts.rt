@@ -7,7 +7,7 @@ ghost use Rattle.scan_logic.specs.Levels.{AreProgramParts};
 
 use acc_vm::Code;
 use code_slices::{Part, relocate};
-use plant_walk::Framed;
+use plant_walk::{Framed, sound_source_is_small};
 use slice_store::Parts;
 use std::alloc::{AllocError, Global};
 use std::sync::Arc;
@@ -47,8 +47,10 @@ fn part_of(
 
 /// The parts of all programs' codes, in program order. Fails if memory was refused.
 pub fn parts_of(alloc: Global, framed: &Framed) -> Result<Vec<Part>, AllocError>
-    ensures { IfOk result (λ parts. AreProgramParts framed.now parts.items) }
+    ensures parts { IfOk result (λ parts. AreProgramParts framed.now parts.items) }
+    ensures few { IfOk result (λ parts. length parts.items ≤ 512) }
 {
+    sound_source_is_small();
     let mut slots = Vec::new(alloc);
     let mut clocks = Vec::new(alloc);
     let mut parts = Vec::new(alloc);
