@@ -53,14 +53,11 @@ impl<'t> Teller<'t> {
             None | Some(Kind::Dint) => return Ok(()),
             Some(kind) => kind_text(kind),
         };
-        let words = [
-            "the index of '",
-            name.as_str(),
-            "' is a ",
-            kind,
-            ", and an index is a DINT",
-        ];
-        self.say(ARRAYS, index.tokens(), &words)
+        let name = name.as_str();
+        let said = format!(in self.alloc;
+            "the index of '{name}' is a {kind}, and an index is a DINT"
+        )?;
+        self.say(ARRAYS, index.tokens(), &[said.as_str()])
     }
 
     /// The kind of the elements of a name at the token of a number, where that is certain; tells where it is no array.
