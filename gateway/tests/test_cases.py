@@ -12,7 +12,17 @@ from alarmd_gateway.case_text import Cases
 from alarmd_gateway.cases import beside, main, split_answers
 from alarmd_gateway.model import GatewayFault
 
-EXAMPLES = ["built_in", "coldroom", "rooms", "tank", "tank/model", "pumps", "farm", "burner", "boilers"]
+EXAMPLES = [
+    "built_in",
+    "coldroom",
+    "rooms",
+    "tank",
+    "tank/model",
+    "pumps",
+    "farm",
+    "burner",
+    "boilers",
+]
 
 
 def run(alarmd: Path, plant: Path, *cases: Path) -> int:
