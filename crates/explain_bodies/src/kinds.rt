@@ -4,6 +4,7 @@ use crate::part::{Form, Part};
 use crate::teller::{KINDS, Teller, alone};
 use plant_types::{Kind, Text};
 use source_trees::{Body, Member, joined, kind_text, members_of};
+use st_names::Scope;
 use st_tree::{Binary, Unary};
 use std::alloc::{AllocError, Global};
 
@@ -112,6 +113,11 @@ impl<'t> Teller<'t> {
             return Ok(());
         };
         let (list, _) = members_of(self.alloc, self.plant, word, name, Member::Read)?;
+        let hides = if body.scope.is_global(name) {
+            "; it hides the global of this name"
+        } else {
+            ""
+        };
         let words = [
             "'",
             self.cursor.word(number),
@@ -119,6 +125,7 @@ impl<'t> Teller<'t> {
             word.as_str(),
             ", and itself neither read nor assigned; its outputs are read behind a point:",
             list.as_str(),
+            hides,
         ];
         self.say(KINDS, alone(number), &words)
     }

@@ -9,9 +9,9 @@ mod foreign;
 mod grammar;
 mod meant;
 mod nesting;
-mod symbols;
-mod words;
+mod rules;
+mod unclosed;
 
 pub use foreign::foreign_word;
-pub use grammar::{cause_at_end, cause_at_token, is_closed_wrongly, meant_end, ungrammatical};
-pub use meant::meant_keyword;
+pub use grammar::{cause_at_end, cause_at_token, is_closed_wrongly, ungrammatical};
+pub use meant::{meant_end, meant_keyword};

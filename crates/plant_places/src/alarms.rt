@@ -77,6 +77,22 @@ fn no_table(text: &[u8]) -> &'static str {
     ""
 }
 
+/// Whether a row has a field that is the name of a column, in any letter case and with blanks beside it.
+fn has_column(text: &[u8], at: usize) -> bool {
+    for number in 0..Version::Second.columns().len() {
+        let Some(field) = field_of_row(text, at, number) else {
+            return false;
+        };
+        let name = part(text, field.from, field.until).trim_ascii();
+        for column in Version::Second.columns() {
+            if name.eq_ignore_ascii_case(column.name().as_bytes()) {
+                return true;
+            }
+        }
+    }
+    false
+}
+
 /// What is wrong with the header, which begins at a byte.
 fn misheaded(alloc: Global, text: &[u8], at: usize) -> Result<Cause, AllocError> {
     let whole = no_table(text);
@@ -91,7 +107,7 @@ fn misheaded(alloc: Global, text: &[u8], at: usize) -> Result<Cause, AllocError>
         )?;
         return Ok(cause_at(mark_of(first), said, ALARMS));
     }
-    if !is_named(text, first, Column::Tag) && first.from == first.until {
+    if !has_column(text, at) {
         let said = "the first line is the header, and the table has none: tag,area,priority,..";
         return Ok(cause_at(mark_of(first), String::from_str(alloc, said)?, ALARMS));
     }
@@ -243,9 +259,12 @@ fn malformed(
         return Ok(cause_at(mark_of(field), String::from_str(alloc, said)?, ALARMS));
     }
     let (name, form) = (column.name(), form_of(column));
-    let len = unquoted(text, field).len();
+    let bytes = unquoted(text, field);
+    let len = bytes.len();
     let said = if matches!(column, Column::Text) && len > 200 {
         format!(in alloc; "{name} {form}, and this one has {len}")?
+    } else if bytes.trim_ascii().len() < len {
+        format!(in alloc; "{name} {form}, and no blanks stand beside it")?
     } else {
         format!(in alloc; "{name} {form}")?
     };

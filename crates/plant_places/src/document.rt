@@ -1,6 +1,6 @@
 //! What is wrong in the plant file (C1 to C3), as its reader found it.
 
-use crate::keys::{Entry, Keys, keys_of};
+use crate::keys::{Entry, Keys, NOBODY, keys_of};
 use crate::place::mark_len;
 use crate::texts::{WIDE, is_wide};
 use plant_file::{Mistake, Unread, Why};
@@ -170,8 +170,22 @@ fn is_missing(mistakes: &[Mistake], console: usize, key: &str) -> bool {
     })
 }
 
+/// Whether a key of the plant's is the header of a table.
+fn is_header(bytes: &[u8], keys: &Keys, key: &str) -> bool {
+    match keys.find(bytes, 0, key) {
+        Some(entry) => entry.value.0 < entry.key.0,
+        None => false,
+    }
+}
+
 /// What is said of a key that there isn't.
-fn unknown_key(alloc: Global, mistakes: &[Mistake], wrong: &Mistake) -> Result<String, AllocError> {
+fn unknown_key(
+    alloc: Global,
+    bytes: &[u8],
+    keys: &Keys,
+    mistakes: &[Mistake],
+    wrong: &Mistake,
+) -> Result<String, AllocError> {
     let key = wrong.key.as_str();
     if wrong.console > 0 && is_missing(mistakes, 0, key) {
         return format!(in alloc;
@@ -184,6 +198,11 @@ fn unknown_key(alloc: Global, mistakes: &[Mistake], wrong: &Mistake) -> Result<S
         "the plant"
     };
     let near = near_key(key, wrong.console);
+    if near.is_empty() && wrong.console == 0 && is_header(bytes, keys, key) {
+        return format!(in alloc;
+            "there is no table '{key}': the plant's own keys stand at the top, without a header"
+        );
+    }
     if near.is_empty() {
         return format!(in alloc; "{whose} has no key '{key}'");
     }
@@ -278,7 +297,7 @@ fn said_of(
     wrong: &Mistake,
 ) -> Result<String, AllocError> {
     match wrong.why {
-        Why::UnknownKey => unknown_key(alloc, mistakes, wrong),
+        Why::UnknownKey => unknown_key(alloc, bytes, keys, mistakes, wrong),
         Why::MissingKey => missing_key(alloc, wrong),
         Why::NoText => no_text(alloc, wrong),
         Why::NoList => no_list(alloc, wrong),
@@ -328,15 +347,17 @@ fn mark_of(bytes: &[u8], keys: &Keys, wrong: &Mistake) -> Option<(usize, usize)>
     }
 }
 
-/// Whether a missing key is told already by one that stands in its place: nearly the same one, or the same one below a console.
-fn is_told_by_other(mistakes: &[Mistake], missing: &Mistake) -> bool {
+/// Whether a missing key is told already by one that stands in its place: nearly the same one, the same one below a console, or the header of a table that there isn't.
+fn is_told_by_other(bytes: &[u8], keys: &Keys, mistakes: &[Mistake], missing: &Mistake) -> bool {
     let key = missing.key.as_str();
+    let is_elsewhere = missing.console == 0 && keys.find(bytes, NOBODY, key).is_some();
     missing.why == Why::MissingKey
         && mistakes.iter().any(|other| {
             let is_near = other.console == missing.console
                 && near_key(other.key.as_str(), other.console) == key;
             let is_below = missing.console == 0 && other.console > 0 && other.key.as_str() == key;
-            other.why == Why::UnknownKey && (is_near || is_below)
+            let is_unknown = other.why == Why::UnknownKey;
+            is_unknown && (is_near || is_below || is_elsewhere && other.console == 0)
         })
 }
 
@@ -349,7 +370,7 @@ pub fn wrong_keys(
     let keys = keys_of(alloc, bytes)?;
     let mut causes = Vec::new(alloc);
     for wrong in mistakes {
-        if !is_told_by_other(mistakes, wrong) {
+        if !is_told_by_other(bytes, &keys, mistakes, wrong) {
             let said = said_of(alloc, bytes, &keys, mistakes, wrong)?;
             let cause = match mark_of(bytes, &keys, wrong) {
                 Some(mark) => cause_at(mark, said, KEYS),

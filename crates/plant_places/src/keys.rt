@@ -5,10 +5,13 @@ use crate::place::mark_len;
 use std::alloc::{AllocError, Global};
 use token_causes::part;
 
+/// Whose keys stand below the header of a table that there isn't.
+pub const NOBODY: usize = usize::MAX;
+
 /// A key, and what stands under it.
 #[derive(Drop)]
 pub struct Entry {
-    /// 0 for a key of the plant, else the number of the console, from 1.
+    /// 0 for a key of the plant, the number of the console, from 1, or `NOBODY`.
     pub console: usize,
     /// The bytes of the key, without quotes, from one number to before another.
     pub key: (usize, usize),
@@ -24,7 +27,7 @@ pub struct Keys {
     pub entries: Vec<Entry>,
     /// The headers of the consoles.
     pub consoles: Vec<(usize, usize)>,
-    /// Whose keys come next: as `Entry` tells it; `None` below the header of another table.
+    /// Whose keys come next: as `Entry` tells it; `None` below the header of a console that isn't in a list.
     current: Option<usize>,
 }
 
@@ -278,11 +281,11 @@ impl Keys {
             value: header,
             items: Vec::new(alloc),
         })?;
-        self.current = None;
+        self.current = if is_console { None } else { Some(NOBODY) };
         Ok(header.1)
     }
 
-    /// The first key of the plant's, for which `console` is 0, or of a console.
+    /// The first key of the plant's, for which `console` is 0, of a console, or of nobody.
     pub fn find(&self, text: &[u8], console: usize, key: &str) -> Option<&Entry> {
         self.entries.iter().find(|entry| {
             entry.console == console && part(text, entry.key.0, entry.key.1) == key.as_bytes()

@@ -8,7 +8,6 @@
 #![tactic(auto)]
 
 mod ends;
-mod heads;
 mod holes;
 mod marks;
 mod mend;

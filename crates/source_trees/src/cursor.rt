@@ -1,9 +1,9 @@
 //! Where the words, literals and operators of a tree stand: a walk of the tree in order of text goes along the tokens of its source.
 
 use plant_types::Text;
-use st_lexer::{Keyword, Symbol, Token, TokenKind};
+use st_lexer::Token;
 use std::alloc::{AllocError, Global};
-use token_causes::{kind_at, kind_before, span_of, word_at};
+use token_causes::{sign_at, sign_before, span_of, word_at};
 
 /// What has more bytes isn't quoted.
 const LONGEST_QUOTE: usize = 48;
@@ -15,46 +15,29 @@ pub enum Sought {
     Operator,
 }
 
-/// Whether a keyword is an operator.
-fn is_operator_word(keyword: Keyword) -> bool {
-    matches!(
-        keyword,
-        Keyword::And | Keyword::Or | Keyword::Xor | Keyword::Not | Keyword::Mod
-    )
-}
-
-/// Whether a symbol is an operator.
-fn is_operator_symbol(symbol: Symbol) -> bool {
-    matches!(
-        symbol,
-        Symbol::AtMost
-            | Symbol::AtLeast
-            | Symbol::Unequal
-            | Symbol::Equal
-            | Symbol::Less
-            | Symbol::Greater
-            | Symbol::Plus
-            | Symbol::Minus
-            | Symbol::Times
-            | Symbol::Divide
-            | Symbol::Ampersand
-    )
-}
-
-/// Whether a token is what is sought.
-fn is_sought(sought: Sought, kind: TokenKind) -> bool {
-    match (sought, kind) {
-        (Sought::Operator, TokenKind::Keyword(keyword)) => is_operator_word(keyword),
-        (Sought::Operator, TokenKind::Symbol(symbol)) => is_operator_symbol(symbol),
-        (Sought::Literal, TokenKind::Keyword(Keyword::True | Keyword::False)) => true,
-        (
-            Sought::Literal,
-            TokenKind::Integer(_)
-            | TokenKind::Dint(_)
-            | TokenKind::Truth(_)
-            | TokenKind::Duration(_),
-        ) => true,
-        _ => false,
+/// Whether a sign is that of what is sought.
+fn is_sought(sought: Sought, sign: &str) -> bool {
+    match sought {
+        Sought::Literal => matches!(sign, "TRUE" | "FALSE" | "int" | "literal"),
+        Sought::Operator => matches!(
+            sign,
+            "AND"
+                | "OR"
+                | "XOR"
+                | "NOT"
+                | "MOD"
+                | "<="
+                | ">="
+                | "<>"
+                | "="
+                | "<"
+                | ">"
+                | "+"
+                | "-"
+                | "*"
+                | "/"
+                | "&"
+        ),
     }
 }
 
@@ -62,12 +45,10 @@ fn is_sought(sought: Sought, kind: TokenKind) -> bool {
 fn unmatched(tokens: &[Token], first: usize, behind: usize) -> (usize, usize) {
     let (mut closed, mut open) = (0usize, 0usize);
     for number in first..behind {
-        match kind_at(tokens, number) {
-            Some(TokenKind::Symbol(Symbol::Open)) => open = open.saturating_add(1),
-            Some(TokenKind::Symbol(Symbol::Close)) if open == 0 => {
-                closed = closed.saturating_add(1);
-            }
-            Some(TokenKind::Symbol(Symbol::Close)) => open = open.saturating_sub(1),
+        match sign_at(tokens, number) {
+            "(" => open = open.saturating_add(1),
+            ")" if open == 0 => closed = closed.saturating_add(1),
+            ")" => open = open.saturating_sub(1),
             _ => {}
         }
     }
@@ -92,37 +73,38 @@ impl<'t> Cursor<'t> {
         }
     }
 
+    /// Goes past the token of a number, and returns it; how many there are if none is told.
+    fn pass_to(&mut self, found: Option<usize>) -> usize {
+        match found {
+            Some(number) => {
+                self.next = number.saturating_add(1);
+                number
+            }
+            None => self.tokens.len(),
+        }
+    }
+
     /// Goes past a name of the tree, and returns the number of its token.
     pub fn pass_name(&mut self, name: &Text) -> usize {
         let at = name.at() as usize;
-        for number in self.next..self.tokens.len() {
-            if let Some(token) = self.tokens.get(number) {
-                if token.from >= at {
-                    self.next = number.saturating_add(1);
-                    return number;
-                }
-            }
-        }
-        self.tokens.len()
+        let tokens = self.tokens;
+        let found = (self.next..tokens.len()).find(
+            |i| matches!(tokens.get(*i), Some(token) if token.from >= at),
+        );
+        self.pass_to(found)
     }
 
     /// Goes past the next literal or operator, and returns its number.
     pub fn pass(&mut self, sought: Sought) -> usize {
-        for number in self.next..self.tokens.len() {
-            if let Some(token) = self.tokens.get(number) {
-                if is_sought(sought, token.kind) {
-                    self.next = number.saturating_add(1);
-                    return number;
-                }
-            }
-        }
-        self.tokens.len()
+        let tokens = self.tokens;
+        let found = (self.next..tokens.len()).find(|i| is_sought(sought, sign_at(tokens, *i)));
+        self.pass_to(found)
     }
 
     /// Goes past a label of a CASE, and returns the number of its first literal.
     pub fn pass_label(&mut self) -> usize {
         let number = self.pass(Sought::Literal);
-        if kind_at(self.tokens, self.next) == Some(TokenKind::Symbol(Symbol::Range)) {
+        if sign_at(self.tokens, self.next) == ".." {
             self.pass(Sought::Literal);
         }
         number
@@ -130,9 +112,9 @@ impl<'t> Cursor<'t> {
 
     /// The number of the first token of a literal that ends with the one of a number: its minus, where it has one.
     pub fn first_of(&self, number: usize, is_negative: bool) -> usize {
-        let is_plain = matches!(kind_at(self.tokens, number), Some(TokenKind::Integer(_)));
-        let before = kind_before(self.tokens, number, 1);
-        if is_negative && is_plain && before == Some(TokenKind::Symbol(Symbol::Minus)) {
+        let has_minus = sign_at(self.tokens, number) == "int"
+            && sign_before(self.tokens, number, 1) == "-";
+        if is_negative && has_minus {
             number.saturating_sub(1)
         } else {
             number

@@ -1,12 +1,12 @@
 //! Why a name in the alarm database is no BOOL global's (C14).
 
 use crate::body::kind_text;
-use crate::near::Nearest;
 use crate::search::{global_named, owner_of};
 use plant_types::{Kind, same_word};
 use st_names::sort_kind;
 use st_parser::{Declaration, Unit};
 use std::alloc::{AllocError, Global};
+use token_causes::Nearest;
 
 /// Offers the names of a declaration of BOOL globals.
 fn offer<'n>(nearest: &mut Nearest<'n>, declaration: &'n Declaration) {

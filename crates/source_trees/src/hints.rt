@@ -1,13 +1,13 @@
 //! The names that may be meant by one that isn't there.
 
 use crate::body::{Body, kind_text};
-use crate::near::Nearest;
 use crate::search::owner_of;
 use crate::trees::Trees;
 use plant_types::{Kind, Text};
 use st_names::{Declared, Scope, sort_kind};
 use st_parser::{Section, Sort};
 use std::alloc::{AllocError, Global};
+use token_causes::Nearest;
 
 /// What a name has to be.
 #[derive(Clone, Copy, Drop)]

@@ -1,10 +1,10 @@
 //! The inputs and outputs of blocks.
 
-use crate::near::Nearest;
 use crate::trees::Trees;
 use plant_types::Text;
 use st_parser::{Pou, SectionKind};
 use std::alloc::{AllocError, Global};
+use token_causes::Nearest;
 
 /// How a name behind a call's parenthesis or an instance's point is used.
 #[derive(Clone, Copy, PartialEq, Eq, Drop)]

@@ -4,9 +4,9 @@ use crate::routines::statements_of;
 use crate::sources::{Found, Source, routine_at, sources_of};
 use plant_folder::PlantTexts;
 use plant_places::{FileOf, Spot, shown_alone};
-use st_lexer::{Keyword, Symbol, Token, TokenKind};
+use st_lexer::Token;
 use std::alloc::{AllocError, Global};
-use token_causes::{Cause, cause_at, kind_at, span_of, word_at};
+use token_causes::{Cause, cause_at, sign_at, span_of, word_at};
 
 /// Where it stands how statements trap.
 const TRAPS: &str = "docs/LANGUAGE.md, \"Traps\"";
@@ -39,25 +39,16 @@ fn read(line: &str) -> Option<Told<'_>> {
 
 /// The number of the token behind what a trap of a statement may be in: its `;`, or the keyword that ends its head.
 fn end_of(tokens: &[Token], first: usize) -> usize {
-    for number in first..tokens.len() {
-        if matches!(
-            kind_at(tokens, number),
-            Some(
-                TokenKind::Symbol(Symbol::Semicolon)
-                    | TokenKind::Keyword(Keyword::Then | Keyword::Of | Keyword::Do)
-            )
-        ) {
-            return number;
-        }
-    }
-    tokens.len()
+    (first..tokens.len())
+        .find(|number| matches!(sign_at(tokens, *number), ";" | "THEN" | "OF" | "DO"))
+        .unwrap_or(tokens.len())
 }
 
-/// Where in a statement a trap is, by its first token.
-fn place_in(kind: Option<TokenKind>) -> &'static str {
-    match kind {
-        Some(TokenKind::Keyword(Keyword::If)) => " in a condition of this IF or of its ELSIF",
-        Some(TokenKind::Keyword(Keyword::Case)) => " in what this CASE asks",
+/// Where in a statement a trap is, by the sign of its first token.
+fn place_in(sign: &str) -> &'static str {
+    match sign {
+        "IF" => " in a condition of this IF or of its ELSIF",
+        "CASE" => " in what this CASE asks",
         _ => "",
     }
 }
@@ -66,6 +57,7 @@ fn place_in(kind: Option<TokenKind>) -> &'static str {
 fn reason(trap: &str) -> &'static str {
     match trap {
         "DIVZERO" => "divides by 0",
+        "INDEX" => "has an index outside its array",
         _ => "has a result beyond the range of its kind",
     }
 }
@@ -81,7 +73,7 @@ fn said(
     let tokens = source.tokens.as_slice();
     let unit = word_at(source.text, tokens, found.routine.name);
     let (number, reason) = (told.statement, reason(told.trap));
-    let place = place_in(kind_at(tokens, first));
+    let place = place_in(sign_at(tokens, first));
     format!(in alloc; "statement {number} of {unit} {reason}{place}")
 }
 

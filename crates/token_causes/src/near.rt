@@ -39,7 +39,7 @@ fn is_swapped(a: &[u8], b: &[u8]) -> bool {
 }
 
 /// Whether a letter put in, left out or changed, or two changed about, makes one word of another, or none.
-fn within_one(a: &[u8], b: &[u8]) -> bool {
+pub fn within_one(a: &[u8], b: &[u8]) -> bool {
     let (a, b) = rests(a, b);
     same_word(tail(a), tail(b))
         || same_word(tail(a), b)
