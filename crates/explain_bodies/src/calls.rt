@@ -2,7 +2,7 @@
 
 use crate::teller::{Breach, KINDS, MEMBERS, Teller, alone};
 use plant_types::{Kind, Text};
-use source_trees::{Body, Member, Wanted, joined, kind_text};
+use source_trees::{Body, Member, Wanted, kind_text};
 use st_names::Scope;
 use st_tree::{Argument, Expr};
 use std::alloc::AllocError;
@@ -61,14 +61,9 @@ impl<'t> Teller<'t> {
             _ => call.outputs.add(self.alloc, name.as_str())?,
         };
         if !is_new {
-            let words = [
-                "the ",
-                what,
-                " '",
-                name.as_str(),
-                "' is there twice in this call",
-            ];
-            self.say(MEMBERS, alone(number), &words)?;
+            let name = name.as_str();
+            let said = format!(in self.alloc; "the {what} '{name}' is there twice in this call")?;
+            self.say(MEMBERS, alone(number), said)?;
         }
         Ok(kind)
     }
@@ -79,13 +74,12 @@ impl<'t> Teller<'t> {
         output: (usize, Kind),
         variable: (usize, Kind),
     ) -> Result<(), AllocError> {
-        let mut said = joined(self.alloc, &["'", self.cursor.word(output.0), "' is a "])?;
-        said.push_str(kind_text(output.1))?;
-        said.push_str(", and '")?;
-        said.push_str(self.cursor.word(variable.0))?;
-        said.push_str("', which takes it, is a ")?;
-        said.push_str(kind_text(variable.1))?;
-        self.say(KINDS, alone(output.0), &[said.as_str()])
+        let (name, kind) = (self.cursor.word(output.0), kind_text(output.1));
+        let (taker, other) = (self.cursor.word(variable.0), kind_text(variable.1));
+        let said = format!(in self.alloc;
+            "'{name}' is a {kind}, and '{taker}', which takes it, is a {other}"
+        )?;
+        self.say(KINDS, alone(output.0), said)
     }
 
     /// Walks an output that a call gives to a variable.

@@ -44,8 +44,9 @@ impl<'t> Teller<'t> {
             return self.bound(part);
         }
         let quoted = self.cursor.quoted(self.alloc, part.first, part.behind)?;
-        let words = [quoted.as_str(), " is no step of a FOR, since it is 0"];
-        self.say(STATEMENTS, part.tokens(), &words)
+        let quoted = quoted.as_str();
+        let said = format!(in self.alloc; "{quoted} is no step of a FOR, since it is 0")?;
+        self.say(STATEMENTS, part.tokens(), said)
     }
 
     /// Tells of a variable that may not control a FOR.

@@ -1,8 +1,8 @@
 //! Declarations are walked.
 
 use crate::teller::{CIRCLES, KINDS, NAMES, Teller, VARIABLES, alone};
-use plant_types::{Kind, Text, same_word};
-use source_trees::{Body, Cursor, Rule, global_hint, joined, kind_text, leads_back, type_hint};
+use plant_types::{Text, same_word};
+use source_trees::{Body, Cursor, Rule, global_hint, kind_text, leads_back, type_hint};
 use st_names::{Scope, sort_kind};
 use st_parser::{Declaration, Section, SectionKind, Sort};
 use std::alloc::AllocError;
@@ -24,18 +24,12 @@ impl<'t> Teller<'t> {
         if !self.takes(NAMES) {
             return Ok(());
         }
-        let line = Cursor::line_of(source.text, other.at as usize).to_string(self.alloc)?;
-        let words = [
-            "the name '",
-            self.cursor.word(number),
-            "' is there already: '",
-            other.word,
-            "' stands in line ",
-            line.as_str(),
-            " of ",
-            source.name,
-        ];
-        self.say(NAMES, alone(number), &words)
+        let line = Cursor::line_of(source.text, other.at as usize);
+        let (name, first, file) = (self.cursor.word(number), other.word, source.name);
+        let said = format!(in self.alloc;
+            "the name '{name}' is there already: '{first}' stands in line {line} of {file}"
+        )?;
+        self.say(NAMES, alone(number), said)
     }
 
     /// Tells of a name of all sources, at the token of a number, that is taken: by a block that is there from the start, or by an earlier declaration.
@@ -81,30 +75,6 @@ impl<'t> Teller<'t> {
         }
     }
 
-    /// Tells of a name of VAR_EXTERNAL whose global is of another kind than the one that was found.
-    fn other_global(&mut self, number: usize, kind: Kind, found: Kind) -> Result<(), AllocError> {
-        let mut said = joined(
-            self.alloc,
-            &["'", self.cursor.word(number), "' is a global"],
-        )?;
-        said.push_str(" of the kind ")?;
-        said.push_str(kind_text(kind))?;
-        said.push_str(", and here it is a ")?;
-        said.push_str(kind_text(found))?;
-        self.say(KINDS, alone(number), &[said.as_str()])
-    }
-
-    /// Tells of a name of VAR_EXTERNAL that no global has.
-    fn no_global(&mut self, number: usize, hint: &str) -> Result<(), AllocError> {
-        let mut said = joined(
-            self.alloc,
-            &["no global is called '", self.cursor.word(number)],
-        )?;
-        said.push_str("', which VAR_EXTERNAL names")?;
-        said.push_str(hint)?;
-        self.say(NAMES, alone(number), &[said.as_str()])
-    }
-
     /// Tells of a VAR_EXTERNAL whose global isn't there or is of another kind.
     fn external(
         &mut self,
@@ -118,7 +88,11 @@ impl<'t> Teller<'t> {
         }
         if !body.scope.is_global(name) {
             let hint = global_hint(self.alloc, self.plant, name)?;
-            return self.no_global(number, hint.as_str());
+            let (word, hint) = (self.cursor.word(number), hint.as_str());
+            let said = format!(in self.alloc;
+                "no global is called '{word}', which VAR_EXTERNAL names{hint}"
+            )?;
+            return self.say(NAMES, alone(number), said);
         }
         let (Some(found), Some(kind)) = (sort_kind(sort), body.scope.global_kind(name)) else {
             return Ok(());
@@ -126,7 +100,11 @@ impl<'t> Teller<'t> {
         if found == kind {
             return Ok(());
         }
-        self.other_global(number, kind, found)
+        let (kind, found) = (kind_text(kind), kind_text(found));
+        let why = format!(in self.alloc;
+            "is a global of the kind {kind}, and here it is a {found}"
+        )?;
+        self.say_at(KINDS, number, why.as_str())
     }
 
     /// Tells of a word in the place of a block or a kind that names neither.
@@ -136,13 +114,10 @@ impl<'t> Teller<'t> {
         }
         let hint = type_hint(self.alloc, self.plant, word)?;
         let (word, hint) = (word.as_str(), hint.as_str());
-        let words = [
-            "no block is called '",
-            word,
-            "', and the kinds are BOOL, DINT and TIME",
-            hint,
-        ];
-        self.say(NAMES, alone(number), &words)
+        let said = format!(in self.alloc;
+            "no block is called '{word}', and the kinds are BOOL, DINT and TIME{hint}"
+        )?;
+        self.say(NAMES, alone(number), said)
     }
 
     /// Tells of the block of instances that isn't there, that can't stand in its section, or that leads back to the block that declares them.
@@ -175,19 +150,14 @@ impl<'t> Teller<'t> {
             return Ok(());
         }
         let (name, block) = (body.name, word.as_str());
-        if same_word(name.as_bytes(), block.as_bytes()) {
-            let words = ["block ", name, " holds an instance of itself"];
-            return self.say(CIRCLES, alone(number), &words);
-        }
-        let words = [
-            "block ",
-            name,
-            " holds an instance of ",
-            block,
-            ", whose instances lead back to ",
-            name,
-        ];
-        self.say(CIRCLES, alone(number), &words)
+        let said = if same_word(name.as_bytes(), block.as_bytes()) {
+            format!(in self.alloc; "block {name} holds an instance of itself")?
+        } else {
+            format!(in self.alloc;
+                "block {name} holds an instance of {block}, whose instances lead back to {name}"
+            )?
+        };
+        self.say(CIRCLES, alone(number), said)
     }
 
     /// Walks what variables are declared as, and their initial value.
@@ -210,7 +180,8 @@ impl<'t> Teller<'t> {
         let part = self.value(body, initial, kind, declaration.names.first())?;
         if matches!(section, SectionKind::External) {
             let said = "a VAR_EXTERNAL has no initial value: its global has one";
-            return self.say(KINDS, part.tokens(), &[said]);
+            let said = String::from_str(self.alloc, said)?;
+            return self.say(KINDS, part.tokens(), said);
         }
         match kind {
             Some(_) => {

@@ -3,10 +3,10 @@
 use crate::part::{Form, Part};
 use crate::teller::{KINDS, Teller, alone};
 use plant_types::{Kind, Text};
-use source_trees::{Body, Member, joined, kind_text, members_of};
+use source_trees::{Body, Member, kind_text, members_of};
 use st_names::Scope;
 use st_tree::{Binary, Unary};
-use std::alloc::{AllocError, Global};
+use std::alloc::AllocError;
 
 /// What is said beside two kinds that don't fit: how what is wanted is written.
 fn beside(wanted: Kind, part: &Part) -> &'static str {
@@ -42,17 +42,6 @@ fn kind_of(part: &Part) -> &'static str {
     }
 }
 
-/// What is said before a part that isn't of the kind that it has to be: of what takes it, where something does.
-fn lead_of(alloc: Global, wanted: Kind, taker: Option<&Text>) -> Result<String, AllocError> {
-    let Some(name) = taker else {
-        return joined(alloc, &["a ", kind_text(wanted), " is wanted here, and "]);
-    };
-    let mut said = joined(alloc, &["'", name.as_str(), "' is a "])?;
-    said.push_str(kind_text(wanted))?;
-    said.push_str(", and ")?;
-    Ok(said)
-}
-
 impl<'t> Teller<'t> {
     /// Tells of a part that isn't of the kind that it has to be, for what takes it.
     pub fn tell_unfit(
@@ -61,19 +50,22 @@ impl<'t> Teller<'t> {
         wanted: Kind,
         taker: Option<&Text>,
     ) -> Result<(), AllocError> {
-        if part.kind.is_none() {
+        if part.kind.is_none() || !self.takes(KINDS) {
             return Ok(());
         }
-        let lead = lead_of(self.alloc, wanted, taker)?;
         let quoted = self.cursor.quoted(self.alloc, part.first, part.behind)?;
-        let words = [
-            lead.as_str(),
-            quoted.as_str(),
-            " is a ",
-            kind_of(part),
-            beside(wanted, part),
-        ];
-        self.say(KINDS, part.tokens(), &words)
+        let (quoted, kind, more) = (quoted.as_str(), kind_of(part), beside(wanted, part));
+        let wanted = kind_text(wanted);
+        let said = match taker {
+            Some(name) => {
+                let name = name.as_str();
+                format!(in self.alloc; "'{name}' is a {wanted}, and {quoted} is a {kind}{more}")?
+            }
+            None => format!(in self.alloc;
+                "a {wanted} is wanted here, and {quoted} is a {kind}{more}"
+            )?,
+        };
+        self.say(KINDS, part.tokens(), said)
     }
 
     /// Tells of an operand that isn't of its kind, where it stands, and what is said beside that.
@@ -84,22 +76,16 @@ impl<'t> Teller<'t> {
         side: &'static str,
         more: &'static str,
     ) -> Result<(), AllocError> {
-        if part.kind.is_none() {
+        if part.kind.is_none() || !self.takes(KINDS) {
             return Ok(());
         }
-        let mut said = joined(
-            self.alloc,
-            &["'", self.cursor.word(operator.number), "' takes "],
-        )?;
-        said.push_str(operator.takes)?;
-        said.push_str(", and ")?;
+        let (word, takes) = (self.cursor.word(operator.number), operator.takes);
         let quoted = self.cursor.quoted(self.alloc, part.first, part.behind)?;
-        said.push_str(quoted.as_str())?;
-        said.push_str(side)?;
-        said.push_str(" is a ")?;
-        said.push_str(kind_of(part))?;
-        said.push_str(more)?;
-        self.say(KINDS, part.tokens(), &[said.as_str()])
+        let (quoted, kind) = (quoted.as_str(), kind_of(part));
+        let said = format!(in self.alloc;
+            "'{word}' takes {takes}, and {quoted}{side} is a {kind}{more}"
+        )?;
+        self.say(KINDS, part.tokens(), said)
     }
 
     /// Tells of an instance that is read or assigned, at the token of a number.
@@ -109,25 +95,20 @@ impl<'t> Teller<'t> {
         name: &Text,
         number: usize,
     ) -> Result<(), AllocError> {
-        let (Some(word), true) = (body.block_word(name), self.takes(KINDS)) else {
+        let (Some(block), true) = (body.block_word(name), self.takes(KINDS)) else {
             return Ok(());
         };
-        let (list, _) = members_of(self.alloc, self.plant, word, name, Member::Read)?;
+        let (list, _) = members_of(self.alloc, self.plant, block, name, Member::Read)?;
+        let (word, block, list) = (self.cursor.word(number), block.as_str(), list.as_str());
         let hides = if body.scope.is_global(name) {
             "; it hides the global of this name"
         } else {
             ""
         };
-        let words = [
-            "'",
-            self.cursor.word(number),
-            "' is an instance of ",
-            word.as_str(),
-            ", and itself neither read nor assigned; its outputs are read behind a point:",
-            list.as_str(),
-            hides,
-        ];
-        self.say(KINDS, alone(number), &words)
+        let said = format!(in self.alloc;
+            "'{word}' is an instance of {block}, and itself neither read nor assigned; its outputs are read behind a point:{list}{hides}"
+        )?;
+        self.say(KINDS, alone(number), said)
     }
 
     /// Tells of the operand of NOT or of a minus, which isn't of its kind.
@@ -185,15 +166,11 @@ impl<'t> Teller<'t> {
         let (Some(one), Some(other)) = (left.kind, right.kind) else {
             return Ok(());
         };
-        let words = [
-            "compares two of one kind, and here are a ",
-            kind_text(one),
-            " and a ",
-            kind_text(other),
-            beside(one, right),
-            beside(other, left),
-        ];
-        let why = joined(self.alloc, &words)?;
+        let (beside_right, beside_left) = (beside(one, right), beside(other, left));
+        let (one, other) = (kind_text(one), kind_text(other));
+        let why = format!(in self.alloc;
+            "compares two of one kind, and here are a {one} and a {other}{beside_right}{beside_left}"
+        )?;
         self.say_at(KINDS, number, why.as_str())
     }
 

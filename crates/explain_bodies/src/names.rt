@@ -2,7 +2,7 @@
 
 use crate::teller::{MEMBERS, NAMES, Teller, alone};
 use plant_types::Text;
-use source_trees::{Body, Member, Wanted, joined, no_member, variable_hint};
+use source_trees::{Body, Member, Wanted, no_member, variable_hint};
 use std::alloc::AllocError;
 
 impl<'t> Teller<'t> {
@@ -13,29 +13,18 @@ impl<'t> Teller<'t> {
         name: &Text,
         wanted: Wanted,
     ) -> Result<String, AllocError> {
-        let (alloc, word) = (self.alloc, name.as_str());
+        let (alloc, word, unit) = (self.alloc, name.as_str(), body.name);
         if self.plant.shared.is_block_type(name) {
-            let words = [
-                "'",
-                word,
-                "' is a block, and what is called or read is an instance of it: VAR t1 : ",
-                word,
-                "; END_VAR declares one, called t1",
-            ];
-            return joined(alloc, &words);
+            return format!(in alloc;
+                "'{word}' is a block, and what is called or read is an instance of it: VAR t1 : {word}; END_VAR declares one, called t1"
+            );
         }
         if self.plant.titles.is_program(name) {
-            return joined(alloc, &["'", word, "' is a program, and no variable"]);
+            return format!(in alloc; "'{word}' is a program, and no variable");
         }
         let hint = variable_hint(alloc, self.plant, body, name, wanted)?;
-        let words = [
-            "no variable is called '",
-            word,
-            "' in ",
-            body.name,
-            hint.as_str(),
-        ];
-        joined(alloc, &words)
+        let hint = hint.as_str();
+        format!(in alloc; "no variable is called '{word}' in {unit}{hint}")
     }
 
     /// Whether a name at the token of a number is a variable's or an instance's; where it certainly isn't, that is told, once in a unit.
@@ -53,7 +42,7 @@ impl<'t> Teller<'t> {
             return Ok(false);
         }
         let said = self.no_variable(body, name, wanted)?;
-        self.say_missing(name, number, said.as_str())?;
+        self.say_missing(name, number, said)?;
         Ok(false)
     }
 
@@ -69,6 +58,6 @@ impl<'t> Teller<'t> {
             return Ok(());
         }
         let said = no_member(self.alloc, self.plant, word, name, member)?;
-        self.say(MEMBERS, alone(number), &[said.as_str()])
+        self.say(MEMBERS, alone(number), said)
     }
 }

@@ -1,7 +1,7 @@
 //! A walk over the trees of a plant's units, and what it tells.
 
 use plant_types::Text;
-use source_trees::{Cursor, Mistake, Rule, Told, Trees, joined};
+use source_trees::{Cursor, Mistake, Rule, Told, Trees};
 use std::alloc::{AllocError, Global};
 use token_causes::cause_at;
 use word_index::Names;
@@ -91,17 +91,13 @@ impl<'t> Teller<'t> {
         self.told.takes(breach.rule)
     }
 
-    /// Tells in these words of tokens, from the one of a number to before another, which break a rule; returns the number of the mistake, where it is told.
+    /// Tells of tokens, from the one of a number to before another, which break a rule; returns the number of the mistake, where it is told.
     fn keep(
         &mut self,
         breach: Breach,
         (first, behind): (usize, usize),
-        words: &[&str],
+        said: String,
     ) -> Result<Option<usize>, AllocError> {
-        if !self.takes(breach) {
-            return Ok(None);
-        }
-        let said = joined(self.alloc, words)?;
         let mark = self.cursor.marks(first, behind);
         self.told.add(Mistake {
             rule: breach.rule,
@@ -111,21 +107,25 @@ impl<'t> Teller<'t> {
         })
     }
 
-    /// Tells in these words of tokens, from the one of a number to before another, which break a rule.
+    /// Tells of tokens, from the one of a number to before another, which break a rule.
     pub fn say(
         &mut self,
         breach: Breach,
         tokens: (usize, usize),
-        words: &[&str],
+        said: String,
     ) -> Result<(), AllocError> {
-        self.keep(breach, tokens, words)?;
+        self.keep(breach, tokens, said)?;
         Ok(())
     }
 
     /// Tells of the token of a number, which breaks a rule: it stands in quotes before what is said.
     pub fn say_at(&mut self, breach: Breach, number: usize, why: &str) -> Result<(), AllocError> {
+        if !self.takes(breach) {
+            return Ok(());
+        }
         let word = self.cursor.word(number);
-        self.say(breach, alone(number), &["'", word, "' ", why])
+        let said = format!(in self.alloc; "'{word}' {why}")?;
+        self.say(breach, alone(number), said)
     }
 
     /// Tells of a name at the token of a number that isn't there; where that was told of the unit, it is counted.
@@ -133,9 +133,9 @@ impl<'t> Teller<'t> {
         &mut self,
         name: &Text,
         number: usize,
-        said: &str,
+        said: String,
     ) -> Result<(), AllocError> {
-        let kept = self.keep(NAMES, alone(number), &[said])?;
+        let kept = self.keep(NAMES, alone(number), said)?;
         if self.missing.add(self.alloc, name.as_str())? {
             self.kept.push(kept)?;
         }

@@ -113,13 +113,13 @@ fn found(
     stand: &'static str,
 ) -> Result<String, AllocError> {
     let word = word_at(text, tokens, number);
-    let lacks = lacks_end(text, tokens, number, stand);
-    if is_doubled(text, tokens, number) && !lacks {
-        return format!(in alloc; "found '{word}': it stands here twice");
-    }
     let deep = too_deep(tokens, number, stand);
     if !deep.is_empty() {
         return String::from_str(alloc, deep);
+    }
+    let lacks = lacks_end(text, tokens, number, stand);
+    if is_doubled(text, tokens, number) && !lacks {
+        return format!(in alloc; "found '{word}': it stands here twice");
     }
     let told = told_of(tokens, number, stand);
     if !told.is_empty() {

@@ -3,7 +3,7 @@
 use crate::measures::standard_slots;
 use crate::spots::{Found, LIMITS};
 use plant_types::Text;
-use source_trees::{joined, mark_of};
+use source_trees::mark_of;
 use st_parser::{Declaration, Pou, PouKind, Sort, Unit};
 use std::alloc::{AllocError, Global};
 use token_causes::cause_at;
@@ -131,15 +131,9 @@ pub fn too_deep(alloc: Global, units: &[Unit]) -> Result<Option<Found>, AllocErr
     let (Some(name), Sort::Block(word)) = (declaration.names.first(), &declaration.sort) else {
         return Ok(None);
     };
-    let said = joined(
-        alloc,
-        &[
-            "'",
-            word.as_str(),
-            "' is 16 deep already, the most that is allowed, and '",
-            pou.name.as_str(),
-            "', which has an instance of it here, is one deeper",
-        ],
+    let (block, holder) = (word.as_str(), pou.name.as_str());
+    let said = format!(in alloc;
+        "'{block}' is 16 deep already, the most that is allowed, and '{holder}', which has an instance of it here, is one deeper"
     )?;
     let cause = cause_at(mark_of(name), said, LIMITS);
     Ok(Some(Found { source, cause }))

@@ -3,7 +3,7 @@
 use crate::measures::Measure;
 use crate::spots::{Found, LIMITS, for_mark};
 use plant_types::Text;
-use source_trees::{Source, joined};
+use source_trees::Source;
 use st_parser::Unit;
 use st_tree::{Branch, Choice, Stmt};
 use std::alloc::{AllocError, Global};
@@ -31,9 +31,9 @@ impl Long<'_> {
         if turns <= MOST_TURNS {
             return Ok(());
         }
-        let turns = turns.to_string(self.alloc)?;
-        let behind = " turns, and at most 10000 are allowed";
-        let said = joined(self.alloc, &["this FOR has ", turns.as_str(), behind])?;
+        let said = format!(in self.alloc;
+            "this FOR has {turns} turns, and at most 10000 are allowed"
+        )?;
         self.found.push(Found {
             source: self.number,
             cause: cause_at(for_mark(source, at), said, LIMITS),

@@ -5,7 +5,7 @@ use crate::measures::Measure;
 use crate::spots::{Found, LIMITS, for_mark};
 use crate::weights::Weight;
 use plant_types::Text;
-use source_trees::{Source, joined, mark_of};
+use source_trees::{Source, mark_of};
 use st_parser::{PouKind, Unit};
 use std::alloc::{AllocError, Global};
 use token_causes::cause_at;
@@ -91,46 +91,25 @@ fn said_of(
 ) -> Result<String, AllocError> {
     let (own, total) = (written(alloc, title.weight.total)?, written(alloc, total)?);
     let (name, own, total) = (title.name.as_str(), own.as_str(), total.as_str());
-    let own = joined(
-        alloc,
-        &[
-            "the program '",
-            name,
-            "', which has ",
-            own,
-            ", they are too ",
-        ],
-    )?;
-    let own = own.as_str();
     match measure {
-        Measure::Slots => joined(alloc, &["there are ", total, SLOTS, own, "many"]),
-        Measure::Size => {
-            let before = "the programs together have the size ";
-            let words = [
-                before,
-                total,
-                ", and at most 1000000 is allowed: with ",
-                own,
-                "large",
-            ];
-            joined(alloc, &words)
-        }
-        Measure::Cost => {
-            let most = ", and at most 2000000 is allowed";
-            joined(
-                alloc,
-                &["a scan of the program '", name, "' costs ", total, most],
-            )
-        }
+        Measure::Slots => format!(in alloc;
+            "there are {total}{SLOTS}the program '{name}', which has {own}, they are too many"
+        ),
+        Measure::Size => format!(in alloc;
+            "the programs together have the size {total}, and at most 1000000 is allowed: with the program '{name}', which has {own}, they are too large"
+        ),
+        Measure::Cost => format!(in alloc;
+            "a scan of the program '{name}' costs {total}, and at most 2000000 is allowed"
+        ),
     }
 }
 
-/// What is said before and behind the number of a part of a program.
-fn around_part(measure: Measure) -> (&'static str, &'static str) {
+/// What is said of a part of a program that counts so much.
+fn said_of_part(alloc: Global, measure: Measure, count: &str) -> Result<String, AllocError> {
     match measure {
-        Measure::Slots => ("; this instance has ", " of them"),
-        Measure::Size => ("; this call has ", " of it"),
-        Measure::Cost => ("; this call costs ", ""),
+        Measure::Slots => format!(in alloc; "; this instance has {count} of them"),
+        Measure::Size => format!(in alloc; "; this call has {count} of it"),
+        Measure::Cost => format!(in alloc; "; this call costs {count}"),
     }
 }
 
@@ -144,14 +123,15 @@ fn told_part(
     match (title.weight.around, title.weight.part) {
         (Some((at, times)), _) if measure == Measure::Cost => {
             let times = written(alloc, times)?;
-            let before = ": the body of this FOR runs ";
-            let words = [before, times.as_str(), " times, with all that it calls"];
-            Ok((for_mark(source, at), joined(alloc, &words)?))
+            let times = times.as_str();
+            let said = format!(in alloc;
+                ": the body of this FOR runs {times} times, with all that it calls"
+            )?;
+            Ok((for_mark(source, at), said))
         }
         (_, Some((mark, count))) if count > 1 => {
-            let (before, behind) = around_part(measure);
             let count = written(alloc, count)?;
-            Ok((mark, joined(alloc, &[before, count.as_str(), behind])?))
+            Ok((mark, said_of_part(alloc, measure, count.as_str())?))
         }
         _ => Ok((mark_of(title.name), String::new(alloc))),
     }
@@ -201,27 +181,27 @@ fn told(
 
 /// What is said at the name that is one too many; nothing where there are no more than so many.
 fn one_too_many(
-    alloc: Global,
     titles: &[Title<'_>],
     most: usize,
-    words: &[&str],
+    said: String,
 ) -> Result<Option<Found>, AllocError> {
     let Some(title) = titles.get(most) else {
         return Ok(None);
     };
     Ok(Some(Found {
         source: title.source,
-        cause: cause_at(mark_of(title.name), joined(alloc, words)?, LIMITS),
+        cause: cause_at(mark_of(title.name), said, LIMITS),
     }))
 }
 
 /// The program that is one too many; `None` where none is.
 pub fn program_too_many(alloc: Global, units: &[Unit]) -> Result<Option<Found>, AllocError> {
     let titles = programs_of(alloc, units, None)?;
-    let count = titles.len().to_string(alloc)?;
-    let behind = " programs, and at most 512 are allowed: with this one they are too many";
-    let words = ["there are ", count.as_str(), behind];
-    one_too_many(alloc, titles.as_slice(), MOST_PROGRAMS, &words)
+    let count = titles.len();
+    let said = format!(in alloc;
+        "there are {count} programs, and at most 512 are allowed: with this one they are too many"
+    )?;
+    one_too_many(titles.as_slice(), MOST_PROGRAMS, said)
 }
 
 /// The program with which the sources are past a limit, or where the globals alone have too many slots, the global; `None` where there is none.
@@ -244,13 +224,9 @@ pub fn too_much(
     }
     if globals.len() > MOST_SLOTS {
         let count = written(alloc, total)?;
-        let words = [
-            "there are ",
-            count.as_str(),
-            SLOTS,
-            "this global they are too many",
-        ];
-        return one_too_many(alloc, globals.as_slice(), MOST_SLOTS, &words);
+        let count = count.as_str();
+        let said = format!(in alloc; "there are {count}{SLOTS}this global they are too many")?;
+        return one_too_many(globals.as_slice(), MOST_SLOTS, said);
     }
     match first_past(measure, titles.as_slice(), before) {
         Some(title) => told(alloc, sources, measure, (title, total)),

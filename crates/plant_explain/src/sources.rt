@@ -5,10 +5,11 @@ use crate::rows::spots_behind_sources;
 use crate::units::source_named;
 use grammar_causes::ungrammatical;
 use plant_folder::PlantTexts;
-use plant_places::{FileOf, Spot, byte_at, text_of};
+use plant_places::{FileOf, Spot, text_of};
 use plant_types::Text;
-use source_causes::{Reading, causes, misspelled_at};
+use source_causes::{Reading, misspelled_at, told};
 use std::alloc::{AllocError, Global};
+use token_causes::byte_at;
 
 /// So many tokens are read at least, and one more for each byte of the plant.
 const LEAST_TOKENS: usize = 100_000;
@@ -48,28 +49,31 @@ fn at_place(
     Ok(Spot { file, cause })
 }
 
-/// Adds what else is wrong in the spelling and the grammar of all sources, in order of text, as far as it is certain.
+/// Adds what else is wrong in the spelling and the grammar of all sources, in order of text, as far as it is certain; returns where the blocks and programs of each begin, as far as
+/// that is certain.
 fn add_others(
     alloc: Global,
     texts: &PlantTexts<'_>,
     spots: &mut Vec<Spot>,
     first: (FileOf, Option<(usize, usize)>),
-) -> Result<(), AllocError> {
+) -> Result<Vec<Option<usize>>, AllocError> {
+    let mut starts = Vec::new(alloc);
     let mut left = Reading {
         causes: MOST_FAULTS,
         tokens: size_of(texts).saturating_add(LEAST_TOKENS),
     };
     for (number, source) in texts.sources.iter().enumerate() {
-        let (found, less) = causes(alloc, source.1, left)?;
-        left = less;
+        let told = told(alloc, source.1, left)?;
+        left = told.left;
+        starts.push(told.units)?;
         let file = FileOf::Source(number);
-        for cause in found {
+        for cause in told.causes {
             if spots.len() < MOST_FAULTS && (file, cause.mark) != first {
                 spots.push(Spot { file, cause })?;
             }
         }
     }
-    Ok(())
+    Ok(starts)
 }
 
 /// What is wrong in the spelling and the grammar of the sources of a plant that is refused for it: first at the place of the refusal, then in order of text, and
@@ -84,8 +88,8 @@ pub fn spots_in_sources(
     let first = (spot.file, spot.cause.mark);
     let mut spots = Vec::new(alloc);
     spots.push(spot)?;
-    add_others(alloc, texts, &mut spots, first)?;
-    for spot in spots_behind_sources(alloc, texts)? {
+    let starts = add_others(alloc, texts, &mut spots, first)?;
+    for spot in spots_behind_sources(alloc, texts, starts.as_slice())? {
         spots.push(spot)?;
     }
     Ok(spots)

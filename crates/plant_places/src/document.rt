@@ -6,7 +6,7 @@ use crate::texts::{WIDE, is_wide};
 use plant_file::{Mistake, Unread, Why};
 use std::alloc::{AllocError, Global};
 use std::str;
-use token_causes::{Cause, cause_at, cause_of, part};
+use token_causes::{Cause, cause_at, cause_of, part, within_one};
 
 /// Where the keys are described.
 pub const KEYS: &str = "docs/PLANT.md, \"plant.toml\"";
@@ -15,65 +15,30 @@ pub const KEYS: &str = "docs/PLANT.md, \"plant.toml\"";
 const ONE_CONSOLE: &str =
     "consoles stand below lines [[console]] alone: there is no line [console], and no key 'console' beside them";
 
-/// What is said of a text that is no TOML document, by what the reader of documents says.
-const REASONS: &[(&str, &str)] = &[
-    (
-        "invalid string",
-        "a text isn't closed in its line, or has a character that may not stand in one",
-    ),
-    (
-        "invalid escape sequence",
-        "a '\\' in double quotes begins a sign of its own: in the path of a file write '/'",
-    ),
-    ("duplicate key", "this stands here a second time"),
-    (
-        "missing comma between array elements, expected `,` or `]`",
-        "in this list a comma is missing before this, or the list's ']'",
-    ),
-    (
-        "missing comma between key-value pairs, expected `,` or `}`",
-        "a comma is missing before this, or a '}'",
-    ),
-    (
-        "key with no value, expected `=`",
-        "a '=' is missing behind the key",
-    ),
-    (
-        "unexpected key or value, expected newline, `#`",
-        "behind a value its line ends: what is this? (a text stands in quotes, items of a list in brackets)",
-    ),
-    (
-        "invalid value, expected a string, number, boolean, date-time, array or inline table",
-        "no value begins so: a text stands in quotes, a list in brackets",
-    ),
-    (
-        "invalid key, expected letters, numbers, `-`, `_` or a quoted key",
-        "no key begins so: a line is a key, '=' and a value, a header in brackets, or a remark behind '#'",
-    ),
-    (
-        "unclosed table, expected `]`",
-        "this header isn't closed with ']'",
-    ),
-    (
-        "unclosed array table, expected `]]`",
-        "this header isn't closed with ']]'",
-    ),
-    (
-        "invalid date-time",
-        "this is no date or time: the epoch stands in quotes, \"YYYY-MM-DDTHH:MM:SSZ\"",
-    ),
-    ("number out of range", "this number is out of range"),
-    (
-        "cannot extend a value with a dotted key",
-        "this key has a value already, to which nothing can be added",
-    ),
-];
+/// What is said of a text that is no TOML document: each line has what the reader of documents says, and behind `| ` how that is told.
+const REASONS: &str = "\
+invalid string| a text isn't closed in its line, or has a character that may not stand in one
+invalid escape sequence| a '\\' in double quotes begins a sign of its own: in the path of a file write '/'
+duplicate key| this stands here a second time
+missing comma between array elements, expected `,` or `]`| in this list a comma is missing before this, or the list's ']'
+missing comma between key-value pairs, expected `,` or `}`| a comma is missing before this, or a '}'
+key with no value, expected `=`| a '=' is missing behind the key
+unexpected key or value, expected newline, `#`| behind a value its line ends: what is this? (a text stands in quotes, items of a list in brackets)
+invalid value, expected a string, number, boolean, date-time, array or inline table| no value begins so: a text stands in quotes, a list in brackets
+invalid key, expected letters, numbers, `-`, `_` or a quoted key| no key begins so: a line is a key, '=' and a value, a header in brackets, or a remark behind '#'
+unclosed table, expected `]`| this header isn't closed with ']'
+unclosed array table, expected `]]`| this header isn't closed with ']]'
+invalid date-time| this is no date or time: the epoch stands in quotes, \"YYYY-MM-DDTHH:MM:SSZ\"
+number out of range| this number is out of range
+cannot extend a value with a dotted key| this key has a value already, to which nothing can be added
+";
 
 /// What is said of a text that is no TOML document, by what the reader of documents says; nothing where that has no other words here.
 fn why_unread(message: &str) -> &'static str {
-    for (told, said) in REASONS {
-        if *told == message {
-            return *said;
+    for line in REASONS.lines() {
+        match line.split_once("| ") {
+            Some((told, said)) if told == message => return said,
+            _ => {}
         }
     }
     ""
@@ -143,20 +108,10 @@ fn known_keys(console: usize) -> &'static [&'static str] {
     }
 }
 
-/// Whether a key is nearly another: the same but for letter case, or for an `s` at its end.
-fn is_near(key: &str, other: &str) -> bool {
-    let (key, other) = (key.as_bytes(), other.as_bytes());
-    let short = key.len().min(other.len());
-    let same = part(key, 0, short).eq_ignore_ascii_case(part(other, 0, short));
-    let (more, less) = (part(key, short, key.len()), part(other, short, other.len()));
-    same && (more.is_empty() || more == b"s".as_slice())
-        && (less.is_empty() || less == b"s".as_slice())
-}
-
 /// The known key that another nearly is; empty where none is.
 fn near_key(key: &str, console: usize) -> &'static str {
     for other in known_keys(console) {
-        if is_near(key, *other) {
+        if within_one(key.as_bytes(), other.as_bytes()) {
             return *other;
         }
     }

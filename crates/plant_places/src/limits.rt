@@ -24,37 +24,39 @@ const MOST_SOURCE_BYTES: usize = 4_194_304;
 /// The most bytes of a plant file.
 const MOST_PLANT_BYTES: usize = 1_048_576;
 
+/// Where the limits of the language stand.
+const OF_LANGUAGE: &str = "docs/LANGUAGE.md, \"Limits (this profile)\"";
+
+/// What is said of a text that is too long.
+const TEXTS: &str =
+    "a text is too long: the sources may have 4194304 bytes together, the plant file 1048576 and the alarms 16777216";
+
+/// What is said of slots.
+const SLOTS: &str =
+    "there are more than 65536 variables and standard blocks, in each instance anew";
+
+/// What is said of costs, and where to read on.
+const COSTS: (&str, &str) = (
+    "a scan of some program costs more than 2000000: most often by a FOR inside a FOR",
+    "docs/LANGUAGE.md, \"To read C10 COST\"",
+);
+
 /// What is said of a limit, and where to read on.
 fn told(limit: Limit) -> (&'static str, &'static str) {
     match limit {
         Limit::Sources => ("there are more than 64 sources", LIMITS),
-        Limit::Text => (
-            "a text is too long: the sources may have 4194304 bytes together, the plant file 1048576 and the alarms 16777216",
-            LIMITS,
-        ),
+        Limit::Text => (TEXTS, LIMITS),
         Limit::Areas => ("there are more than 64 areas", LIMITS),
         Limit::Consoles => ("there are more than 32 consoles", LIMITS),
-        Limit::Turns => (
-            "some FOR has more than 10000 turns",
-            "docs/LANGUAGE.md, \"Limits (this profile)\"",
-        ),
+        Limit::Turns => ("some FOR has more than 10000 turns", OF_LANGUAGE),
         Limit::BlockDepth => (
             "function blocks hold one another more than 16 deep",
-            "docs/LANGUAGE.md, \"Limits (this profile)\"",
+            OF_LANGUAGE,
         ),
         Limit::Programs => ("there are more than 512 programs", LIMITS),
-        Limit::Slots => (
-            "there are more than 65536 variables and standard blocks, in each instance anew",
-            "docs/LANGUAGE.md, \"Limits (this profile)\"",
-        ),
-        Limit::Size => (
-            "the programs together are larger than 1000000",
-            "docs/LANGUAGE.md, \"Limits (this profile)\"",
-        ),
-        Limit::Cost => (
-            "a scan of some program costs more than 2000000: most often by a FOR inside a FOR",
-            "docs/LANGUAGE.md, \"To read C10 COST\"",
-        ),
+        Limit::Slots => (SLOTS, OF_LANGUAGE),
+        Limit::Size => ("the programs together are larger than 1000000", OF_LANGUAGE),
+        Limit::Cost => COSTS,
         Limit::Alarms => ("there are more than 20000 alarms", LIMITS),
     }
 }

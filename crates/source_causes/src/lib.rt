@@ -15,5 +15,4 @@ mod pieces;
 mod told;
 
 pub use marks::misspelled_at;
-pub use pieces::units_start;
-pub use told::{Reading, causes};
+pub use told::{Reading, Told, told};

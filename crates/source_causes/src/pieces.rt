@@ -1,9 +1,7 @@
 //! The units of a source, by their tokens.
 
-use crate::holes::tokens_with_holes;
 use st_lexer::Token;
-use std::alloc::{AllocError, Global};
-use token_causes::sign_at;
+use token_causes::{sign_at, start_of};
 
 /// Whether a block or a program begins with the token of a number.
 pub fn is_unit(tokens: &[Token], number: usize) -> bool {
@@ -22,22 +20,14 @@ pub fn end_of_piece(tokens: &[Token], first: usize) -> usize {
         .unwrap_or(tokens.len())
 }
 
-/// The byte of a source at which its blocks and programs begin, above which all its globals stand; its end where it has none. `None` where that isn't certain. Fails
-/// if memory was refused.
-pub fn units_start(alloc: Global, text: &[u8]) -> Result<Option<usize>, AllocError> {
-    let lexed = tokens_with_holes(alloc, text)?;
-    let tokens = lexed.tokens.as_slice();
-    let mut start = None;
-    for (number, token) in tokens.iter().enumerate() {
-        if is_unit(tokens, number) && start.is_none() {
-            start = Some(token.from);
-        }
-        if are_globals(tokens, number) && start.is_some() {
-            return Ok(None);
-        }
+/// The byte of a source of tokens at which its blocks and programs begin, above which all its globals stand; that of its end where it has none. `None` where globals stand
+/// below too.
+pub fn units_start(text: &[u8], tokens: &[Token]) -> Option<usize> {
+    let first = (0..tokens.len())
+        .find(|i| is_unit(tokens, *i))
+        .unwrap_or(tokens.len());
+    if (first..tokens.len()).any(|i| are_globals(tokens, i)) {
+        return None;
     }
-    if lexed.is_cut {
-        return Ok(None);
-    }
-    Ok(Some(start.unwrap_or(text.len())))
+    Some(start_of(text, tokens, first))
 }

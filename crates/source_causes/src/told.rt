@@ -4,7 +4,7 @@ use crate::ends::{head_start, statement_start};
 use crate::holes::{Lexed, push_put, tokens_with_holes};
 use crate::marks::misspelled_at;
 use crate::mend::{Mend, way_on};
-use crate::pieces::{are_globals, end_of_piece, is_unit};
+use crate::pieces::{are_globals, end_of_piece, is_unit, units_start};
 use grammar_causes::{cause_at_end, cause_at_token};
 use st_lexer::Token;
 use st_parser::{ParseFault, parse};
@@ -228,16 +228,28 @@ impl<'a> Source<'a> {
     }
 }
 
-/// What is wrong in the spelling and the grammar of a source, in order of text, as far as that is left to be told and to be read, and what is left then. Fails if
-/// memory was refused.
-pub fn causes(
-    alloc: Global,
-    text: &[u8],
-    left: Reading,
-) -> Result<(Vec<Cause>, Reading), AllocError> {
+/// What is told of a source.
+#[derive(Drop)]
+pub struct Told {
+    /// What is wrong in its spelling and its grammar, in order of text.
+    pub causes: Vec<Cause>,
+    /// What is left to be told and to be read.
+    pub left: Reading,
+    /// The byte at which its blocks and programs begin, above which all its globals stand; `None` where that isn't certain.
+    pub units: Option<usize>,
+}
+
+/// What is wrong in the spelling and the grammar of a source, as far as that is left to be told and to be read. Fails if memory was refused.
+pub fn told(alloc: Global, text: &[u8], left: Reading) -> Result<Told, AllocError> {
+    let lexed = tokens_with_holes(alloc, text)?;
+    let units = if lexed.is_cut {
+        None
+    } else {
+        units_start(text, lexed.tokens.as_slice())
+    };
     let mut source = Source {
         text,
-        lexed: tokens_with_holes(alloc, text)?,
+        lexed,
         holes: 0,
         found: Vec::new(alloc),
         left,
@@ -245,11 +257,13 @@ pub fn causes(
     source.read_pieces(alloc)?;
     source.tell_holes(alloc, text.len())?;
     let Source {
-        text: _,
-        lexed: _,
-        holes: _,
-        found,
+        found: causes,
         left,
+        ..
     } = source;
-    Ok((found, left))
+    Ok(Told {
+        causes,
+        left,
+        units,
+    })
 }

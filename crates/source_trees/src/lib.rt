@@ -17,7 +17,6 @@ mod search;
 mod titles;
 mod told;
 mod trees;
-mod words;
 
 pub use body::{Body, kind_text};
 pub use circles::leads_back;
@@ -30,4 +29,3 @@ pub use search::mark_of;
 pub use titles::{Title, Titles};
 pub use told::{Mistake, Rule, Told};
 pub use trees::{Source, Trees, sources_of, units_of};
-pub use words::joined;

@@ -98,8 +98,8 @@ fn other_use(plant: &Trees<'_>, word: &Text, name: &Text, member: Member) -> &'s
     let is_input = plant.shared.input(word, name).is_some();
     let is_output = plant.shared.output(word, name).is_some();
     match member {
-        Member::Given if is_output => "it is an output, which a call takes by =>, as in q => x",
-        Member::Taken if is_input => "it is an input, which a call gives by :=, as in in := x",
+        Member::Given if is_output => "it is an output, which a call takes by =>, as in t(Q => x)",
+        Member::Taken if is_input => "it is an input, which a call gives by :=, as in t(IN := x)",
         Member::Read if is_input => {
             "it is an input, which is given in a call and can't be read from outside"
         }
