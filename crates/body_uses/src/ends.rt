@@ -2,9 +2,10 @@
 
 use crate::doubts::Doubt;
 use crate::known::Known;
-use crate::looking::{File, Looking};
+use crate::looking::Looking;
 use plant_types::Region;
 use std::alloc::AllocError;
+use token_causes::FileOf;
 
 /// What is nearly surely wrong with a global; `None` where nothing is.
 fn doubt_of(known: Known) -> Option<Doubt> {
@@ -31,7 +32,7 @@ impl<'p> Looking<'p> {
             };
             if let Some(doubt) = doubt_of(known) {
                 let said = doubt.said(self.alloc, name)?;
-                self.warn_in(File::Source(known.source), known.mark, said)?;
+                self.warn_in(FileOf::Source(known.source), known.mark, said)?;
             }
         }
         Ok(())
@@ -45,7 +46,7 @@ impl<'p> Looking<'p> {
             };
             if self.held.find(name).is_none() {
                 let said = Doubt::UnusedBlock.said(self.alloc, name)?;
-                self.warn_in(File::Source(known.source), known.mark, said)?;
+                self.warn_in(FileOf::Source(known.source), known.mark, said)?;
             }
         }
         Ok(())

@@ -15,4 +15,4 @@ mod units;
 
 pub use comments::swallower;
 pub use known::{Known, Table};
-pub use looking::{File, Looking, Warning, look};
+pub use looking::{Looking, look};

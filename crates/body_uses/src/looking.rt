@@ -6,7 +6,7 @@ use plant_types::Text;
 use source_trees::{Cursor, Source};
 use st_parser::{ParseFault, parse};
 use std::alloc::{AllocError, Global};
-use token_causes::{Cause, cause_at, tokens_of};
+use token_causes::{FileOf, Spot, cause_at, tokens_of};
 use word_index::Names;
 
 /// The most warnings that are told.
@@ -17,22 +17,6 @@ const VARIABLES: &str = "docs/LANGUAGE.md, \"Variables\"";
 
 /// Where alarms are described.
 const ALARMS: &str = "docs/PLANT.md, \"alarms.csv\"";
-
-/// A file of a plant.
-#[derive(Clone, Copy, Drop)]
-pub enum File {
-    /// A source, by its number from 0.
-    Source(usize),
-    /// The alarm database.
-    Alarms,
-}
-
-/// What is nearly surely a mistake in a file.
-#[derive(Drop)]
-pub struct Warning {
-    pub file: File,
-    pub cause: Cause,
-}
 
 /// What was found so far in the sources of a plant.
 #[derive(Drop)]
@@ -57,7 +41,7 @@ pub struct Looking<'p> {
     pub programs: usize,
     /// Whether the unit is a program.
     pub in_program: bool,
-    pub warnings: Vec<Warning>,
+    pub warnings: Vec<Spot>,
 }
 
 impl<'p> Looking<'p> {
@@ -92,7 +76,7 @@ impl<'p> Looking<'p> {
     /// Keeps a warning at bytes of a file, where it is told.
     pub fn warn_in(
         &mut self,
-        file: File,
+        file: FileOf,
         mark: (usize, usize),
         said: String,
     ) -> Result<(), AllocError> {
@@ -100,10 +84,10 @@ impl<'p> Looking<'p> {
             return Ok(());
         }
         let page = match file {
-            File::Source(_) => VARIABLES,
-            File::Alarms => ALARMS,
+            FileOf::Source(_) => VARIABLES,
+            _ => ALARMS,
         };
-        self.warnings.push(Warning {
+        self.warnings.push(Spot {
             file,
             cause: cause_at(mark, said, page),
         })?;
@@ -112,11 +96,11 @@ impl<'p> Looking<'p> {
 
     /// Keeps a warning at bytes of the source that is gone through.
     pub fn warn(&mut self, mark: (usize, usize), said: String) -> Result<(), AllocError> {
-        self.warn_in(File::Source(self.source), mark, said)
+        self.warn_in(FileOf::Source(self.source), mark, said)
     }
 
     /// All warnings, in the order in which they were found.
-    pub fn into_warnings(self) -> Vec<Warning> {
+    pub fn into_warnings(self) -> Vec<Spot> {
         let Looking { warnings, .. } = self;
         warnings
     }
@@ -124,7 +108,7 @@ impl<'p> Looking<'p> {
     /// Keeps a warning at a variable of a name.
     pub fn doubt(&mut self, known: Known, doubt: Doubt, name: &str) -> Result<(), AllocError> {
         let said = doubt.said(self.alloc, name)?;
-        self.warn_in(File::Source(known.source), known.mark, said)
+        self.warn_in(FileOf::Source(known.source), known.mark, said)
     }
 
     /// Notes what is done with the variable of a name.

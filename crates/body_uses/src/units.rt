@@ -2,11 +2,12 @@
 
 use crate::doubts::Doubt;
 use crate::known::{Known, Table};
-use crate::looking::{File, Looking};
+use crate::looking::Looking;
 use plant_types::{Region, Text};
 use source_trees::{Cursor, mark_of};
 use st_parser::{Declaration, Pou, PouKind, Section, SectionKind, Sort, Unit};
 use std::alloc::AllocError;
+use token_causes::FileOf;
 
 /// What is nearly surely wrong with an instance; `None` where nothing is.
 fn unused(known: Known) -> Option<Doubt> {
@@ -130,7 +131,7 @@ impl<'p> Looking<'p> {
             };
             if let Some(doubt) = doubt_of(known) {
                 let said = doubt.said(self.alloc, name)?;
-                self.warn_in(File::Source(known.source), known.mark, said)?;
+                self.warn_in(FileOf::Source(known.source), known.mark, said)?;
             }
         }
         self.locals = Table::new(self.alloc);

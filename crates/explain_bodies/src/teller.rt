@@ -3,7 +3,7 @@
 use plant_types::Text;
 use source_trees::{Cursor, Mistake, Rule, Told, Trees};
 use std::alloc::{AllocError, Global};
-use token_causes::cause_at;
+use token_causes::{FileOf, Spot, cause_at};
 use word_index::Names;
 
 /// A rule that is broken, and where to read on.
@@ -101,8 +101,10 @@ impl<'t> Teller<'t> {
         let mark = self.cursor.marks(first, behind);
         self.told.add(Mistake {
             rule: breach.rule,
-            source: self.source,
-            cause: cause_at(mark, said, breach.page),
+            spot: Spot {
+                file: FileOf::Source(self.source),
+                cause: cause_at(mark, said, breach.page),
+            },
             more: 0,
         })
     }

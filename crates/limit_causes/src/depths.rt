@@ -1,12 +1,12 @@
 //! How deep function blocks are (C10 BLOCK_DEPTH).
 
 use crate::measures::standard_slots;
-use crate::spots::{Found, LIMITS};
+use crate::spots::LIMITS;
 use plant_types::Text;
 use source_trees::mark_of;
 use st_parser::{Declaration, Pou, PouKind, Sort, Unit};
 use std::alloc::{AllocError, Global};
-use token_causes::cause_at;
+use token_causes::{FileOf, Spot, cause_at};
 use word_index::Names;
 
 /// How deep a function block may be at most.
@@ -123,7 +123,7 @@ impl Depths {
 }
 
 /// The instance by which a function block is too deep; `None` where none is found.
-pub fn too_deep(alloc: Global, units: &[Unit]) -> Result<Option<Found>, AllocError> {
+pub fn too_deep(alloc: Global, units: &[Unit]) -> Result<Option<Spot>, AllocError> {
     let depths = Depths::of(alloc, units)?;
     let Some((source, pou, declaration)) = depths.first_deep(units) else {
         return Ok(None);
@@ -136,5 +136,8 @@ pub fn too_deep(alloc: Global, units: &[Unit]) -> Result<Option<Found>, AllocErr
         "'{block}' is 16 deep already, the most that is allowed, and '{holder}', which has an instance of it here, is one deeper"
     )?;
     let cause = cause_at(mark_of(name), said, LIMITS);
-    Ok(Some(Found { source, cause }))
+    Ok(Some(Spot {
+        file: FileOf::Source(source),
+        cause,
+    }))
 }

@@ -1,13 +1,13 @@
 //! FORs with more turns than are allowed (C10 TURNS).
 
 use crate::measures::Measure;
-use crate::spots::{Found, LIMITS, for_mark};
+use crate::spots::{LIMITS, for_mark};
 use plant_types::Text;
 use source_trees::Source;
 use st_parser::Unit;
 use st_tree::{Branch, Choice, Stmt};
 use std::alloc::{AllocError, Global};
-use token_causes::cause_at;
+use token_causes::{FileOf, Spot, cause_at};
 
 /// The most turns that a FOR may have.
 const MOST_TURNS: u64 = 10_000;
@@ -19,7 +19,7 @@ struct Long<'s> {
     sources: &'s [Source<'s>],
     /// The number of the source that is gone through, from 0.
     number: usize,
-    found: Vec<Found>,
+    found: Vec<Spot>,
 }
 
 impl Long<'_> {
@@ -34,8 +34,8 @@ impl Long<'_> {
         let said = format!(in self.alloc;
             "this FOR has {turns} turns, and at most 10000 are allowed"
         )?;
-        self.found.push(Found {
-            source: self.number,
+        self.found.push(Spot {
+            file: FileOf::Source(self.number),
             cause: cause_at(for_mark(source, at), said, LIMITS),
         })?;
         Ok(())
@@ -101,7 +101,7 @@ pub fn long_fors(
     alloc: Global,
     sources: &[Source<'_>],
     units: &[Unit],
-) -> Result<Vec<Found>, AllocError> {
+) -> Result<Vec<Spot>, AllocError> {
     let mut long = Long {
         alloc,
         sources,

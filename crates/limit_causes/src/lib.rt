@@ -15,4 +15,3 @@ mod weights;
 
 pub use limits::{Past, where_past};
 pub use measures::Measure;
-pub use spots::Found;

@@ -3,11 +3,11 @@
 use crate::depths::too_deep;
 use crate::fors::long_fors;
 use crate::measures::Measure;
-use crate::spots::Found;
 use crate::totals::{program_too_many, too_much};
 use source_trees::{Source, sources_of, units_of};
 use st_parser::Unit;
 use std::alloc::{AllocError, Global};
+use token_causes::Spot;
 
 /// A limit that the sources of a plant are past.
 #[derive(Clone, Copy, Drop)]
@@ -28,7 +28,7 @@ fn found_in(
     sources: &[Source<'_>],
     units: &[Unit],
     past: Past,
-) -> Result<Vec<Found>, AllocError> {
+) -> Result<Vec<Spot>, AllocError> {
     let one = match past {
         Past::Turns => return long_fors(alloc, sources, units),
         Past::BlockDepth => too_deep(alloc, units)?,
@@ -48,7 +48,7 @@ pub fn where_past<'a>(
     alloc: Global,
     texts: &[(&'a str, &'a [u8])],
     past: Past,
-) -> Result<Vec<Found>, AllocError> {
+) -> Result<Vec<Spot>, AllocError> {
     let sources = sources_of(alloc, texts)?;
     match units_of(alloc, sources.as_slice())? {
         Some(units) => found_in(alloc, sources.as_slice(), units.as_slice(), past),

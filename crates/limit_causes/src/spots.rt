@@ -1,17 +1,10 @@
 //! What there is to say at a place of a source.
 
 use source_trees::Source;
-use token_causes::{Cause, sign_at, span_of};
+use token_causes::{sign_at, span_of};
 
 /// Where the limits of the language stand.
 pub const LIMITS: &str = "docs/LANGUAGE.md, \"Limits (this profile)\"";
-
-/// What is said of a source, by its number from 0.
-#[derive(Drop)]
-pub struct Found {
-    pub source: usize,
-    pub cause: Cause,
-}
 
 /// The bytes of a FOR and its bounds, by the byte of its variable.
 pub fn for_mark(source: &Source<'_>, at: usize) -> (usize, usize) {

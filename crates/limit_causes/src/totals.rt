@@ -2,13 +2,13 @@
 
 use crate::counts::Counts;
 use crate::measures::Measure;
-use crate::spots::{Found, LIMITS, for_mark};
+use crate::spots::{LIMITS, for_mark};
 use crate::weights::Weight;
 use plant_types::Text;
 use source_trees::{Source, mark_of};
 use st_parser::{PouKind, Unit};
 use std::alloc::{AllocError, Global};
-use token_causes::cause_at;
+use token_causes::{FileOf, Spot, cause_at};
 
 /// Where it stands what programs cost.
 const COSTS: &str = "docs/LANGUAGE.md, \"To read C10 COST\"";
@@ -162,7 +162,7 @@ fn told(
     sources: &[Source<'_>],
     measure: Measure,
     (title, total): (&Title<'_>, u64),
-) -> Result<Option<Found>, AllocError> {
+) -> Result<Option<Spot>, AllocError> {
     let Some(source) = sources.get(title.source) else {
         return Ok(None);
     };
@@ -173,8 +173,8 @@ fn told(
     let (mark, behind) = told_part(alloc, measure, source, title)?;
     let mut said = said_of(alloc, measure, title, total)?;
     said.push_str(behind.as_str())?;
-    Ok(Some(Found {
-        source: title.source,
+    Ok(Some(Spot {
+        file: FileOf::Source(title.source),
         cause: cause_at(mark, said, page),
     }))
 }
@@ -184,18 +184,18 @@ fn one_too_many(
     titles: &[Title<'_>],
     most: usize,
     said: String,
-) -> Result<Option<Found>, AllocError> {
+) -> Result<Option<Spot>, AllocError> {
     let Some(title) = titles.get(most) else {
         return Ok(None);
     };
-    Ok(Some(Found {
-        source: title.source,
+    Ok(Some(Spot {
+        file: FileOf::Source(title.source),
         cause: cause_at(mark_of(title.name), said, LIMITS),
     }))
 }
 
 /// The program that is one too many; `None` where none is.
-pub fn program_too_many(alloc: Global, units: &[Unit]) -> Result<Option<Found>, AllocError> {
+pub fn program_too_many(alloc: Global, units: &[Unit]) -> Result<Option<Spot>, AllocError> {
     let titles = programs_of(alloc, units, None)?;
     let count = titles.len();
     let said = format!(in alloc;
@@ -210,7 +210,7 @@ pub fn too_much(
     sources: &[Source<'_>],
     units: &[Unit],
     measure: Measure,
-) -> Result<Option<Found>, AllocError> {
+) -> Result<Option<Spot>, AllocError> {
     let counts = Counts::of(alloc, units, measure)?;
     let titles = programs_of(alloc, units, Some(&counts))?;
     let globals = match measure {

@@ -8,9 +8,8 @@ use crate::tables::{first_of, spots_in_tables};
 use crate::units::{rule_of, spots_in_units};
 use plant_config::ConfigFault;
 use plant_folder::PlantTexts;
-use plant_places::{FileOf, Spot};
 use std::alloc::{AllocError, Global};
-use token_causes::cause_of;
+use token_causes::{FileOf, Spot, cause_of};
 
 /// The most faults that are told.
 pub const MOST_FAULTS: usize = 20;

@@ -21,7 +21,7 @@ mod warnings;
 
 pub use finding::{find, find_all};
 pub use plant_folder::PlantTexts;
-pub use plant_places::{FileOf, Place, Spot, place_of};
+pub use plant_places::{Place, place_of};
 pub use telling::{explain, explain_all, under, warn};
-pub use token_causes::Cause;
+pub use token_causes::{Cause, FileOf, Spot};
 pub use warnings::find_warnings;

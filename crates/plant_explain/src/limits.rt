@@ -3,8 +3,9 @@
 use limit_causes::{Measure, Past, where_past};
 use plant_config::Limit;
 use plant_folder::PlantTexts;
-use plant_places::{FileOf, Spot, over_limit};
+use plant_places::over_limit;
 use std::alloc::{AllocError, Global};
+use token_causes::Spot;
 
 /// A limit of the sources, as their trees tell it; `None` for another.
 fn past_of(limit: Limit) -> Option<Past> {
@@ -25,15 +26,10 @@ pub fn spots_past(
     texts: &PlantTexts<'_>,
     limit: Limit,
 ) -> Result<Vec<Spot>, AllocError> {
-    let mut spots = Vec::new(alloc);
-    if let Some(told) = past_of(limit) {
-        for found in where_past(alloc, texts.sources, told)? {
-            spots.push(Spot {
-                file: FileOf::Source(found.source),
-                cause: found.cause,
-            })?;
-        }
-    }
+    let mut spots = match past_of(limit) {
+        Some(past) => where_past(alloc, texts.sources, past)?,
+        None => Vec::new(alloc),
+    };
     if spots.is_empty() {
         spots.push(over_limit(alloc, texts, limit)?)?;
     }

@@ -3,13 +3,13 @@
 use alarm_db::{Column, DatabaseRow, RowFault, RowMistake, Version, examine};
 use plant_file::{PlantFile, PlantFileFault, TextSet, read};
 use plant_folder::PlantTexts;
-use plant_places::{Field, FileOf, Spot, row_cause, unquoted, wrong_field};
+use plant_places::{Field, row_cause, unquoted, wrong_field};
 use plant_types::Kind;
 use source_trees::{no_bool_global, sources_of, units_of};
 use st_parser::{Sort, Unit};
 use std::alloc::{AllocError, Global};
 use std::str;
-use token_causes::{Cause, cause_at, part};
+use token_causes::{Cause, FileOf, Spot, cause_at, part};
 use word_index::Names;
 
 /// Where alarms are described.

@@ -5,11 +5,11 @@ use crate::rows::spots_behind_sources;
 use crate::units::source_named;
 use grammar_causes::ungrammatical;
 use plant_folder::PlantTexts;
-use plant_places::{FileOf, Spot, text_of};
+use plant_places::text_of;
 use plant_types::Text;
 use source_causes::{Reading, misspelled_at, told};
 use std::alloc::{AllocError, Global};
-use token_causes::byte_at;
+use token_causes::{FileOf, Spot, byte_at};
 
 /// So many tokens are read at least, and one more for each byte of the plant.
 const LEAST_TOKENS: usize = 100_000;

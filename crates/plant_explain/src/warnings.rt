@@ -1,11 +1,12 @@
 //! What is likely to be wrong in a plant that is accepted.
 
-use body_uses::{File, Looking, Warning, look};
+use body_uses::{Looking, look};
 use plant_config::{AlarmRow, Plant};
 use plant_folder::PlantTexts;
-use plant_places::{Field, FileOf, Spot, first_field, next_field};
+use plant_places::{Field, first_field, next_field};
 use plant_types::Region;
 use std::alloc::{AllocError, Global};
+use token_causes::{FileOf, Spot};
 use word_index::Names;
 
 /// The numbers of columns of the alarm database, from 0, which are the same in each version of it.
@@ -78,7 +79,7 @@ impl<'p> Alarms<'p> {
         said: String,
     ) -> Result<(), AllocError> {
         match field_at(self.text, alarm, column) {
-            Some(field) => looking.warn_in(File::Alarms, (field.from, field.until), said),
+            Some(field) => looking.warn_in(FileOf::Alarms, (field.from, field.until), said),
             None => Ok(()),
         }
     }
@@ -185,20 +186,6 @@ impl<'p> Alarms<'p> {
     }
 }
 
-/// Where warnings are shown.
-fn spots_of(alloc: Global, warnings: Vec<Warning>) -> Result<Vec<Spot>, AllocError> {
-    let mut spots = Vec::new(alloc);
-    for warning in warnings {
-        let Warning { file, cause } = warning;
-        let file = match file {
-            File::Source(number) => FileOf::Source(number),
-            File::Alarms => FileOf::Alarms,
-        };
-        spots.push(Spot { file, cause })?;
-    }
-    Ok(spots)
-}
-
 /// Goes through the alarms of a plant, and then through what its sources left.
 fn look_on<'p>(
     alloc: Global,
@@ -228,7 +215,7 @@ pub fn find_warnings(
     let globals = globals_of(alloc, plant)?;
     let mut looking = look(alloc, texts.sources, globals)?;
     match look_on(alloc, texts.alarms, plant, &mut looking) {
-        Ok(()) => spots_of(alloc, looking.into_warnings()),
+        Ok(()) => Ok(looking.into_warnings()),
         Err(refused) => {
             drop(looking);
             Err(refused)

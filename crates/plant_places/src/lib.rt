@@ -18,6 +18,6 @@ pub use alarms::{row_cause, wrong_field};
 pub use document::{no_epoch, not_toml, wrong_keys};
 pub use fields::{Field, first_field, next_field, unquoted};
 pub use limits::over_limit;
-pub use place::{FileOf, Place, mark_len, place_at};
+pub use place::{Place, mark_len, place_at};
 pub use render::{place_of, shown, shown_alone};
-pub use texts::{Spot, text_of};
+pub use texts::text_of;

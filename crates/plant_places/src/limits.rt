@@ -2,12 +2,10 @@
 
 use crate::fields::first_of_row;
 use crate::keys::keys_of;
-use crate::place::FileOf;
-use crate::texts::Spot;
 use plant_config::Limit;
 use plant_folder::PlantTexts;
 use std::alloc::{AllocError, Global};
-use token_causes::{Cause, cause_at, cause_of};
+use token_causes::{Cause, FileOf, Spot, cause_at, cause_of};
 
 /// Where limits stand.
 const LIMITS: &str = "docs/PLANT.md, \"Limits (this profile)\"";

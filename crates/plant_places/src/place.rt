@@ -7,17 +7,6 @@ ghost use Rattle.plant_places.specs.Places.{place_in};
 
 use token_causes::part;
 
-/// A file of a plant.
-#[derive(Clone, Copy, PartialEq, Eq, Drop)]
-pub enum FileOf {
-    /// The plant file.
-    Plant,
-    /// A source, by its number in the plant file, from 0.
-    Source(usize),
-    /// The alarm database.
-    Alarms,
-}
-
 /// A place in a text. Lines count from 1, and so do the bytes of a line; a byte order mark at the text's start isn't counted.
 #[derive(Clone, Copy, Drop)]
 pub struct Place {

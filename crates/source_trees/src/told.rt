@@ -1,7 +1,7 @@
 //! The mistakes that were found.
 
 use std::alloc::{AllocError, Global};
-use token_causes::Cause;
+use token_causes::Spot;
 
 /// The most mistakes that are told.
 const MOST_MISTAKES: usize = 20;
@@ -19,12 +19,11 @@ pub enum Rule {
     Constants,
 }
 
-/// A mistake: the rule that it breaks, the number of its source, from 0, what is told of it, and how many more words of its unit are wrong by it.
+/// A mistake: the rule that it breaks, what is told of it, and how many more words of its unit are wrong by it.
 #[derive(Drop)]
 pub struct Mistake {
     pub rule: Rule,
-    pub source: usize,
-    pub cause: Cause,
+    pub spot: Spot,
     pub more: usize,
 }
 
@@ -34,7 +33,7 @@ fn push_more(alloc: Global, mistake: &mut Mistake) -> Result<(), AllocError> {
     if more > 0 {
         let uses = if more == 1 { "use" } else { "uses" };
         let text = format!(in alloc; " (and {more} more {uses} of it in this unit)")?;
-        mistake.cause.said.push_str(text.as_str())?;
+        mistake.spot.cause.said.push_str(text.as_str())?;
     }
     Ok(())
 }

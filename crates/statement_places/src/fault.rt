@@ -3,10 +3,10 @@
 use crate::routines::statements_of;
 use crate::sources::{Found, Source, routine_at, sources_of};
 use plant_folder::PlantTexts;
-use plant_places::{FileOf, Spot, shown_alone};
+use plant_places::shown_alone;
 use st_lexer::Token;
 use std::alloc::{AllocError, Global};
-use token_causes::{Cause, cause_at, sign_at, span_of, word_at};
+use token_causes::{FileOf, Spot, cause_at, sign_at, span_of, word_at};
 
 /// Where it stands how statements trap.
 const TRAPS: &str = "docs/LANGUAGE.md, \"Traps\"";
@@ -78,11 +78,11 @@ fn said(
 }
 
 /// The statement of a line FAULT; `None` where the sources have none.
-fn cause_of_fault(
+fn spot_of_fault(
     alloc: Global,
     sources: &[Source<'_>],
     told: Told<'_>,
-) -> Result<Option<(usize, Cause)>, AllocError> {
+) -> Result<Option<Spot>, AllocError> {
     let Some(found) = routine_at(sources, told.path) else {
         return Ok(None);
     };
@@ -96,7 +96,10 @@ fn cause_of_fault(
     };
     let said = said(alloc, source, found, told, first)?;
     let mark = span_of(source.text, tokens, first, end_of(tokens, first));
-    Ok(Some((found.source, cause_at(mark, said, TRAPS))))
+    Ok(Some(Spot {
+        file: FileOf::Source(found.source),
+        cause: cause_at(mark, said, TRAPS),
+    }))
 }
 
 /// What a person is told of a line `FAULT MOMENT PATH STATEMENT KIND` by the texts of a plant: the file, line and column of the statement, and the line that stands there. Nothing of
@@ -110,14 +113,8 @@ pub fn told_of_fault(
         return Ok(String::new(alloc));
     };
     let sources = sources_of(alloc, texts.sources)?;
-    match cause_of_fault(alloc, sources.as_slice(), told)? {
-        Some((source, cause)) => {
-            let spot = Spot {
-                file: FileOf::Source(source),
-                cause,
-            };
-            shown_alone(alloc, texts, &spot)
-        }
+    match spot_of_fault(alloc, sources.as_slice(), told)? {
+        Some(spot) => shown_alone(alloc, texts, &spot),
         None => Ok(String::new(alloc)),
     }
 }

@@ -10,6 +10,7 @@ mod lookalikes;
 mod near;
 mod opened;
 mod spelling;
+mod spot;
 mod stand;
 mod tables;
 mod tokens;
@@ -22,6 +23,7 @@ pub use opened::{
     opens_section,
 };
 pub use spelling::misspelled;
+pub use spot::{FileOf, Spot};
 pub use stand::{section_of, stand_of, wanted};
 pub use tables::{said_in, said_of};
 pub use tokens::{
