@@ -7,7 +7,7 @@ use grammar_causes::ungrammatical;
 use plant_folder::PlantTexts;
 use plant_places::text_of;
 use plant_types::Text;
-use source_causes::{Reading, misspelled_at, told};
+use source_causes::{Reading, Told, misspelled_at, told};
 use std::alloc::{AllocError, Global};
 use token_causes::{FileOf, Spot, byte_at};
 
@@ -63,11 +63,15 @@ fn add_others(
         tokens: size_of(texts).saturating_add(LEAST_TOKENS),
     };
     for (number, source) in texts.sources.iter().enumerate() {
-        let told = told(alloc, source.1, left)?;
-        left = told.left;
-        starts.push(told.units)?;
+        let Told {
+            causes,
+            left: less,
+            units,
+        } = told(alloc, source.1, left)?;
+        left = less;
+        starts.push(units)?;
         let file = FileOf::Source(number);
-        for cause in told.causes {
+        for cause in causes {
             if spots.len() < MOST_FAULTS && (file, cause.mark) != first {
                 spots.push(Spot { file, cause })?;
             }

@@ -109,7 +109,8 @@ pub fn spots_in_units(
         spots.push(in_whole(alloc, texts, broken)?)?;
     }
     for mistake in found {
-        spots.push(mistake.spot)?;
+        let Mistake { spot, .. } = mistake;
+        spots.push(spot)?;
     }
     if broken.rule == Rule::Names {
         add_comments(alloc, texts, &mut spots)?;
