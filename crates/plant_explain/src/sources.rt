@@ -7,7 +7,7 @@ use grammar_causes::ungrammatical;
 use plant_folder::PlantTexts;
 use plant_places::text_of;
 use plant_types::Text;
-use source_causes::{Reading, Told, misspelled_at, told};
+use source_causes::{Reading, Told, misspelled_at, tell};
 use std::alloc::{AllocError, Global};
 use token_causes::{FileOf, Spot, byte_at};
 
@@ -67,7 +67,7 @@ fn add_others(
             causes,
             left: less,
             units,
-        } = told(alloc, source.1, left)?;
+        } = tell(alloc, source.1, left)?;
         left = less;
         starts.push(units)?;
         let file = FileOf::Source(number);

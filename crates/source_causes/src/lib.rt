@@ -15,4 +15,4 @@ mod pieces;
 mod told;
 
 pub use marks::misspelled_at;
-pub use told::{Reading, Told, told};
+pub use told::{Reading, Told, tell};

@@ -240,7 +240,7 @@ pub struct Told {
 }
 
 /// What is wrong in the spelling and the grammar of a source, as far as that is left to be told and to be read. Fails if memory was refused.
-pub fn told(alloc: Global, text: &[u8], left: Reading) -> Result<Told, AllocError> {
+pub fn tell(alloc: Global, text: &[u8], left: Reading) -> Result<Told, AllocError> {
     let lexed = tokens_with_holes(alloc, text)?;
     let units = if lexed.is_cut {
         None
