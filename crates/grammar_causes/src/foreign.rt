@@ -27,7 +27,8 @@ ORGANIZATION_BLOCK CONFIGURATION RESOURCE TASK: isn't part of the language: each
 DATA_BLOCK VAR_ACCESS: isn't part of the language: VAR_GLOBAL has what several units use
 TYPE STRUCT UNION END_TYPE END_STRUCT: isn't part of the language: its kinds are BOOL, DINT and TIME
 NAMESPACE USING IMPORT LIBRARY: isn't part of the language: all sources of a plant share their globals and blocks
-METHOD PROPERTY ACTION EXTENDS IMPLEMENTS PUBLIC PRIVATE PROTECTED INTERNAL FINAL CLASS ABSTRACT INTERFACE: isn't part of the language: a FUNCTION_BLOCK has variables and one body
+METHOD PROPERTY ACTION EXTENDS IMPLEMENTS PUBLIC: isn't part of the language: a FUNCTION_BLOCK has variables and one body
+PRIVATE PROTECTED INTERNAL FINAL CLASS ABSTRACT INTERFACE: isn't part of the language: a FUNCTION_BLOCK has variables and one body
 BEGIN REGION END_REGION: isn't part of the language: statements begin behind the last END_VAR, and a remark may part them
 CONSTANT: isn't part of the language: a variable that nothing assigns keeps its initial value
 RETAIN NON_RETAIN PERSISTENT: isn't part of the language: a variable keeps its value from scan to scan, and none beyond a run
@@ -97,7 +98,8 @@ fn is_name(tokens: &[Token], number: usize) -> bool {
     matches!(sign_at(tokens, number.saturating_add(1)), ":=" | "=" | ".")
 }
 
-/// What is said behind the word of a number behind a value, or behind the variable of a FOR: of an operator, or of a unit of time behind a number; empty of another.
+/// What is said behind the word of a number behind a value, or behind the variable of a FOR: of an operator, or of a unit of time behind a number; empty of
+/// another.
 fn said_of_operator(text: &[u8], tokens: &[Token], number: usize) -> &'static str {
     if !matches!(stand_of(tokens, number), "valued" | "controlled") || is_name(tokens, number) {
         return "";
@@ -109,7 +111,8 @@ fn said_of_operator(text: &[u8], tokens: &[Token], number: usize) -> &'static st
     }
 }
 
-/// What is said behind the word of a number by where it stands: in the place of a kind, behind the name of a unit, before a word with which it is one, or where something may begin;
+/// What is said behind the word of a number by where it stands: in the place of a kind, behind the name of a unit, before a word with which it is one, or
+/// where something may begin;
 /// empty of another.
 fn said_by_place(text: &[u8], tokens: &[Token], number: usize) -> &'static str {
     let word = word_at(text, tokens, number);

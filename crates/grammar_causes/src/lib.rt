@@ -1,4 +1,5 @@
-//! What is wrong with the token with which a source can't go on (C5): words and symbols of other dialects, what is missing, what stands in the place of something
+//! What is wrong with the token with which a source can't go on (C5): words and symbols of other dialects, what is missing, what stands in the place of
+//! something
 //! else, and else what is wanted there.
 //!
 //! A cause is the bytes that are wrong and a sentence that a person understands. No clause says that it is the right one; that is tried on examples.

@@ -4,7 +4,8 @@ use crate::depth::is_least;
 use st_lexer::Token;
 use token_causes::{open_parenthesis, opener_of, said_of, sign_at, sign_before};
 
-/// Each rule has where the token stands, what opens the unit, the section or the statement in which it does, the token before it, the token itself and the one behind it, and then what
+/// Each rule has where the token stands, what opens the unit, the section or the statement in which it does, the token before it, the token itself and the
+/// one behind it, and then what
 /// is said. A `)` is told as `unopened` where no `(` is open, and the integer that may stand behind a minus alone as `least`.
 const RULES: &str = "\
 argument _ , )|, _ a ',' is too many before it

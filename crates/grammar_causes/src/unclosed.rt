@@ -69,7 +69,8 @@ fn led_to(
     }
 }
 
-/// What is said where something is open that should be closed before a token: at that, or at the word before it, with which a call begins. Fails if allocation fails.
+/// What is said where something is open that should be closed before a token: at that, or at the word before it, with which a call begins. Fails if
+/// allocation fails.
 pub fn unclosed(
     alloc: Global,
     text: &[u8],

@@ -54,7 +54,8 @@ fn untold(alloc: Global) -> Result<Spot, AllocError> {
     })
 }
 
-/// The fault of a refused plant, and further ones that are found with it, 20 at most: of the plant file and of rows in order of text, of sources first the one for
+/// The fault of a refused plant, and further ones that are found with it, 20 at most: of the plant file and of rows in order of text, of sources first the
+/// one for
 /// which it is refused, and then the others in order of text; where the spelling or the grammar of sources is at fault, behind these those of rows.
 pub fn find_all(
     alloc: Global,

@@ -3,8 +3,10 @@
 //! tells what is likely to be wrong in it.
 //!
 //! It hears of the refusal with the texts that were judged, and no plant is read again. What is wrong in units (C6 to C9) explain_bodies finds all at once from
-//! their trees, what is wrong in the spelling and the grammar of sources (C4, C5) source_causes does, and of a limit that the sources don't keep (C10) limit_causes
-//! counts who is past it. What is wrong in the plant file (C1 to C3) and in the rows of the alarm database (C11 to C14) their readers found, and it comes with the
+//! their trees, what is wrong in the spelling and the grammar of sources (C4, C5) source_causes does, and of a limit that the sources don't keep (C10)
+//! limit_causes
+//! counts who is past it. What is wrong in the plant file (C1 to C3) and in the rows of the alarm database (C11 to C14) their readers found, and it comes
+//! with the
 //! fault. Behind mistakes of spelling and grammar those of rows are told too, as far as the globals of the sources are right.
 //!
 //! Proved is that the text begins with the whole line of the refusal; that a word is told which is wrong is tried on examples.

@@ -168,7 +168,8 @@ fn spots_beside(
     spots_of(alloc, texts, units, mistakes.as_slice())
 }
 
-/// What is wrong in the rows of a plant whose sources are at fault, whatever their blocks and programs say: nothing where the globals may be at fault themselves.
+/// What is wrong in the rows of a plant whose sources are at fault, whatever their blocks and programs say: nothing where the globals may be at fault
+/// themselves.
 pub fn spots_behind_sources(
     alloc: Global,
     texts: &PlantTexts<'_>,

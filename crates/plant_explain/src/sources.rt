@@ -49,7 +49,8 @@ fn at_place(
     Ok(Spot { file, cause })
 }
 
-/// Adds what else is wrong in the spelling and the grammar of all sources, in order of text, as far as it is certain; returns where the blocks and programs of each begin, as far as
+/// Adds what else is wrong in the spelling and the grammar of all sources, in order of text, as far as it is certain; returns where the blocks and programs
+/// of each begin, as far as
 /// that is certain.
 fn add_others(
     alloc: Global,
@@ -80,7 +81,8 @@ fn add_others(
     Ok(starts)
 }
 
-/// What is wrong in the spelling and the grammar of the sources of a plant that is refused for it: first at the place of the refusal, then in order of text, and
+/// What is wrong in the spelling and the grammar of the sources of a plant that is refused for it: first at the place of the refusal, then in order of text,
+/// and
 /// behind these in the rows of the alarm database.
 pub fn spots_in_sources(
     alloc: Global,

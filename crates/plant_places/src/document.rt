@@ -302,7 +302,8 @@ fn mark_of(bytes: &[u8], keys: &Keys, wrong: &Mistake) -> Option<(usize, usize)>
     }
 }
 
-/// Whether a missing key is told already by one that stands in its place: nearly the same one, the same one below a console, or the header of a table that there isn't.
+/// Whether a missing key is told already by one that stands in its place: nearly the same one, the same one below a console, or the header of a table that
+/// there isn't.
 fn is_told_by_other(bytes: &[u8], keys: &Keys, mistakes: &[Mistake], missing: &Mistake) -> bool {
     let key = missing.key.as_str();
     let is_elsewhere = missing.console == 0 && keys.find(bytes, NOBODY, key).is_some();

@@ -43,7 +43,8 @@ fn closes_more(tokens: &[Token], first: usize, last: usize) -> bool {
     false
 }
 
-/// The number of the token behind the statement or the declaration in which the token of a number stands: behind its `;`, or at what ends the statements around it.
+/// The number of the token behind the statement or the declaration in which the token of a number stands: behind its `;`, or at what ends the statements
+/// around it.
 /// `None` where it isn't certain.
 pub fn statement_end(tokens: &[Token], number: usize) -> Option<usize> {
     let mut end = next_end(tokens, number);

@@ -204,7 +204,8 @@ fn past_body(tokens: &[Token], number: usize, stand: &str) -> Option<Mend> {
     }
 }
 
-/// Whether a word of another dialect is left out with what goes on with it: an operator, a kind without parts of its own, or one that stands among the statements.
+/// Whether a word of another dialect is left out with what goes on with it: an operator, a kind without parts of its own, or one that stands among the
+/// statements.
 fn is_part(text: &[u8], tokens: &[Token], at: usize, (number, stand): (usize, &str)) -> bool {
     let word = word_at(text, tokens, at);
     let has_parts = same_word(word.as_bytes(), b"STRUCT") || same_word(word.as_bytes(), b"UNION");

@@ -20,7 +20,8 @@ pub fn end_of_piece(tokens: &[Token], first: usize) -> usize {
         .unwrap_or(tokens.len())
 }
 
-/// The byte of a source of tokens at which its blocks and programs begin, above which all its globals stand; that of its end where it has none. `None` where globals stand
+/// The byte of a source of tokens at which its blocks and programs begin, above which all its globals stand; that of its end where it has none. `None` where
+/// globals stand
 /// below too.
 pub fn units_start(text: &[u8], tokens: &[Token]) -> Option<usize> {
     let first = (0..tokens.len())

@@ -3,7 +3,8 @@
 //!
 //! `Trees` has the sources with their tokens and units, `Titles` the names that all sources share and where each is declared first, a `Body` the names of a
 //! unit. Where a name is declared twice, or what it is declared as isn't there, it isn't certain what it is, and they say so. A `Cursor` goes along the
-//! tokens of a source beside a walk of its tree, and so knows where literals and operators stand. `Told` keeps the mistakes that a walk finds, and which comes first.
+//! tokens of a source beside a walk of its tree, and so knows where literals and operators stand. `Told` keeps the mistakes that a walk finds, and which
+//! comes first.
 #![tactic(auto)]
 
 mod body;

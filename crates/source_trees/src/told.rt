@@ -94,7 +94,8 @@ impl Told {
         }
     }
 
-    /// All of them: the first that breaks the rule by which the plant is refused, and then the others in order of text. Behind each it is said how many more words
+    /// All of them: the first that breaks the rule by which the plant is refused, and then the others in order of text. Behind each it is said how many more
+    /// words
     /// are wrong by it.
     pub fn into_list(self, alloc: Global) -> Result<Vec<Mistake>, AllocError> {
         let Told {

@@ -37,7 +37,8 @@ pub fn part(text: &[u8], from: usize, until: usize) -> &[u8] {
     }
 }
 
-/// The number of the byte at a line and a column of a text, which count from 1; that of its end if it has no such line. A byte order mark at its start isn't counted.
+/// The number of the byte at a line and a column of a text, which count from 1; that of its end if it has no such line. A byte order mark at its start isn't
+/// counted.
 pub fn byte_at(text: &[u8], line: usize, column: usize) -> usize {
     let mut lines = 1usize;
     let mut start = if text.starts_with(&[0xEF, 0xBB, 0xBF]) {

@@ -1,6 +1,7 @@
 //! What the tokens of a source are there for and where they stand, by those beside them; and what is wrong with bytes that begin no token (C4).
 //!
-//! A token is told by its sign, a short text as `word`, `END_IF` or `:=`, and where it stands by a word as `value`. What is said stands in tables of texts. A cause is the bytes
+//! A token is told by its sign, a short text as `word`, `END_IF` or `:=`, and where it stands by a word as `value`. What is said stands in tables of texts.
+//! A cause is the bytes
 //! that are wrong and a sentence that a person understands. No clause says that it is the right one; that is tried on examples.
 #![tactic(auto)]
 

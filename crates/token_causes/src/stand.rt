@@ -101,9 +101,11 @@ pub fn section_of(tokens: &[Token], number: usize) -> Option<usize> {
 ///
 /// - outside of units: `top` above all of them, `behind` one;
 /// - at the beginning of a unit: `title` behind PROGRAM or FUNCTION_BLOCK, `head` behind its name or a section of it;
-/// - among declarations: `declaration` where one may begin, `name` behind a comma, `declared` behind a name, `address` behind AT, `addressed` behind an address, `kind` behind
+/// - among declarations: `declaration` where one may begin, `name` behind a comma, `declared` behind a name, `address` behind AT, `addressed` behind an
+/// address, `kind` behind
 ///   the colon, `kinded` behind the kind;
-/// - among statements: `statement` where one may begin, `begun` behind its first word, `ended` behind what closes one, where its `;` has to stand, `control` behind FOR,
+/// - among statements: `statement` where one may begin, `begun` behind its first word, `ended` behind what closes one, where its `;` has to stand, `control`
+/// behind FOR,
 ///   `controlled` behind its variable, `label` where one has to stand, `labelled` behind one;
 /// - in a call: `argument` where one may begin, `argued` behind its name, `taker` behind `=>`, `taken` behind the variable there;
 /// - in an expression: `value` where one has to stand, `valued` behind one, `member` behind an instance and a point.

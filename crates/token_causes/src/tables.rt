@@ -18,7 +18,8 @@ pub fn said_in(table: &'static str, word: &str) -> &'static str {
     ""
 }
 
-/// Whether one of the words of a pattern, which stand between `|`, is a sign or stands for it: `_` for any, and for those of their kind KEYWORD, SECTION and KIND.
+/// Whether one of the words of a pattern, which stand between `|`, is a sign or stands for it: `_` for any, and for those of their kind KEYWORD, SECTION and
+/// KIND.
 fn fits(pattern: &str, sign: &str) -> bool {
     for one in pattern.split("|") {
         let stands_for = match one {

@@ -80,7 +80,8 @@ fn symbol_sign(symbol: Symbol) -> &'static str {
     }
 }
 
-/// The sign of a kind of tokens: `word`, `int` (without a type before it), `literal` or `address`; of keywords, in capitals, and of symbols how they are spelled.
+/// The sign of a kind of tokens: `word`, `int` (without a type before it), `literal` or `address`; of keywords, in capitals, and of symbols how they are
+/// spelled.
 pub fn sign_of(kind: TokenKind) -> &'static str {
     match kind {
         TokenKind::Word => "word",
