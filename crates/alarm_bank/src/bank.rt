@@ -159,6 +159,14 @@ impl Bank {
         self.alarms[alarm as usize].state()
     }
 
+    /// The area and the priority of an alarm that is there.
+    pub fn site(&self, alarm: u32) -> Site
+        requires { alarm < length self.now.alarms }
+        ensures { slice_get self.now.sites alarm ≡ Some result }
+    {
+        self.sites[alarm as usize]
+    }
+
     /// The alarms, in order.
     pub fn alarms(&self) -> &[Alarm]
         ensures { result.now ≡ self.now.alarms }
