@@ -5,6 +5,7 @@
 #![tactic(auto)]
 
 mod arrays;
+mod clocks;
 mod code;
 mod flat;
 mod flat_instr;

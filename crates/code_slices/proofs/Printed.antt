@@ -153,8 +153,12 @@ with_numbers_is ns i n target reads writes rows_read rows_written clocks targets
     ∙ append_assoc ns (one ++ two) (three ++ (four ++ (five ++ (six ++ seven))))
     ∙ (λ k. ns ++ (reads k ++ (writes k ++ (four_is k ++ (five_is k ++ (clocks k ++ targets k))))))
 
-pub with_literals_is : (ls : List ℤ) (i : Instr) (o : Operation) → listed o.literals.0 ++ listed o.literals.1 ≡ (operands i).literals → with_literals ls o ≡ ls ++ literals_of i
-with_literals_is ls i o e = append_assoc ls (listed o.literals.0) (listed o.literals.1) ∙ ap (λ l. ls ++ l) e
+pub with_literals_is : (ls : List ℤ) (i : Instr) (o : Operation) → (listed o.literals.0 ++ listed o.literals.1) ++ listed o.literals.2 ≡ (operands i).literals → with_literals ls o ≡ ls ++ literals_of i
+with_literals_is ls i o e =
+    let one = listed o.literals.0 in
+    let two = listed o.literals.1 in
+    let three = listed o.literals.2 in
+    ap (λ l. l ++ three) (append_assoc ls one two) ∙ append_assoc ls (one ++ two) three ∙ ap (λ l. ls ++ l) e
 
 -- a place that was read, and what is left of the numbers that are told
 record ReadPlace : Type 0 where

@@ -130,53 +130,65 @@ module _ (R : PlainCells → PlainCells → Type 0) (f g : ℕ → ℕ) where
         go : (pc : ℕ) (m n : ℤ) (stack : List ℤ) (w v : PlainCells) → m ≡ n → R w v → Like (next pc m stack w) (after pc n stack v)
         go pc m n stack w v e same = on.on pc m n stack w v e same
 
-        -- the accumulator takes the value of an element
-        load_at : (slot : ℕ) (bounds : Bounds) (pc : ℕ) (acc : ℤ) (stack : List ℤ) (w v : PlainCells) → AllByRecursion Reads (range_with_len slot (row_length bounds)) → KeepsRow f slot (row_length bounds) → R w v
-            → Like (with_outcome spot left w (indexed bounds acc) (λ n. next (pc + 1) (value_at w (row_place slot bounds n)) stack w))
-            (with_outcome other rest v (indexed bounds acc) (λ n. after (pc + 1) (value_at v (row_place (f slot) bounds n)) stack v))
-        load_at slot bounds pc acc stack w v reads keeps same = by (has_index bounds acc) refl
+        -- the accumulator takes the value of the element of an index, and another instruction follows
+        element : (slot : ℕ) (bounds : Bounds) (pc : ℕ) (index index' : ℤ) (stack : List ℤ) (w v : PlainCells) → AllByRecursion Reads (range_with_len slot (row_length bounds)) → KeepsRow f slot (row_length bounds) → index ≡ index' → R w v
+            → Like (with_outcome spot left w (indexed bounds index) (λ n. next pc (value_at w (row_place slot bounds n)) stack w))
+            (with_outcome other rest v (indexed bounds index') (λ n. after pc (value_at v (row_place (f slot) bounds n)) stack v))
+        element slot bounds pc index index' stack w v reads keeps e same =
+            subst (λ m. Like (with_outcome spot left w (indexed bounds index) (λ n. next pc (value_at w (row_place slot bounds n)) stack w)) (with_outcome other rest v (indexed bounds m) (λ n. after pc (value_at v (row_place (f slot) bounds n)) stack v))) e
+            (by (has_index bounds index) refl)
           where
-            by : (b : Bool) → has_index bounds acc ≡ b
-                → Like (with_outcome spot left w (if b then Ok acc else Err Index) (λ n. next (pc + 1) (value_at w (row_place slot bounds n)) stack w))
-                (with_outcome other rest v (if b then Ok acc else Err Index) (λ n. after (pc + 1) (value_at v (row_place (f slot) bounds n)) stack v))
+            by : (b : Bool) → has_index bounds index ≡ b
+                → Like (with_outcome spot left w (if b then Ok index else Err Index) (λ n. next pc (value_at w (row_place slot bounds n)) stack w))
+                (with_outcome other rest v (if b then Ok index else Err Index) (λ n. after pc (value_at v (row_place (f slot) bounds n)) stack v))
             by true within =
-                let k = nat_abs (acc -ℤ bounds.low) in
-                let lt = index_in_row bounds acc within in
+                let k = nat_abs (index -ℤ bounds.low) in
+                let lt = index_in_row bounds index within in
                 let value = (at_row Reads slot (row_length bounds) reads k lt).is w v same in
-                go (pc + 1) (value_at w (row_place slot bounds acc)) (value_at v (row_place (f slot) bounds acc)) stack w v (value ∙ ap (value_at v) (keeps k lt)) same
+                go pc (value_at w (row_place slot bounds index)) (value_at v (row_place (f slot) bounds index)) stack w v (value ∙ ap (value_at v) (keeps k lt)) same
             by false within = record { is = holds.trapped w v Index same }
 
         -- an index goes onto the stack
-        locate : (bounds : Bounds) (pc : ℕ) (acc : ℤ) (stack : List ℤ) (w v : PlainCells) → R w v
-            → Like (with_outcome spot left w (indexed bounds acc) (λ n. put_on room n stack (λ s. next (pc + 1) n s w)))
-            (with_outcome other rest v (indexed bounds acc) (λ n. put_on room n stack (λ s. after (pc + 1) n s v)))
-        locate bounds pc acc stack w v same =
-            outcome w v (indexed bounds acc) (indexed bounds acc) (λ n. put_on room n stack (λ s. next (pc + 1) n s w)) (λ n. put_on room n stack (λ s. after (pc + 1) n s v)) refl same
-            (λ n. pick (nat_lt (length stack) room) (next (pc + 1) n (n ∷ stack) w) (after (pc + 1) n (n ∷ stack) v) Stuck Stuck (go (pc + 1) n n (n ∷ stack) w v refl same) stuck)
+        locate : (bounds : Bounds) (pc : ℕ) (index index' : ℤ) (stack : List ℤ) (w v : PlainCells) → index ≡ index' → R w v
+            → Like (with_outcome spot left w (indexed bounds index) (λ n. put_on room n stack (λ s. next pc n s w)))
+            (with_outcome other rest v (indexed bounds index') (λ n. put_on room n stack (λ s. after pc n s v)))
+        locate bounds pc index index' stack w v e same =
+            outcome w v (indexed bounds index) (indexed bounds index') (λ n. put_on room n stack (λ s. next pc n s w)) (λ n. put_on room n stack (λ s. after pc n s v)) (ap (indexed bounds) e) same
+            (λ n. pick (nat_lt (length stack) room) (next pc n (n ∷ stack) w) (after pc n (n ∷ stack) v) Stuck Stuck (go pc n n (n ∷ stack) w v refl same) stuck)
 
-        -- an element takes a value
-        store_at : (slot : ℕ) (bounds : Bounds) (pc : ℕ) (acc : ℤ) (stack : List ℤ) (w v : PlainCells) → AllByRecursion Assigns (range_with_len slot (row_length bounds)) → KeepsRow f slot (row_length bounds) → R w v
-            → Like (on_top stack (λ index s. put_at slot bounds index acc w (λ changed. next (pc + 1) acc s changed)))
-            (on_top stack (λ index s. put_at (f slot) bounds index acc v (λ changed. after (pc + 1) acc s changed)))
-        store_at slot bounds pc acc stack w v writes keeps same =
-            top stack (λ index s. put_at slot bounds index acc w (λ changed. next (pc + 1) acc s changed)) (λ index s. put_at (f slot) bounds index acc v (λ changed. after (pc + 1) acc s changed))
-            (λ index s. by index s (has_index bounds index) refl)
+        -- an element takes a number
+        store : (slot : ℕ) (bounds : Bounds) (pc : ℕ) (m n : ℤ) (stack : List ℤ) (w v : PlainCells) → AllByRecursion Assigns (range_with_len slot (row_length bounds)) → KeepsRow f slot (row_length bounds) → m ≡ n → R w v
+            → Like (on_top stack (λ index s. put_at slot bounds index m w (λ changed. next pc m s changed)))
+            (on_top stack (λ index s. put_at (f slot) bounds index n v (λ changed. after pc n s changed)))
+        store slot bounds pc m n stack w v writes keeps e same =
+            subst (λ k. Like (on_top stack (λ index s. put_at slot bounds index m w (λ changed. next pc m s changed))) (on_top stack (λ index s. put_at (f slot) bounds index k v (λ changed. after pc k s changed)))) e
+            (top stack (λ index s. put_at slot bounds index m w (λ changed. next pc m s changed)) (λ index s. put_at (f slot) bounds index m v (λ changed. after pc m s changed))
+            (λ index s. by index s (has_index bounds index) refl))
           where
             by : (index : ℤ) (s : List ℤ) (b : Bool) → has_index bounds index ≡ b
-                → Like (if b then next (pc + 1) acc s (assigned w (row_place slot bounds index) acc) else Stuck) (if b then after (pc + 1) acc s (assigned v (row_place (f slot) bounds index) acc) else Stuck)
+                → Like (if b then next pc m s (assigned w (row_place slot bounds index) m) else Stuck) (if b then after pc m s (assigned v (row_place (f slot) bounds index) m) else Stuck)
             by index s true within =
                 let k = nat_abs (index -ℤ bounds.low) in
                 let lt = index_in_row bounds index within in
-                let moved = (at_row Assigns slot (row_length bounds) writes k lt).is w v acc same in
-                go (pc + 1) acc acc s (assigned w (row_place slot bounds index) acc) (assigned v (row_place (f slot) bounds index) acc) refl (subst (λ n. R (assigned w (row_place slot bounds index) acc) (assigned v n acc)) (keeps k lt) moved)
+                let moved = (at_row Assigns slot (row_length bounds) writes k lt).is w v m same in
+                go pc m m s (assigned w (row_place slot bounds index) m) (assigned v (row_place (f slot) bounds index) m) refl (subst (λ n. R (assigned w (row_place slot bounds index) m) (assigned v n m)) (keeps k lt) moved)
             by index s false within = stuck
 
         pub acts : (i : Instr) (pc : ℕ) (acc : ℤ) (stack : List ℤ) (w v : PlainCells) → Suits i → R w v
             → Like (act t room i spot left next pc acc stack w) (act t room (renamed f g i) other rest after pc acc stack v)
         acts instr.End pc acc stack w v suits same = record { is = holds.done w v same }
-        acts (instr.LoadAt slot bounds) pc acc stack w v suits same = load_at slot bounds pc acc stack w v (in_front Reads (range_with_len slot (row_length bounds)) [] suits.reads) suits.rows.0 same
-        acts (instr.Locate bounds) pc acc stack w v suits same = locate bounds pc acc stack w v same
-        acts (instr.StoreAt slot bounds) pc acc stack w v suits same = store_at slot bounds pc acc stack w v (in_front Assigns (range_with_len slot (row_length bounds)) [] suits.writes) suits.rows.0 same
+        acts (instr.LoadAt first bounds) pc acc stack w v suits same = element first bounds (pc + 1) acc acc stack w v (in_front Reads (range_with_len first (row_length bounds)) [] suits.reads) suits.rows.0 refl same
+        acts (instr.Locate bounds) pc acc stack w v suits same = locate bounds (pc + 1) acc acc stack w v refl same
+        acts (instr.StoreAt first bounds) pc acc stack w v suits same = store first bounds (pc + 1) acc acc stack w v (in_front Assigns (range_with_len first (row_length bounds)) [] suits.writes) suits.rows.0 refl same
+        acts (instr.LoadLoadAt slot first bounds) pc acc stack w v suits same =
+            element first bounds (pc + 2) (value_at w slot) (value_at v (f slot)) stack w v (in_front Reads (range_with_len first (row_length bounds)) [] suits.reads.1) suits.rows.0 (read slot w v suits.reads.0 same) same
+        acts (instr.LoadLocate slot bounds) pc acc stack w v suits same = locate bounds (pc + 2) (value_at w slot) (value_at v (f slot)) stack w v (read slot w v suits.reads.0 same) same
+        acts (instr.LoadStoreAt slot first bounds) pc acc stack w v suits same =
+            store first bounds (pc + 2) (value_at w slot) (value_at v (f slot)) stack w v (in_front Assigns (range_with_len first (row_length bounds)) [] suits.writes) suits.rows.0 (read slot w v suits.reads.0 same) same
+        acts (instr.BinaryLiteralStoreAt op first y bounds) pc acc stack w v suits same =
+            outcome w v (eval_binary op acc y) (eval_binary op acc y) (λ n. on_top stack (λ index s. put_at first bounds index n w (λ changed. next (pc + 2) n s changed)))
+            (λ n. on_top stack (λ index s. put_at (f first) bounds index n v (λ changed. after (pc + 2) n s changed))) refl same
+            (λ n. store first bounds (pc + 2) n n stack w v (in_front Assigns (range_with_len first (row_length bounds)) [] suits.writes) suits.rows.0 refl same)
         acts i pc acc stack w v suits same = search (outcome, top, pick, stuck, read, write, show, enter, go, operands_alike, operand_alike, unchanged, suits.reads, suits.writes, suits.clocks) depth 8
 
         pub act_ats : (o : Option Instr) (pc : ℕ) (acc : ℤ) (stack : List ℤ) (w v : PlainCells) → ((i : Instr) → o ≡ Some i → Suits i) → R w v

@@ -64,7 +64,7 @@ with_numbers numbers n target =
     ((((((numbers ++ listed n.reads.0) ++ listed n.reads.1) ++ listed n.write) ++ firsts (listed n.row_read)) ++ firsts (listed n.row_written)) ++ listed n.clock) ++ listed target
 
 abbrev pub with_literals : List ℤ → Operation → List ℤ
-with_literals literals o = (literals ++ listed o.literals.0) ++ listed o.literals.1
+with_literals literals o = ((literals ++ listed o.literals.0) ++ listed o.literals.1) ++ listed o.literals.2
 
 -- the step from a place to the next one: how many statements of the same body that lies further on, or 255 where it lies elsewhere or far
 abbrev pub step_of : Place → Place → ℕ

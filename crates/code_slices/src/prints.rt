@@ -137,7 +137,8 @@ fn add_literals(literals: &mut Vec<i64>, of: &Operation) -> Result<(), AllocErro
     ensures { IfOk result (λ _. literals.new.items ≡ with_literals literals.old.items of.now) }
 {
     add(literals, of.literals.0)?;
-    add(literals, of.literals.1)
+    add(literals, of.literals.1)?;
+    add(literals, of.literals.2)
 }
 
 /// Writes the print of an instruction behind others. Fails if memory was refused.
