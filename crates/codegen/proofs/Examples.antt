@@ -1,15 +1,17 @@
--- Two bodies, and their code by the definitions.
+-- Three bodies, and their code by the definitions.
 use Rattle.std.proofs.Common.{◌≡◌, ℕ, pos, List, [], ◌∷◌, Some, refl}
+use Rattle.plant_types.specs.declared.values.Bounds.{Bounds}
 use Rattle.st_tree.specs.declared.tree.Literal.TheVariants.{Integer}
 use Rattle.st_tree.specs.declared.tree.Binary.TheVariants.{Less, Add, Multiply}
 use Rattle.st_tree.specs.declared.tree.Label.{Label}
-use Rattle.st_tree.specs.Plain.{PlainExpr, literal, read, binary}
-use Rattle.st_tree.specs.Plain.{PlainBody, assign, if_else, case_of, for_to, done, next, branch, no_branch, choice, no_choice}
+use Rattle.st_tree.specs.Plain.{PlainExpr, literal, read, element, binary}
+use Rattle.st_tree.specs.Plain.{PlainBody, assign, store, if_else, case_of, for_to, done, next, branch, no_branch, choice, no_choice}
 use Rattle.block_walk.specs.declared.frame.Base.{Base}
 use Rattle.acc_vm.specs.declared.instr.Instr.{Instr}
 use Rattle.acc_vm.specs.declared.instr.Instr.TheVariants as instr
 use Rattle.code_sizes.specs.Sizes.{body_lines, body_words}
 use Rattle.codegen.specs.Codes.{body_code, instrs_of}
+use Rattle.codegen.specs.Pairs.{joined_of}
 
 abbrev number : ℕ → PlainExpr ℕ
 number n = literal (Integer (pos n))
@@ -48,3 +50,16 @@ for_code_is : code for_body ≡ instr.Begin 10 (pos 1) (pos 2)
     ∷ instr.Load 10 ∷ instr.Store 0 ∷ instr.Jump 8
     ∷ instr.Turn 10 (pos 2) 1 ∷ []
 for_code_is = refl
+
+abbrev bounds : Bounds
+bounds = record { low = pos 1; high = pos 3 }
+
+-- array[own] := array[own] + 1; the array's elements are own values behind own
+abbrev element_body : PlainBody ℕ
+element_body = next (store 1 3 bounds (read 2) (binary Add (element 3 bounds (read 2)) (number 1))) done
+
+-- each pair of its instructions is done at once, and the second one of each stays where it is
+element_code_is : joined_of (body_code 2 [] (λ k. 0) (λ k base path pc. []) base 0 element_body 0) ≡ instr.LoadLocate 10 bounds ∷ instr.Locate bounds
+    ∷ instr.LoadLoadAt 10 11 bounds ∷ instr.LoadAt 11 bounds
+    ∷ instr.BinaryLiteralStoreAt Add 11 (pos 1) bounds ∷ instr.StoreAt 11 bounds ∷ []
+element_code_is = refl

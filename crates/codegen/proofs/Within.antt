@@ -280,6 +280,10 @@ module _ (has_value has_clock : ℕ → Bool) where
   both_in (instr.BinarySlot op other) (instr.JumpUnless to) h g = h
   both_in (instr.BinaryLiteral op y) (instr.Store to) h g = g
   both_in (instr.Binary op) (instr.JumpUnless to) h g = h
+  both_in (instr.Load one) (instr.LoadAt first bounds) h g = ((h.0.0, g.0), tt)
+  both_in (instr.Load one) (instr.Locate bounds) h g = h
+  both_in (instr.Load one) (instr.StoreAt first bounds) h g = ((h.0.0, g.0), tt)
+  both_in (instr.BinaryLiteral op y) (instr.StoreAt first bounds) h g = g
   both_in i j h g = h
 
   chosen_in : (one other : Option Instr) (i : Instr) → IsIn (unwrap_or one i) → IsIn (unwrap_or other i) → IsIn (unwrap_or (option_or one other) i)
