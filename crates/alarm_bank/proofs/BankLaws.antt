@@ -31,6 +31,13 @@ counted_set (p ∷ ps) [] at a e h = absurd (omega arith)
 counted_set (p ∷ ps) (x ∷ xs) zero a e h = refl
 counted_set (p ∷ ps) (x ∷ xs) (suc at) a e h = ap (λ r. record { area = p.area; priority = p.priority; code = code_of x.state } ∷ r) (counted_set ps xs at a (omega arith) (omega arith))
 
+-- an alarm is counted in its own area
+pub counted_area : (ps : List Site) (xs : List PlainAlarm) (n : ℕ) → length ps ≡ length xs → option_map (λ (row : Counted). row.area) (slice_get (counted ps xs) n) ≡ option_map (λ (site : Site). site.area) (slice_get ps n)
+counted_area [] xs n e = refl
+counted_area (p ∷ ps) [] n e = absurd (omega arith)
+counted_area (p ∷ ps) (x ∷ xs) zero e = refl
+counted_area (p ∷ ps) (x ∷ xs) (suc n) e = counted_area ps xs n (omega arith)
+
 -- each alarm of a site that is there has a count
 cells_of : (areas : ℕ) (ps : List Site) (xs : List PlainAlarm) → AllByRecursion (IsSite areas) ps → AllByRecursion (HasCell (36 * areas)) (counted ps xs)
 cells_of areas [] xs h = tt

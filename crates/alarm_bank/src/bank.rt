@@ -1,6 +1,7 @@
 //! The alarms of a plant.
 
 ghost use Rattle.std.specs.Prelude.{◌≡◌, ℕ, ◌≤◌, ◌<◌, ◌^◌, List, length, slice_get, IfSome, IfNone, IfOk, OnOk, All, Some, slice_set, slice_index, map, false};
+ghost use Rattle.std.specs.Option.{option_map};
 ghost use Rattle.alarm_machine.specs.declared.limits.TheConstants.{LAST_MOMENT};
 ghost use Rattle.alarm_machine.specs.Alarms.{PlainAlarm, end_of, EndsInRange};
 ghost use Rattle.alarm_bank.specs.Banks.{IsSite, scan_each, after_event, reply_of, counted, end_or_never, IsNextEnd, NoneShelved, IsSettled};
@@ -157,6 +158,14 @@ impl Bank {
         ensures { slice_get (map (λ a. a.state) self.now.alarms) alarm ≡ Some result }
     {
         self.alarms[alarm as usize].state()
+    }
+
+    /// The area of an alarm that is there. It is read where the code of the alarm is counted, which an order that is taken changes next.
+    pub fn area(&self, alarm: u32) -> u32
+        requires { alarm < length self.now.alarms }
+        ensures { option_map (λ site. site.area) (slice_get self.now.sites alarm) ≡ Some result }
+    {
+        self.summary.area(alarm as usize)
     }
 
     /// The alarms, in order.

@@ -1,6 +1,7 @@
 //! How many alarms of each area and priority have each code.
 
-ghost use Rattle.std.specs.Prelude.{◌≡◌, ◌*◌, ◌^◌, ◌<◌, ◌≤◌, length, All, IfOk};
+ghost use Rattle.std.specs.Prelude.{◌≡◌, ◌*◌, ◌^◌, ◌<◌, ◌≤◌, length, All, IfOk, Some, slice_get};
+ghost use Rattle.std.specs.Option.{option_map};
 ghost use Rattle.alarm_bank.specs.Counts.{cell, count_of, with_code, HasCell, AreCounts};
 
 use crate::rows::Counted;
@@ -78,6 +79,14 @@ impl Summary {
             Some(count) => *count,
             None => 0,
         }
+    }
+
+    /// The area of an alarm that is there.
+    pub(crate) fn area(&self, at: usize) -> u32
+        requires { at < length self.now }
+        ensures { option_map (λ row. row.area) (slice_get self.now at) ≡ Some result }
+    {
+        self.rows[at].area
     }
 
     /// Gives one alarm another code.

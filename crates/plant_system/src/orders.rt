@@ -7,9 +7,11 @@ ghost use Rattle.alarm_machine.specs.declared.limits.TheConstants.{LAST_MOMENT};
 ghost use Rattle.plant_system.specs.Orders.{is_console, alarm_order, program_order, order_outcome, reply_by};
 ghost use Rattle.alarm_bank.specs.Moves.{change_from};
 ghost use Rattle.plant_system.specs.Steps.{IsPreparedOrder};
+ghost use Rattle.plant_system.specs.System.{sites_of};
 
 use crate::event::Reply;
 use crate::state::{Effect, State};
+use alarm_bank::Bank;
 use alarm_machine::{Alarm, Change, OrderFault, Verb};
 use event_history::Order;
 use plant_config::Plant;
@@ -55,28 +57,27 @@ fn after_order(alarm: Alarm, verb: Verb, last: u64) -> Result<Alarm, OrderFault>
     Ok(changed)
 }
 
-/// What an order to the alarm of a number does, or why it is refused.
+/// What an order to the alarm of a number does, or why it is refused. The alarm's area is asked of the bank: a plant's row is long, and read for it alone.
 fn alarm_order(
     plant: &Plant,
-    alarms: &[Alarm],
-    last: u64,
+    bank: &Bank,
     console: u32,
     verb: Verb,
     number: u32,
 ) -> Result<Effect, OrderFault>
-    requires each { length alarms.now ≡ length plant.now.alarms }
-    requires range { last ≤ LAST_MOMENT }
-    ensures { result ≡ alarm_order plant.now alarms.now last console verb number }
+    requires each { length bank.now.alarms ≡ length plant.now.alarms }
+    requires sites { bank.now.sites ≡ sites_of plant.now.alarms }
+    ensures { result ≡ alarm_order plant.now bank.now.alarms bank.now.moment console verb number }
 {
-    let rows = plant.alarm_rows();
+    let alarms = bank.alarms();
     let at = number as usize;
-    if at >= rows.len() {
+    if at >= alarms.len() {
         return Err(OrderFault::UnknownTarget);
     }
-    if !plant.may_order(console, rows[at].area) {
+    if !plant.may_order(console, bank.area(number)) {
         return Err(OrderFault::NotYourArea);
     }
-    let alarm = after_order(alarms[at], verb, last)?;
+    let alarm = after_order(alarms[at], verb, bank.moment())?;
     Ok(Effect::Changed(number, alarm))
 }
 
@@ -104,22 +105,21 @@ fn program_order(
 }
 
 /// What an order does, or why it is refused.
-pub fn order_outcome(
+fn order_outcome(
     plant: &Plant,
-    alarms: &[Alarm],
+    bank: &Bank,
     faulted: &[bool],
-    last: u64,
     console: u32,
     order: Order,
 ) -> Result<Effect, OrderFault>
-    requires each { length alarms.now ≡ length plant.now.alarms }
-    requires range { last ≤ LAST_MOMENT }
-    ensures { result ≡ order_outcome plant.now alarms.now faulted.now last console order }
+    requires each { length bank.now.alarms ≡ length plant.now.alarms }
+    requires sites { bank.now.sites ≡ sites_of plant.now.alarms }
+    ensures { result ≡ order_outcome plant.now bank.now.alarms faulted.now bank.now.moment console order }
 {
     match (order.target, order.verb) {
         (None, _) => Err(OrderFault::UnknownTarget),
         (Some(number), Verb::Restart) => program_order(plant, faulted, console, number),
-        (Some(number), verb) => alarm_order(plant, alarms, last, console, verb, number),
+        (Some(number), verb) => alarm_order(plant, bank, console, verb, number),
     }
 }
 
@@ -147,12 +147,12 @@ pub fn reply_by(done: &Result<Effect, OrderFault>, alarms: &[Alarm]) -> Reply
 /// Makes an order of the console of a number ready.
 pub fn prepared_order(plant: &Plant, state: &State, console: u32, order: Order) -> PreparedOrder
     requires alarms { length state.now.alarms ≡ length plant.now.alarms }
-    requires range { state.now.moment ≤ LAST_MOMENT }
+    requires sites { state.now.sites ≡ sites_of plant.now.alarms }
     ensures { IsPreparedOrder plant.now state.now console order result }
 {
     let alarms = state.bank.alarms();
     let faulted = state.faulted.as_slice();
-    let done = order_outcome(plant, alarms, faulted, state.bank.moment(), console, order);
+    let done = order_outcome(plant, &state.bank, faulted, console, order);
     let reply = reply_by(&done, alarms);
     PreparedOrder {
         console,

@@ -1,7 +1,9 @@
-use Rattle.std.proofs.Common.{◌≡◌, length, rules, arith}
+use Rattle.std.proofs.Common.{◌≡◌, length, subst, rules, arith}
 use Rattle.std.proofs.lemmas.Grind.{common_steps}
 use Rattle.engine.proofs.Ready.{ready}
-use Rattle.plant_system.proofs.Systems.{order_event_ready, order_event_full}
+use Rattle.plant_config.specs.Plants.{PlainPlant}
+use Rattle.plant_system.specs.System.{sites_of}
+use Rattle.plant_system.proofs.Systems.{order_event_ready, order_event_full, system_keeps_its_plant}
 use Rattle.engine.proofs.Fitting.{order_fits}
 use Rattle.engine.proofs.engine.Engine.prepare_order.Goals as goal
 
@@ -12,6 +14,11 @@ returns-then-len-ge-MOST_EVENTS-clause-err c =
 
 pub prepared_order-requires-clause-alarms : goal.prepared_order-requires-clause-alarms
 prepared_order-requires-clause-alarms c = (ready _ _ _ _ c.self.invariant.0).alarms
+
+pub prepared_order-requires-clause-sites : goal.prepared_order-requires-clause-sites
+prepared_order-requires-clause-sites c =
+    let state = c.self.inside.state in
+    subst (λ (x : PlainPlant). state.sites ≡ sites_of x.alarms) (system_keeps_its_plant c.self.inside.plant c.self.inside.history) c.self.invariant.0.state_is.sites_are
 
 pub returns-clause-ok : goal.returns-clause-ok
 returns-clause-ok c =
