@@ -57,7 +57,7 @@ impl<L: Ledger> Recorder<L> {
     }
 
     /// A scan: it is made ready in both engines, and its entry laid by for the board; then it is committed in both, under the archive's lock, and
-    /// shown, or the board is late.
+    /// shown, or the board is late. A scan that is refused changes neither the history nor what the board shows, and isn't counted.
     pub fn scan<C, H: Wait>(
         &mut self,
         rt: &H,
@@ -73,6 +73,7 @@ impl<L: Ledger> Recorder<L> {
         ensures ok { IfOk result (λ r. TakesScan self.old.engine self.new.engine pairs.now moment r) }
         ensures err { IfErr result (λ e. IsScanDue (self.old.share.parts ≡ L.parts) e self.old.engine pairs.now moment) }
         ensures kept { OnErr result (self.new.engine.history ≡ self.old.engine.history) }
+        ensures unshown { OnErr result ((published self.new.board ≡ published self.old.board) × (self.new.refusals ≡ self.old.refusals)) }
         ensures crew { C.faulted crew.new ≡ faults_by (C.faulted crew.old) result }
         ensures share { self.new.share.parts ≡ self.old.share.parts }
         ensures log { log_kept self.new.board ≡ log_kept self.old.board }

@@ -84,11 +84,13 @@ module _ {C : Type 0} where
   abbrev pub IsWhole : PlainStation C → PlainStation C → Bool → Type 0
   IsWhole old new stopped = (old.refusals ≤ new.refusals) × (new.refusals ≡ old.refusals → (stopped ≡ false) × (new.shown ≡ length new.engine.history))
 
-  -- a refused turn changes neither the history nor a lane
+  -- a refused turn changes neither the history, nor a lane, nor what the board shows, and no refusal of an order is counted
   pub record SameButRoom (old new : PlainStation C) : Type 0 where
     pub plant : new.engine.plant ≡ old.engine.plant
     pub history : new.engine.history ≡ old.engine.history
     pub lanes : new.lanes ≡ old.lanes
+    pub shown : new.shown ≡ old.shown
+    pub refusals : new.refusals ≡ old.refusals
 
 -- what is known of a console once its station is closed: the orders that the history has of it, followed by those that are left, are what it submitted, each once and in order; the answers that it took are the first of those that the history has of it. Nothing is left of one whose end wasn't handed in
 abbrev pub IsClosed : List (Answer Order Reply) → List Order → Option (Finished Order Reply) → Type 0

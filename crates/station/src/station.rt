@@ -4,7 +4,7 @@ ghost use Rattle.std.specs.Prelude.{◌≡◌, ◌≢◌, ◌<◌, ◌↔◌, Is
 ghost use Rattle.plant_system.specs.Faults.{faults_by};
 ghost use Rattle.order_taking.specs.Parts.{answers_of};
 ghost use Rattle.archive.specs.Records.{IsScanDue};
-ghost use Rattle.station.specs.Lanes.{numbers_of, links_of, links_in, left_in, finished_of, ended_of, is_within, has_seen_within, IsConsoleIn, IsEndIn, IsFresh, HasNotLooked, KeepsConsoles};
+ghost use Rattle.station.specs.Lanes.{numbers_of, numbers_in, links_of, links_in, left_in, finished_of, ended_of, is_within, has_seen_within, IsConsoleIn, IsEndIn, IsFresh, HasNotLooked, KeepsConsoles};
 ghost use Rattle.station.specs.Stations.{IsTurn, IsWhole, IsClosed, SameButRoom, AreBeginnings};
 ghost use mathlib.Core.List.{IsPrefix};
 ghost use Rattle.event_history.specs.declared.event.Order.{Order};
@@ -88,6 +88,7 @@ impl<L: Ledger, C: Drop> Station<L, C> {
         ensures engine { IfOk result (λ r. (r.0.engine.plant ≡ plant) × (r.0.engine.history ≡ [])) }
         ensures whole { IfOk result (λ r. r.0.parts ≡ L.parts) }
         ensures listed { IfOk result (λ r. map (λ c. c.number) (links_of r.1.items) ≡ numbers_of plant.consoles) }
+        ensures lanes { IfOk result (λ r. numbers_in r.0.lanes ≡ numbers_of plant.consoles) }
         ensures consoles { IfOk result (λ r. All (IsConsoleIn r.0.lanes) (links_of r.1.items)) }
         ensures fresh { IfOk result (λ r. All IsFresh (links_of r.1.items)) }
         ensures looks { IfOk result (λ r. All (HasNotLooked (history_story plant [])) r.1.items) }
