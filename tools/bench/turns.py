@@ -31,7 +31,7 @@ import house
 
 HERE = os.path.dirname(os.path.abspath(__file__))
 ALARMS = 20000
-CRATE = "turns: plant_types crew plant_config plant_folder plant_system engine event_history command_text console_link operator_console station row_text\n"
+CRATE = "turns: plant_types crew plant_config plant_folder plant_system engine operator_orders event_history command_text console_link operator_console station row_text\n"
 KINDS = ["turns", "allocations", "looks", "parts", "room"]
 # name, consoles, of which so many send, orders of each, what comes of them, alarms that change, turns
 TURNS = [

@@ -10,7 +10,7 @@ use Rattle.plant_system.specs.System.{System, order_event}
 use Rattle.plant_system.specs.declared.event.TheConstants.{MOST_EVENTS}
 use Rattle.event_history.specs.declared.event.Event.{Event}
 use Rattle.event_history.specs.declared.event.Event.TheVariants as event
-use Rattle.event_history.specs.declared.event.Order.{Order}
+use Rattle.operator_orders.specs.declared.order.Order.{Order}
 use Rattle.archive.specs.Refusals.{IsOrderFault}
 
 -- a refusal that isn't counted from 0 is never counted

@@ -16,7 +16,7 @@ use Rattle.alarm_bank.specs.Moves.{change_from}
 use Rattle.plant_config.specs.declared.rows.AlarmRow.{AlarmRow}
 use Rattle.plant_config.specs.Plants.{PlainPlant}
 use Rattle.plant_config.specs.Orderers.{has_area}
-use Rattle.event_history.specs.declared.event.Order.{Order}
+use Rattle.operator_orders.specs.declared.order.Order.{Order}
 use Rattle.plant_system.specs.declared.state.Effect.{Effect}
 use Rattle.plant_system.specs.declared.state.Effect.TheVariants as effect
 use Rattle.plant_system.specs.Orders.{is_console, alarm_effect, order_at, order_outcome, alarms_by, reply_by}

@@ -1,7 +1,7 @@
 use alarm_bank::BankEvent;
 use alarm_machine::{Change, OrderFault};
-use event_history::Order;
 use marked_log::Mark;
+use operator_orders::Order;
 
 /// What an order is answered: the change of its alarm's code, if there is one, or why it is refused.
 pub type Reply = Result<Option<Change>, OrderFault>;

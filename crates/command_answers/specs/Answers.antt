@@ -13,11 +13,11 @@ use Rattle.alarm_machine.specs.Codes.{PlainChange}
 use Rattle.alarm_machine.specs.declared.states.Verb.{Verb}
 use Rattle.plant_config.specs.Plants.{PlainPlant}
 use Rattle.plant_config.specs.Names.{alarm_number, program_number, tag_of, global_of}
-use Rattle.event_history.specs.Orders.{order_with}
+use Rattle.operator_orders.specs.Orders.{order_with}
 use Rattle.event_history.specs.declared.event.Event.{Event}
 use Rattle.plant_system.specs.declared.event.EngineFault.{EngineFault}
 use Rattle.plant_system.specs.Faults.{fault_text}
-use Rattle.event_history.specs.declared.event.Order.{Order as OrderMade}
+use Rattle.operator_orders.specs.declared.order.Order.{Order as OrderMade}
 use Rattle.plant_system.specs.declared.event.Reply.{Reply}
 use Rattle.plant_system.specs.declared.event.Reply.TheVariants as reply
 use Rattle.plant_system.specs.Orders.{is_restart}

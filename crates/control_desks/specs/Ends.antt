@@ -1,7 +1,7 @@
 -- A console that went to a thread of its own comes back as a console of the same station.
 use Rattle.std.specs.Prelude.{List}
 use Rattle.console_link.specs.declared.lane.Lane.{Lane}
-use Rattle.event_history.specs.declared.event.Order.{Order}
+use Rattle.operator_orders.specs.declared.order.Order.{Order}
 use Rattle.operator_console.specs.declared.console.Console.{Console}
 use Rattle.operator_console.specs.declared.console.Finished.{Finished}
 use Rattle.plant_system.specs.declared.event.Reply.{Reply}

@@ -2,7 +2,7 @@
 
 ghost use Rattle.std.specs.Prelude.{List, All, IfSome};
 ghost use Rattle.console_link.specs.declared.lane.Lane.{Lane};
-ghost use Rattle.event_history.specs.declared.event.Order.{Order};
+ghost use Rattle.operator_orders.specs.declared.order.Order.{Order};
 ghost use Rattle.plant_system.specs.declared.event.Reply.{Reply};
 ghost use Rattle.station.specs.Lanes.{IsEndIn};
 ghost use Rattle.control_desks.specs.Seated.{EndsAll};

@@ -8,7 +8,7 @@ use Rattle.plant_config.specs.Names.{globals_of}
 use Rattle.plant_system.specs.declared.event.TheConstants.{MOST_EVENTS}
 use Rattle.event_history.specs.declared.event.Event.{Event}
 use Rattle.event_history.specs.declared.event.Event.TheVariants as event
-use Rattle.event_history.specs.declared.event.Order.{Order}
+use Rattle.operator_orders.specs.declared.order.Order.{Order}
 use Rattle.plant_system.specs.declared.event.EngineFault.{EngineFault}
 use Rattle.plant_system.specs.declared.event.EngineFault.TheVariants as refusal
 use Rattle.plant_system.specs.System.{System, system, opening_system, after_event, order_event}

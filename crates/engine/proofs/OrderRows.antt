@@ -17,7 +17,7 @@ use Rattle.plant_config.specs.declared.rows.AlarmRow.{AlarmRow}
 use Rattle.plant_config.specs.Plants.{PlainPlant}
 use Rattle.plant_config.specs.Names.{programs_of}
 use Rattle.plant_config.specs.Orderers.{has_area}
-use Rattle.event_history.specs.declared.event.Order.{Order}
+use Rattle.operator_orders.specs.declared.order.Order.{Order}
 use Rattle.plant_system.specs.declared.state.Effect.{Effect}
 use Rattle.plant_system.specs.declared.state.Effect.TheVariants as effect
 use Rattle.plant_system.specs.Orders.{is_restart, is_console, order_at, alarm_order, program_order, order_outcome, alarms_by, changed_by}

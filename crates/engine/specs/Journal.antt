@@ -19,10 +19,10 @@ use Rattle.journal_core.specs.Rows.{fault_entry, change_entry}
 use Rattle.journal_core.specs.Bodies.{fault_body, alarm_body, order_body}
 use Rattle.plant_config.specs.Plants.{PlainPlant}
 use Rattle.plant_config.specs.Names.{programs_of, body_paths, tag_of, program_at, body_path}
-use Rattle.event_history.specs.Orders.{order_with}
+use Rattle.operator_orders.specs.Orders.{order_with}
 use Rattle.event_history.specs.declared.event.Event.{Event}
 use Rattle.event_history.specs.declared.event.Event.TheVariants as event
-use Rattle.event_history.specs.declared.event.Order.{Order}
+use Rattle.operator_orders.specs.declared.order.Order.{Order}
 use Rattle.plant_system.specs.declared.state.Effect.{Effect}
 use Rattle.plant_system.specs.Reports.{PlainReport}
 use Rattle.plant_system.specs.Orders.{is_restart, changed_by}

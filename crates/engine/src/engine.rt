@@ -17,8 +17,9 @@ use alarm_bank::Summary;
 use alarm_delays::Delays;
 use alarm_machine::{AlarmState, Verb};
 use crew::Crew;
-use event_history::{Event, History, Order};
+use event_history::{Event, History};
 use journal_core::Log;
+use operator_orders::Order;
 use plant_config::Plant;
 use plant_system::{
     Before, EngineFault, MOST_EVENTS, Prepared, PreparedOrder, ReadyScan, Reply, Report, Room,

@@ -9,8 +9,8 @@ ghost use Rattle.plant_system.specs.Orders.{changed_by};
 ghost use Rattle.engine.specs.Journal.{refusal_of, scan_entries, order_entries, IsNamed, HasTarget, target_name, order_target, target_text, name_of};
 
 use alarm_machine::{Alarm, Change, OrderFault, Verb};
-use event_history::Order;
 use journal_core::{Entry, Log, Row, row_text};
+use operator_orders::Order;
 use plant_config::Plant;
 use plant_system::{Effect, Report, State};
 use std::alloc::{AllocError, Global};

@@ -15,12 +15,13 @@ pub use alarm_bank::Summary;
 pub use alarm_machine::{AlarmState, Change, Code, OrderFault, Verb};
 pub use crew::{Alone, Crew, CrewFault};
 pub use engine::Engine;
-pub use event_history::{Event, Order};
+pub use event_history::Event;
 pub use journal_core::{Entry, Log, Row};
 pub use laws::{
     event_keeps_plant, lawful_history_is_short, lawful_history_stays_in_range,
     outputs_are_worth_their_numbers, system_keeps_consoles_and_epoch, system_keeps_its_plant,
 };
+pub use operator_orders::Order;
 pub use plant_config::{AlarmRow, ConfigFault, Files, Limit, Plant, Variable};
 pub use plant_file::Console;
 pub use plant_system::{EngineFault, Prepared, PreparedOrder, Reply, Report};

@@ -1,24 +1,7 @@
-ghost use Rattle.std.specs.Prelude.{◌≡◌};
-ghost use Rattle.event_history.specs.Orders.{order_with};
+//! What happens to a plant.
 
-use alarm_machine::Verb;
+use operator_orders::Order;
 use plant_types::{Items, Value};
-
-/// What an operator asks: a verb, and the number of an alarm, or of a program for a restart; `None` for one that isn't there.
-#[derive(Clone, Copy, Drop)]
-pub struct Order {
-    pub verb: Verb,
-    pub target: Option<u32>,
-}
-
-impl Order {
-    /// The order of a verb for a target.
-    pub fn of(verb: Verb, target: Option<u32>) -> Order
-        ensures { result ≡ order_with verb target }
-    {
-        Order { verb, target }
-    }
-}
 
 /// One event of the history.
 #[derive(Drop)]

@@ -6,5 +6,5 @@
 mod event;
 mod history;
 
-pub use event::{Event, Order};
+pub use event::Event;
 pub use history::History;

@@ -3,7 +3,7 @@ use Rattle.std.specs.Prelude.{◌≡◌, ◌⊎◌, ℕ, ◌+◌, ◌<◌, ◌�
 use Rattle.console_link.specs.declared.lane.Lane.{Lane}
 use Rattle.console_link.specs.Seats.{orders_taken, orders_known, answers_given, answer_room, SameLane}
 use Rattle.event_history.specs.declared.event.Event.{Event}
-use Rattle.event_history.specs.declared.event.Order.{Order}
+use Rattle.operator_orders.specs.declared.order.Order.{Order}
 use Rattle.plant_config.specs.Plants.{PlainPlant}
 use Rattle.plant_system.specs.declared.event.Reply.{Reply}
 use Rattle.plant_system.specs.System.{system}

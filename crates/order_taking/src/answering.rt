@@ -5,7 +5,7 @@ ghost use Rattle.order_taking.specs.Turns.{TookOne, TookPart, TookParts, UnlessR
 
 use crate::recording::{NotTaken, Recording};
 use console_link::Lane;
-use event_history::Order;
+use operator_orders::Order;
 use plant_system::Reply;
 use std::alloc::Global;
 

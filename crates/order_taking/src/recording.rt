@@ -8,7 +8,7 @@ ghost use Rattle.plant_config.specs.Plants.{PlainPlant};
 ghost use Rattle.plant_system.specs.System.{system, reply_to};
 ghost use Rattle.logbook.specs.Pages.{Book};
 
-use event_history::Order;
+use operator_orders::Order;
 use plant_system::Reply;
 use std::alloc::Global;
 

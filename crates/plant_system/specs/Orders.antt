@@ -12,8 +12,8 @@ use Rattle.alarm_bank.specs.Moves.{change_from}
 use Rattle.plant_file.specs.declared.console.Console.{Console}
 use Rattle.plant_config.specs.Plants.{PlainPlant}
 use Rattle.plant_config.specs.Orderers.{has_area}
-use Rattle.event_history.specs.Orders.{order_with}
-use Rattle.event_history.specs.declared.event.Order.{Order}
+use Rattle.operator_orders.specs.Orders.{order_with}
+use Rattle.operator_orders.specs.declared.order.Order.{Order}
 use Rattle.plant_system.specs.declared.event.Reply.{Reply}
 use Rattle.plant_system.specs.declared.event.Reply.TheVariants as reply
 use Rattle.plant_system.specs.declared.state.Effect.{Effect}

@@ -23,7 +23,7 @@ use Rattle.scan_logic.specs.Runs.{ProgramsRan}
 use Rattle.plant_system.specs.System.{taken_scan, delays_of, outputs_from, outs_from}
 use Rattle.plant_system.specs.Watches.{watches_of}
 use Rattle.plant_system.specs.States.{PlainState, PlainPrepared, PlainPreparedOrder, after_effect}
-use Rattle.event_history.specs.declared.event.Order.{Order}
+use Rattle.operator_orders.specs.declared.order.Order.{Order}
 use Rattle.alarm_delays.specs.Delays.{after_conditions}
 use Rattle.alarm_watch.specs.Watched.{Follow, alarms_watched, watched_conditions}
 use Rattle.plant_system.specs.Orders.{order_outcome, reply_by}

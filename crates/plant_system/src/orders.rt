@@ -13,7 +13,7 @@ use crate::event::Reply;
 use crate::state::{Effect, State};
 use alarm_bank::Bank;
 use alarm_machine::{Alarm, Change, OrderFault, Verb};
-use event_history::Order;
+use operator_orders::Order;
 use plant_config::Plant;
 use plant_file::Console;
 use std::marker::Model;

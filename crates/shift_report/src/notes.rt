@@ -5,8 +5,8 @@ ghost use Rattle.shift_report.specs.Shifts.{time_of, target_of, refusal_of, tell
 
 use crate::counts::rank;
 use alarm_machine::{OrderFault, Verb};
-use event_history::Order;
 use journal_core::{Entry, Log};
+use operator_orders::Order;
 
 /// What an operator keeps of an answer.
 #[derive(Clone, Copy, Drop)]

@@ -7,7 +7,7 @@ use mathlib.Core.List.{IsPrefix}
 use Rattle.console_link.specs.declared.console.Finished.{Finished}
 use Rattle.console_link.specs.declared.lane.Lane.{Lane}
 use Rattle.event_history.specs.declared.event.Event.{Event}
-use Rattle.event_history.specs.declared.event.Order.{Order}
+use Rattle.operator_orders.specs.declared.order.Order.{Order}
 use Rattle.plant_config.specs.Plants.{PlainPlant}
 use Rattle.plant_system.specs.declared.event.Reply.{Reply}
 use Rattle.boards.specs.declared.entry.Entry.{Entry}

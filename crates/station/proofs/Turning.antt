@@ -3,7 +3,7 @@ use Rattle.std.proofs.Common.{◌≡◌, ℕ, Bool, List, [], ◌∷◌, ◌++�
 use Rattle.logbook.specs.Pages.{Book}
 use Rattle.console_link.specs.declared.lane.Lane.{Lane}
 use Rattle.event_history.specs.declared.event.Event.{Event}
-use Rattle.event_history.specs.declared.event.Order.{Order}
+use Rattle.operator_orders.specs.declared.order.Order.{Order}
 use Rattle.plant_config.specs.Plants.{PlainPlant}
 use Rattle.plant_file.specs.declared.console.Console.{Console as Listed}
 use Rattle.plant_system.specs.declared.event.Reply.{Reply}

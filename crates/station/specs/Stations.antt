@@ -10,8 +10,8 @@ use Rattle.console_link.specs.declared.lane.Lane.{Lane}
 use Rattle.console_link.specs.contracts.lane.Lane as lane_row
 use Rattle.console_link.specs.Seats.{orders_taken, answers_given, IsOpen, all_submitted, all_taken}
 use Rattle.event_history.specs.declared.event.Event.{Event}
-use Rattle.event_history.specs.declared.event.Order.{Order}
-use Rattle.event_history.specs.contracts.event.Order as order_row
+use Rattle.operator_orders.specs.declared.order.Order.{Order}
+use Rattle.operator_orders.specs.contracts.order.Order as order_row
 use Rattle.plant_config.specs.Plants.{PlainPlant}
 use Rattle.plant_system.specs.declared.event.Reply.{Reply}
 use Rattle.plant_system.specs.contracts.event.Reply as reply_row

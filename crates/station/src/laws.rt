@@ -9,7 +9,7 @@ ghost use Rattle.console_link.specs.declared.console.Finished.{Finished};
 ghost use Rattle.console_link.specs.declared.lane.Lane.{Lane};
 ghost use Rattle.console_link.specs.Seats.{SameConsole, Ends};
 ghost use Rattle.event_history.specs.declared.event.Event.{Event};
-ghost use Rattle.event_history.specs.declared.event.Order.{Order};
+ghost use Rattle.operator_orders.specs.declared.order.Order.{Order};
 ghost use Rattle.plant_system.specs.declared.event.Reply.{Reply};
 ghost use Rattle.operator_console.specs.declared.console.Console.{Console as Operator};
 ghost use Rattle.operator_console.specs.declared.console.Finished.{Finished as Ended};

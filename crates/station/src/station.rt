@@ -7,7 +7,7 @@ ghost use Rattle.archive.specs.Records.{IsScanDue};
 ghost use Rattle.station.specs.Lanes.{numbers_of, numbers_in, links_of, links_in, left_in, finished_of, ended_of, is_within, has_seen_within, IsConsoleIn, IsEndIn, IsFresh, HasNotLooked, KeepsConsoles};
 ghost use Rattle.station.specs.Stations.{IsTurn, IsWhole, IsClosed, SameButRoom, AreBeginnings};
 ghost use mathlib.Core.List.{IsPrefix};
-ghost use Rattle.event_history.specs.declared.event.Order.{Order};
+ghost use Rattle.operator_orders.specs.declared.order.Order.{Order};
 ghost use Rattle.plant_system.specs.declared.event.Reply.{Reply};
 ghost use Rattle.operator_console.specs.declared.console.Finished.{Finished as Ended};
 ghost use Rattle.board_entries.specs.Entries.{entries_of, history_story};

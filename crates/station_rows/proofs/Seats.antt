@@ -4,7 +4,7 @@ use Rattle.std.proofs.lemmas.List.Elements.{All-nil, All-cons, All-head, All-tai
 use Rattle.console_link.specs.declared.console.Console.{Console as Link}
 use Rattle.console_link.specs.declared.lane.Lane.{Lane}
 use Rattle.console_link.specs.Seats.{SameConsole, Ends}
-use Rattle.event_history.specs.declared.event.Order.{Order}
+use Rattle.operator_orders.specs.declared.order.Order.{Order}
 use Rattle.operator_console.specs.declared.console.Console.{Console}
 use Rattle.operator_console.specs.declared.console.Finished.{Finished}
 use Rattle.plant_system.specs.declared.event.Reply.{Reply}

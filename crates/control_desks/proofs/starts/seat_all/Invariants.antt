@@ -1,6 +1,6 @@
 use Rattle.std.proofs.Common.{List}
 use Rattle.console_link.specs.declared.lane.Lane.{Lane}
-use Rattle.event_history.specs.declared.event.Order.{Order}
+use Rattle.operator_orders.specs.declared.order.Order.{Order}
 use Rattle.plant_system.specs.declared.event.Reply.{Reply}
 use Rattle.control_desks.specs.Seated.{AreOf, AreSeated}
 use Rattle.control_desks.proofs.starts.seat_all.Given as goal

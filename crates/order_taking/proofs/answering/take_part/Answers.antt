@@ -1,6 +1,6 @@
 use Rattle.std.proofs.Common.{false, ◌∷◌, [], ◌++◌, ◌∙◌, subst, arith, length-append}
 use Rattle.plant_config.specs.Plants.{PlainPlant}
-use Rattle.event_history.specs.declared.event.Order.{Order}
+use Rattle.operator_orders.specs.declared.order.Order.{Order}
 use Rattle.order_taking.specs.Turns.{Took, HasNoneToTake}
 use Rattle.order_taking.proofs.Takes.{took_more, chosen, refused_on}
 use Rattle.order_taking.proofs.answering.take_part.Goals as goal

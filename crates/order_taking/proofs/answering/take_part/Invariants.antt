@@ -1,5 +1,5 @@
 use Rattle.std.proofs.Common.{◌≡◌, List, length, false}
-use Rattle.event_history.specs.declared.event.Order.{Order}
+use Rattle.operator_orders.specs.declared.order.Order.{Order}
 use Rattle.order_taking.specs.Turns.{Took, UnlessRefused}
 use Rattle.order_taking.proofs.answering.take_part.Given as goal
 

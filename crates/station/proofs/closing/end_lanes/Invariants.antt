@@ -1,7 +1,7 @@
 use Rattle.std.proofs.Common.{◌≡◌, List, ◌++◌, All}
 use mathlib.Core.List.{IsPrefix}
 use Rattle.operator_console.specs.declared.console.Finished.{Finished as Ended}
-use Rattle.event_history.specs.declared.event.Order.{Order}
+use Rattle.operator_orders.specs.declared.order.Order.{Order}
 use Rattle.plant_system.specs.declared.event.Reply.{Reply}
 use Rattle.station.specs.Lanes.{links_in}
 use Rattle.station.specs.Closings.{AreEnded}

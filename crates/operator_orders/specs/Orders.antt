@@ -1,7 +1,7 @@
 -- Orders by their parts.
 use Rattle.std.specs.Prelude.{ℕ, Option}
 use Rattle.alarm_machine.specs.declared.states.Verb.{Verb}
-use Rattle.event_history.specs.declared.event.Order.{Order}
+use Rattle.operator_orders.specs.declared.order.Order.{Order}
 
 -- the order of a verb for a target: the number of an alarm or a program, none for one that isn't there
 abbrev pub order_with : Verb → Option ℕ → Order
