@@ -4,6 +4,8 @@ use Rattle.std.proofs.lemmas.List.{take_more, drop_more, drop_all, take-append-d
 use Rattle.std.proofs.lemmas.Bool.Decides.{nat_tests}
 use Rattle.command_text.specs.Words.{is_gap, at_gap, words_of}
 use Rattle.command_text.specs.Cuts.{split_word}
+use Rattle.std.specs.Str.{bytes_eq}
+use Rattle.std.specs.Cmp.Lexicographic.{pointwise}
 
 -- no byte separates words
 abbrev pub Solid : List ℕ → Type 0
@@ -65,3 +67,15 @@ words-gap b bs e = rw e refl
 -- some bytes are there
 pub some_bytes : (line : List ℕ) → eqb (length line) 0 ≡ false → 0 < length line
 some_bytes line h = grind (arith, nat_tests)
+
+-- ---- a word and a name
+
+either_way : (a b : ℕ) → eqb b a ≡ eqb a b
+either_way a b = grind (arith, nat_tests)
+
+-- a word as long as a name is that name just where it begins with it
+pub as_long : (word name : List ℕ) → length word ≡ length name → pointwise eqb name (take (length name) word) ≡ bytes_eq word name
+as_long [] [] e = refl
+as_long [] (b ∷ name) e = absurd (omega (arith, e))
+as_long (a ∷ word) [] e = absurd (omega (arith, e))
+as_long (a ∷ word) (b ∷ name) e = rw (either_way a b, as_long word name (omega (arith, e))) refl

@@ -13,6 +13,8 @@ use std::alloc::{AllocError, Global};
 use std::str;
 
 /// The number of bytes before the first one with which no name may go on.
+// Not inlined: among all that a pair takes, its loop would have to keep far more than a place.
+#[inline(never)]
 fn name_len(line: &[u8]) -> usize
     ensures within { result ≤ length line.now }
     ensures names { list_all is_name_byte (take result line.now) ≡ true }

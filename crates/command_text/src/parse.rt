@@ -6,7 +6,7 @@ use crate::command::Command;
 use crate::given::list_pairs;
 use crate::numbers::{number, short_number};
 use crate::pool::Pool;
-use crate::words::next_word;
+use crate::words::{is_word, next_word};
 use alarm_machine::Verb;
 use std::alloc::{AllocError, Global};
 
@@ -95,17 +95,17 @@ fn parse_alone<'a>(command: Command<'a>, words: &'a [u8]) -> Command<'a>
 fn verb_named(word: &[u8]) -> Option<Verb>
     ensures { result ≡ verb_named word.now }
 {
-    if word == b"ack".as_slice() {
+    if is_word(word, b"ack") {
         Some(Verb::Ack)
-    } else if word == b"reset".as_slice() {
+    } else if is_word(word, b"reset") {
         Some(Verb::Reset)
-    } else if word == b"unshelve".as_slice() {
+    } else if is_word(word, b"unshelve") {
         Some(Verb::Unshelve)
-    } else if word == b"remove".as_slice() {
+    } else if is_word(word, b"remove") {
         Some(Verb::Remove)
-    } else if word == b"return".as_slice() {
+    } else if is_word(word, b"return") {
         Some(Verb::PutBack)
-    } else if word == b"restart".as_slice() {
+    } else if is_word(word, b"restart") {
         Some(Verb::Restart)
     } else {
         None
@@ -122,16 +122,16 @@ fn parse_words<'a>(
 ) -> Result<Command<'a>, AllocError>
     ensures { IfOk result (λ c. plain_command c ≡ command_in (first.now ∷ words_of others.now)) }
 {
-    if first == b"scan".as_slice() {
+    if is_word(first, b"scan") {
         return parse_scan(alloc, pool, others);
     }
-    if first == b"shelve".as_slice() {
+    if is_word(first, b"shelve") {
         return Ok(parse_shelve(others));
     }
-    if first == b"list".as_slice() {
+    if is_word(first, b"list") {
         return Ok(parse_alone(Command::List, others));
     }
-    if first == b"journal".as_slice() {
+    if is_word(first, b"journal") {
         return Ok(parse_alone(Command::Journal, others));
     }
     match verb_named(first) {

@@ -1,4 +1,5 @@
 ghost use Rattle.std.specs.Prelude.{◌≡◌, ◌+◌, ◌<◌, ◌≤◌, [], ◌∷◌, length, MatchOption, false};
+ghost use Rattle.std.specs.Str.{bytes_eq};
 ghost use Rattle.command_text.specs.Words.{is_gap, at_gap, words_of};
 ghost use Rattle.command_text.specs.Cuts.{split_word};
 
@@ -49,4 +50,13 @@ pub(crate) fn next_word(line: &[u8]) -> Option<(&[u8], &[u8])>
         return None;
     }
     Some(split_word(line))
+}
+
+/// Whether a word is the name of a command.
+// The names are short and known here, so that tests of their bytes take the place of the call that `==` makes.
+#[inline(always)]
+pub(crate) fn is_word(word: &[u8], name: &[u8]) -> bool
+    ensures { result ≡ bytes_eq word.now name.now }
+{
+    word.len() == name.len() && word.starts_with(name)
 }
