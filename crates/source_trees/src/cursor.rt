@@ -2,62 +2,44 @@
 
 use plant_types::Text;
 use st_lexer::{Keyword, Symbol, Token, TokenKind};
-use std::alloc::{AllocError, Global};
-use token_causes::{kind_at, kind_before, span_of, word_at};
+use std::str;
+use token_causes::{kind_at, kind_before, part, span_of, word_at};
 
-/// What has more bytes isn't quoted.
+/// Of several tokens what has more bytes isn't quoted.
 const LONGEST_QUOTE: usize = 48;
 
 /// What is sought among tokens.
 #[derive(Clone, Copy, Drop)]
 pub enum Sought {
+    /// What stands at a byte, or behind it.
+    At(usize),
     Literal,
-    Operator,
+    /// NOT, or a minus before its operand.
+    Prefix,
+    /// An operator, from the end of what stands before it on.
+    Infix,
     /// What closes an index.
     CloseBracket,
 }
 
-/// Whether a keyword is an operator.
-fn is_operator_word(keyword: Keyword) -> bool {
-    matches!(
-        keyword,
-        Keyword::And | Keyword::Or | Keyword::Xor | Keyword::Not | Keyword::Mod
-    )
-}
-
-/// Whether a symbol is an operator.
-fn is_operator_symbol(symbol: Symbol) -> bool {
-    matches!(
-        symbol,
-        Symbol::AtMost
-            | Symbol::AtLeast
-            | Symbol::Unequal
-            | Symbol::Equal
-            | Symbol::Less
-            | Symbol::Greater
-            | Symbol::Plus
-            | Symbol::Minus
-            | Symbol::Times
-            | Symbol::Divide
-            | Symbol::Ampersand
-    )
-}
-
 /// Whether a token is what is sought.
-fn is_sought(sought: Sought, kind: TokenKind) -> bool {
-    match (sought, kind) {
-        (Sought::Operator, TokenKind::Keyword(keyword)) => is_operator_word(keyword),
-        (Sought::Operator, TokenKind::Symbol(symbol)) => is_operator_symbol(symbol),
-        (Sought::CloseBracket, TokenKind::Symbol(symbol)) => symbol == Symbol::CloseBracket,
-        (Sought::Literal, TokenKind::Keyword(Keyword::True | Keyword::False)) => true,
-        (
-            Sought::Literal,
-            TokenKind::Integer(_)
-            | TokenKind::Dint(_)
-            | TokenKind::Truth(_)
-            | TokenKind::Duration(_),
-        ) => true,
-        _ => false,
+fn is_sought(sought: Sought, token: &Token) -> bool {
+    match sought {
+        Sought::At(at) => token.from >= at,
+        Sought::Literal => matches!(
+            token.kind,
+            TokenKind::Keyword(Keyword::True | Keyword::False)
+                | TokenKind::Integer(_)
+                | TokenKind::Dint(_)
+                | TokenKind::Truth(_)
+                | TokenKind::Duration(_)
+        ),
+        Sought::Prefix => matches!(
+            token.kind,
+            TokenKind::Keyword(Keyword::Not) | TokenKind::Symbol(Symbol::Minus)
+        ),
+        Sought::Infix => !matches!(token.kind, TokenKind::Symbol(Symbol::Close)),
+        Sought::CloseBracket => matches!(token.kind, TokenKind::Symbol(Symbol::CloseBracket)),
     }
 }
 
@@ -78,7 +60,7 @@ fn unmatched(tokens: &[Token], first: usize, behind: usize) -> (usize, usize) {
 }
 
 /// The tokens of a source, and how far a walk of its tree has come.
-#[derive(Drop)]
+#[derive(Clone, Copy, Drop)]
 pub struct Cursor<'t> {
     text: &'t [u8],
     tokens: &'t [Token],
@@ -95,31 +77,20 @@ impl<'t> Cursor<'t> {
         }
     }
 
-    /// Goes past a name of the tree, and returns the number of its token.
-    pub fn pass_name(&mut self, name: &Text) -> usize {
-        let at = name.at() as usize;
-        for number in self.next..self.tokens.len() {
-            if let Some(token) = self.tokens.get(number) {
-                if token.from >= at {
-                    self.next = number.saturating_add(1);
-                    return number;
-                }
-            }
-        }
-        self.tokens.len()
+    /// Goes past the next token that is sought, and returns its number.
+    pub fn pass(&mut self, sought: Sought) -> usize {
+        let rest = self.tokens.get(self.next..).unwrap_or(&[]);
+        let Some(more) = rest.iter().position(|token| is_sought(sought, token)) else {
+            return self.tokens.len();
+        };
+        let number = self.next.saturating_add(more);
+        self.next = number.saturating_add(1);
+        number
     }
 
-    /// Goes past the next literal or operator, and returns its number.
-    pub fn pass(&mut self, sought: Sought) -> usize {
-        for number in self.next..self.tokens.len() {
-            if let Some(token) = self.tokens.get(number) {
-                if is_sought(sought, token.kind) {
-                    self.next = number.saturating_add(1);
-                    return number;
-                }
-            }
-        }
-        self.tokens.len()
+    /// Goes past a name of the tree, and returns the number of its token.
+    pub fn pass_name(&mut self, name: &Text) -> usize {
+        self.pass(Sought::At(name.at() as usize))
     }
 
     /// Goes past a label of a CASE, and returns the number of its first literal.
@@ -153,24 +124,23 @@ impl<'t> Cursor<'t> {
     }
 
     /// The bytes of tokens, from the one of a number to before another, with the parentheses around them that belong to those among them.
-    pub fn marks(&self, first: usize, behind: usize) -> (usize, usize) {
+    pub fn marks(&self, (first, behind): (usize, usize)) -> (usize, usize) {
         let (closed, open) = unmatched(self.tokens, first, behind);
         let first = first.saturating_sub(closed);
         let behind = behind.saturating_add(open);
         span_of(self.text, self.tokens, first, behind)
     }
 
-    /// These tokens in quotes, as they are written; `this` where they are long or in several lines.
-    pub fn quoted(&self, alloc: Global, first: usize, behind: usize) -> Result<String, AllocError> {
-        let (from, until) = self.marks(first, behind);
-        let bytes = self.text.get(from..until).unwrap_or(b"");
+    /// These tokens as they are written; empty where several are long or in several lines.
+    pub fn quote(&self, (first, behind): (usize, usize)) -> &'t str {
+        let (from, until) = self.marks((first, behind));
+        let bytes = part(self.text, from, until);
         let is_short = bytes.len() <= LONGEST_QUOTE && !bytes.contains(&b'\n');
-        if !is_short || bytes.is_empty() {
-            return String::from_str(alloc, "this");
+        if is_short || behind == first.saturating_add(1) {
+            str::from_utf8(bytes).unwrap_or("")
+        } else {
+            ""
         }
-        let text = String::from_utf8_lossy(alloc, bytes)?;
-        let text = text.as_str();
-        format!(in alloc; "'{text}'")
     }
 
     /// The number of the line of a byte, from 1.

@@ -1,76 +1,48 @@
 //! Why a name in the alarm database is no BOOL global's (C14).
 
 use crate::body::kind_text;
-use crate::near::Nearest;
-use crate::search::{global_named, owner_of};
+use crate::entries::{Entry, entries_of, owner_of};
+use crate::hints::nearest_global;
+use crate::texts::filled;
 use plant_types::{Kind, same_word};
-use st_names::sort_kind;
-use st_parser::{Declaration, Sort, Unit};
+use st_parser::{Sort, Unit};
 use std::alloc::{AllocError, Global};
 
-/// Offers the names of a declaration of BOOL globals.
-fn offer<'n>(nearest: &mut Nearest<'n>, declaration: &'n Declaration) {
-    if sort_kind(&declaration.sort) == Some(Kind::Bool) {
-        for name in &declaration.names {
-            nearest.offer(name.as_str());
-        }
-    }
-}
-
-/// The nearest name of a BOOL global.
-fn nearest_global<'n>(units: &'n [Unit], name: &'n str) -> Nearest<'n> {
-    let mut nearest = Nearest::to(name);
-    for unit in units {
-        for section in &unit.globals {
-            for declaration in &section.declarations {
-                offer(&mut nearest, declaration);
-            }
-        }
-    }
-    nearest
-}
-
-/// What is said of a name that isn't declared as a global.
-fn undeclared<'a>(alloc: Global, units: &'a [Unit], name: &'a str) -> Result<String, AllocError> {
-    let owner = owner_of(units, name);
+/// What is said of a name that no global has, in texts with a hole, and the word in it.
+fn undeclared<'t>(entries: &[Entry<'t>], name: &'t str) -> ([&'static str; 2], &'t str) {
+    let owner = owner_of(entries, name);
     if !owner.is_empty() {
-        return format!(in alloc;
-            "'{name}' is a variable of {owner} alone, and an alarm watches BOOL globals (VAR_GLOBAL)"
-        );
+        let said = "@ is a variable of % alone, and an alarm watches BOOL globals (VAR_GLOBAL)";
+        return ([said, ""], owner);
     }
     if same_word(name.as_bytes(), b"FALSE") {
-        return format!(in alloc;
-            "no BOOL global is called '{name}'; where nothing suppresses the alarm the field is empty"
-        );
+        let more = "; where nothing suppresses the alarm the field is empty";
+        return (["no BOOL global is called @", more], "");
     }
-    let hint = nearest_global(units, name).hint(alloc)?;
-    let hint = hint.as_str();
-    format!(in alloc; "no BOOL global is called '{name}'{hint}")
-}
-
-/// What is said of a global that is no BOOL; empty where it may be one.
-fn other_sort(alloc: Global, name: &str, sort: &Sort) -> Result<String, AllocError> {
-    match sort {
-        Sort::Kind(kind) => {
-            let kind = kind_text(*kind);
-            format!(in alloc; "'{name}' is a {kind}, and an alarm watches BOOL globals")
-        }
-        Sort::Array(_, _) => format!(in alloc;
-            "'{name}' is an array, and an alarm watches BOOL globals: assign an element to one"
-        ),
-        Sort::Block(_) => Ok(String::new(alloc)),
-    }
+    let nearest = nearest_global(entries, name, Some(Kind::Bool));
+    let hint = nearest.hint();
+    (["no BOOL global is called @", hint.0], hint.1)
 }
 
 /// Why a name is no BOOL global's, in a plant of units.
-pub fn no_bool_global(alloc: Global, units: &[Unit], name: &str) -> Result<String, AllocError> {
-    let Some(declaration) = global_named(units, name) else {
-        return undeclared(alloc, units, name);
+pub fn no_bool_global<'t>(
+    alloc: Global,
+    units: &'t [Unit],
+    name: &'t str,
+) -> Result<String, AllocError> {
+    let entries = entries_of(alloc, units)?;
+    let mut globals = entries.iter().filter(|entry| entry.is_global(None));
+    let global = globals.find(|entry| entry.is_called(name));
+    let (texts, word) = match global.and_then(|entry| entry.sort()) {
+        Some(Sort::Kind(kind)) => {
+            let said = "@ is a %, and an alarm watches BOOL globals";
+            ([said, ""], kind_text(*kind))
+        }
+        Some(Sort::Array(_, _)) => {
+            let more = ": assign an element to one";
+            (["@ is an array, and an alarm watches BOOL globals", more], "")
+        }
+        Some(Sort::Block(_)) | None => undeclared(entries.as_slice(), name),
     };
-    let said = other_sort(alloc, name, &declaration.sort)?;
-    if said.is_empty() {
-        undeclared(alloc, units, name)
-    } else {
-        Ok(said)
-    }
+    filled(alloc, &texts, name, &[word])
 }
