@@ -82,7 +82,8 @@ impl<'p> Looking<'p> {
                     "{word}[{at}] is outside {low}..{high}, and traps here"
                 );
                 if let Some(said) = self.got(said) {
-                    self.warn(self.cursor.mark(number), "%", ("", &[said.as_str()]));
+                    let mark = self.cursor.mark(number);
+                    self.warn(mark, "%", ("", &[said.as_str()]));
                 }
             }
         }

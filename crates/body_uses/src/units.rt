@@ -31,9 +31,7 @@ fn own_doubt(declared: &Declared<'_>, uses: Uses) -> &'static str {
         (_, SectionKind::Local | SectionKind::Input) if !uses.is_read => {
             "nothing reads the variable @"
         }
-        (_, SectionKind::Local) if is_idle => {
-            "nothing assigns the variable @, which is read"
-        }
+        (_, SectionKind::Local) if is_idle => { "nothing assigns the variable @, which is read" }
         (_, SectionKind::Output) if is_idle => "nothing assigns the output @",
         _ => "",
     }

@@ -47,7 +47,12 @@ impl<'t> Teller<'t> {
             None | Some(Kind::Dint) => {}
             Some(kind) => {
                 let text = "the index of '%' is a %, and an index is a DINT";
-                self.say(ARRAYS, index.tokens, text, &[name.as_str(), kind_text(kind)]);
+                self.say(
+                    ARRAYS,
+                    index.tokens,
+                    text,
+                    &[name.as_str(), kind_text(kind)],
+                );
             }
         }
     }

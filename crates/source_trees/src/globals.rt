@@ -8,20 +8,30 @@ use plant_types::{Kind, same_word};
 use st_parser::{Sort, Unit};
 use std::alloc::{AllocError, Global};
 
-/// What is said of a name that no global has, in texts with a hole, and the word in it.
-fn undeclared<'t>(entries: &[Entry<'t>], name: &'t str) -> ([&'static str; 2], &'t str) {
+/// What is said of a name that no global has, in two texts with a hole, and the word in it.
+fn undeclared<'t>(entries: &[Entry<'t>], name: &'t str) -> (&'static str, &'static str, &'t str) {
     let owner = owner_of(entries, name);
     if !owner.is_empty() {
         let said = "@ is a variable of % alone, and an alarm watches BOOL globals (VAR_GLOBAL)";
-        return ([said, ""], owner);
+        return (said, "", owner);
     }
+    let said = "no BOOL global is called @";
     if same_word(name.as_bytes(), b"FALSE") {
         let more = "; where nothing suppresses the alarm the field is empty";
-        return (["no BOOL global is called @", more], "");
+        return (said, more, "");
     }
-    let nearest = nearest_global(entries, name, Some(Kind::Bool));
-    let hint = nearest.hint();
-    (["no BOOL global is called @", hint.0], hint.1)
+    let hint = nearest_global(entries, name, Some(Kind::Bool)).hint();
+    (said, hint.0, hint.1)
+}
+
+/// What the global of a name is declared as; `None` if there is none.
+fn sort_of<'t>(entries: &[Entry<'t>], name: &str) -> Option<&'t Sort> {
+    for entry in entries {
+        if entry.is_global(None) && entry.is_called(name) {
+            return entry.sort();
+        }
+    }
+    None
 }
 
 /// Why a name is no BOOL global's, in a plant of units.
@@ -31,18 +41,17 @@ pub fn no_bool_global<'t>(
     name: &'t str,
 ) -> Result<String, AllocError> {
     let entries = entries_of(alloc, units)?;
-    let mut globals = entries.iter().filter(|entry| entry.is_global(None));
-    let global = globals.find(|entry| entry.is_called(name));
-    let (texts, word) = match global.and_then(|entry| entry.sort()) {
+    let (said, more, word) = match sort_of(entries.as_slice(), name) {
         Some(Sort::Kind(kind)) => {
             let said = "@ is a %, and an alarm watches BOOL globals";
-            ([said, ""], kind_text(*kind))
+            (said, "", kind_text(*kind))
         }
         Some(Sort::Array(_, _)) => {
-            let more = ": assign an element to one";
-            (["@ is an array, and an alarm watches BOOL globals", more], "")
+            let said = "@ is an array, and an alarm watches BOOL globals";
+            (said, ": assign an element to one", "")
         }
-        Some(Sort::Block(_)) | None => undeclared(entries.as_slice(), name),
+        Some(Sort::Block(_)) => undeclared(entries.as_slice(), name),
+        None => undeclared(entries.as_slice(), name),
     };
-    filled(alloc, &texts, name, &[word])
+    filled(alloc, &[said, more], name, &[word])
 }
