@@ -6,10 +6,9 @@ use crate::totals::too_much;
 use source_trees::{
     Entry, Form, Source, Step, entries_of, filled, mark_of, sources_of, steps_of, units_of,
 };
-use st_lexer::{Keyword, TokenKind};
 use st_parser::{Pou, SectionKind, Sort};
 use std::alloc::{AllocError, Global};
-use token_causes::{Cause, cause_at, kind_at, span_of};
+use token_causes::{Cause, cause_at, sign_at, span_of};
 
 /// Where the limits of the language stand.
 pub const LIMITS: &str = "docs/LANGUAGE.md, \"Limits (this profile)\"";
@@ -23,7 +22,7 @@ pub fn for_mark(source: &Source<'_>, at: usize) -> (usize, usize) {
     let variable = tokens.iter().position(|token| token.from >= at);
     let variable = variable.unwrap_or(0);
     for number in variable..tokens.len() {
-        if let Some(TokenKind::Keyword(Keyword::By | Keyword::Do)) = kind_at(tokens, number) {
+        if matches!(sign_at(tokens, number), "BY" | "DO") {
             return span_of(source.text, tokens, variable.saturating_sub(1), number);
         }
     }

@@ -1,9 +1,9 @@
 //! Where the words, literals and operators of a tree stand: a walk of the tree in order of text goes along the tokens of its source.
 
 use plant_types::Text;
-use st_lexer::{Keyword, Symbol, Token, TokenKind};
+use st_lexer::Token;
 use std::str;
-use token_causes::{kind_at, kind_before, part, span_of, word_at};
+use token_causes::{part, sign_at, sign_before, sign_of, span_of, word_at};
 
 /// Of several tokens what has more bytes isn't quoted.
 const LONGEST_QUOTE: usize = 48;
@@ -24,22 +24,13 @@ pub enum Sought {
 
 /// Whether a token is what is sought.
 fn is_sought(sought: Sought, token: &Token) -> bool {
+    let sign = sign_of(token.kind);
     match sought {
         Sought::At(at) => token.from >= at,
-        Sought::Literal => matches!(
-            token.kind,
-            TokenKind::Keyword(Keyword::True | Keyword::False)
-                | TokenKind::Integer(_)
-                | TokenKind::Dint(_)
-                | TokenKind::Truth(_)
-                | TokenKind::Duration(_)
-        ),
-        Sought::Prefix => matches!(
-            token.kind,
-            TokenKind::Keyword(Keyword::Not) | TokenKind::Symbol(Symbol::Minus)
-        ),
-        Sought::Infix => !matches!(token.kind, TokenKind::Symbol(Symbol::Close)),
-        Sought::CloseBracket => matches!(token.kind, TokenKind::Symbol(Symbol::CloseBracket)),
+        Sought::Literal => matches!(sign, "TRUE" | "FALSE" | "int" | "literal"),
+        Sought::Prefix => matches!(sign, "NOT" | "-"),
+        Sought::Infix => sign != ")",
+        Sought::CloseBracket => sign == "]",
     }
 }
 
@@ -47,12 +38,10 @@ fn is_sought(sought: Sought, token: &Token) -> bool {
 fn unmatched(tokens: &[Token], first: usize, behind: usize) -> (usize, usize) {
     let (mut closed, mut open) = (0usize, 0usize);
     for number in first..behind {
-        match kind_at(tokens, number) {
-            Some(TokenKind::Symbol(Symbol::Open)) => open = open.saturating_add(1),
-            Some(TokenKind::Symbol(Symbol::Close)) if open == 0 => {
-                closed = closed.saturating_add(1);
-            }
-            Some(TokenKind::Symbol(Symbol::Close)) => open = open.saturating_sub(1),
+        match sign_at(tokens, number) {
+            "(" => open = open.saturating_add(1),
+            ")" if open == 0 => closed = closed.saturating_add(1),
+            ")" => open = open.saturating_sub(1),
             _ => {}
         }
     }
@@ -96,7 +85,7 @@ impl<'t> Cursor<'t> {
     /// Goes past a label of a CASE, and returns the number of its first literal.
     pub fn pass_label(&mut self) -> usize {
         let number = self.pass(Sought::Literal);
-        if kind_at(self.tokens, self.next) == Some(TokenKind::Symbol(Symbol::Range)) {
+        if sign_at(self.tokens, self.next) == ".." {
             self.pass(Sought::Literal);
         }
         number
@@ -104,9 +93,8 @@ impl<'t> Cursor<'t> {
 
     /// The number of the first token of a literal that ends with the one of a number: its minus, where it has one.
     pub fn first_of(&self, number: usize, is_negative: bool) -> usize {
-        let is_plain = matches!(kind_at(self.tokens, number), Some(TokenKind::Integer(_)));
-        let before = kind_before(self.tokens, number, 1);
-        if is_negative && is_plain && before == Some(TokenKind::Symbol(Symbol::Minus)) {
+        let is_plain = sign_at(self.tokens, number) == "int";
+        if is_negative && is_plain && sign_before(self.tokens, number, 1) == "-" {
             number.saturating_sub(1)
         } else {
             number

@@ -1,11 +1,11 @@
 //! The inputs and outputs of blocks.
 
-use crate::near::{Hint, Nearest};
 use crate::trees::Trees;
 use plant_types::Text;
 use st_names::declared_in;
 use st_parser::SectionKind;
 use std::alloc::AllocError;
+use token_causes::{Hint, Nearest};
 
 /// How a name behind a call's parenthesis or an instance's point is used.
 #[derive(Clone, Copy, PartialEq, Eq, Drop)]
