@@ -71,6 +71,7 @@ impl<'p> Looking<'p> {
     }
 
     /// Goes through the name and the index of an element, and tells of an index that is a literal outside of the bounds of the array.
+    #[cycle(expressions)]
     fn element(&mut self, name: &Text, index: &Expr<Text>) {
         let number = self.cursor.pass_name(name);
         let array = self.find(name.as_str()).unwrap_or(self.entries.len());
@@ -92,6 +93,7 @@ impl<'p> Looking<'p> {
     }
 
     /// Goes through an expression, and tells where it divides by a literal 0.
+    #[cycle(expressions)]
     fn expr(&mut self, expr: &Expr<Text>) {
         match expr {
             Expr::Literal(_) => {

@@ -46,18 +46,19 @@ impl<'t> Teller<'t> {
         match index.kind {
             None | Some(Kind::Dint) => {}
             Some(kind) => {
-                let text = "the index of '%' is a %, and an index is a DINT";
-                self.say(
-                    ARRAYS,
-                    index.tokens,
-                    text,
-                    &[name.as_str(), kind_text(kind)],
+                let name = name.as_str();
+                let kind = kind_text(kind);
+                let text = format!(in self.alloc;
+                    "the index of '{name}' is a {kind}, and an index is a DINT"
                 );
+                let text = self.made(text);
+                self.say(ARRAYS, index.tokens, text.as_str(), &[]);
             }
         }
     }
 
     /// Walks an element of an array; tells where its name is that of no array.
+    #[cycle(expressions)]
     pub fn element(&mut self, name: &'t Text, index: &'t Expr<Text>) -> Part {
         let first = self.cursor.pass_name(name);
         let is_known = self.is_known(name, first, Wanted::Array);

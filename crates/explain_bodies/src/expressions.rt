@@ -157,6 +157,7 @@ impl<'t> Teller<'t> {
     }
 
     /// Walks an expression; a name that isn't there may be one that is what is wanted.
+    #[cycle(expressions)]
     pub fn expr(&mut self, expr: &'t Expr<Text>, wanted: Wanted) -> Part {
         match expr {
             Expr::Literal(literal) => self.literal(*literal),

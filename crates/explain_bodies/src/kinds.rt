@@ -98,36 +98,38 @@ impl<'t> Teller<'t> {
         } else {
             "output"
         };
-        let other = other_use(self.plant, word, name, member);
         let members = members_of(self.plant, word, name, member);
         let Some((list, hint)) = self.told.got(members) else {
             return;
         };
-        let (text, words) = if !other.is_empty() {
-            ("block % has no % @: %", [other, ""])
-        } else if list.is_empty() {
-            ("block % has no % @, since it has none", ["", ""])
+        let other = other_use(self.plant, word, name, member);
+        if !other.is_empty() {
+            let block = word.as_str();
+            let text = format!(in self.alloc; "block {block} has no {what} @: {other}");
+            let text = self.made(text);
+            return self.say(MEMBERS, alone(number), text.as_str(), &[]);
+        }
+        let text = if list.is_empty() {
+            "block % has no % @, since it has none"
         } else {
-            ("block % has no % @; it has:%", [list.as_str(), hint.1])
+            "block % has no % @; it has:%%"
         };
-        let more = if other.is_empty() { hint.0 } else { "" };
-        let words = [word.as_str(), what, words[0], words[1]];
-        self.tell(MEMBERS, alone(number), [text, more], &words);
+        let words = [word.as_str(), what, list.as_str(), hint.as_str()];
+        self.say(MEMBERS, alone(number), text, &words);
     }
 
     /// Tells of a part that isn't of the kind that it has to be, for what takes it.
     pub fn tell_unfit(&mut self, part: &Part, wanted: Kind, taker: Option<&Text>) {
         let (kind, found, more) = (kind_text(wanted), kind_of(part), beside(wanted, part));
-        match taker {
+        let text = match taker {
             Some(name) => {
-                let words = [name.as_str(), kind, found, more];
-                self.say(KINDS, part.tokens, "'%' is a %, and @ is a %%", &words);
+                let name = name.as_str();
+                format!(in self.alloc; "'{name}' is a {kind}, and @ is a {found}{more}")
             }
-            None => {
-                let text = "a % is wanted here, and @ is a %%";
-                self.say(KINDS, part.tokens, text, &[kind, found, more]);
-            }
-        }
+            None => format!(in self.alloc; "a {kind} is wanted here, and @ is a {found}{more}"),
+        };
+        let text = self.made(text);
+        self.say(KINDS, part.tokens, text.as_str(), &[]);
     }
 
     /// Tells of an instance that is read or assigned, at the token of a number.
@@ -163,9 +165,13 @@ impl<'t> Teller<'t> {
             None => part.kind != Some(Kind::Bool),
         };
         if !is_fit {
-            let more = beside_operand(wanted, part);
-            let words = [self.cursor.word(number), takes, side, kind_of(part), more];
-            self.say(KINDS, part.tokens, "'%' takes %, and @% is a %%", &words);
+            let word = self.cursor.word(number);
+            let (found, more) = (kind_of(part), beside_operand(wanted, part));
+            let text = format!(in self.alloc;
+                "'{word}' takes {takes}, and @{side} is a {found}{more}"
+            );
+            let text = self.made(text);
+            self.say(KINDS, part.tokens, text.as_str(), &[]);
         }
     }
 
@@ -183,8 +189,12 @@ impl<'t> Teller<'t> {
         let (Some(one), Some(other)) = (left.kind, right.kind) else {
             return;
         };
-        let (more, last) = (beside(one, right), beside(other, left));
-        let words = [kind_text(one), kind_text(other), more, last];
+        let words = [
+            kind_text(one),
+            kind_text(other),
+            beside(one, right),
+            beside(other, left),
+        ];
         let text = "@ compares two of one kind, and here are a % and a %%%";
         self.say(KINDS, alone(number), text, &words);
     }

@@ -113,9 +113,13 @@ impl<'t> Teller<'t> {
         let target = self.target(variable, number, kind.map_or(Wanted::Target, Wanted::Of));
         if let (Some(kind), Some(target)) = (kind, target) {
             if kind != target {
-                let text = "@ is a %, and '%', which takes it, is a %";
-                let words = [kind_text(kind), self.cursor.word(number), kind_text(target)];
-                self.say(KINDS, alone(output), text, &words);
+                let word = self.cursor.word(number);
+                let (kind, other) = (kind_text(kind), kind_text(target));
+                let text = format!(in self.alloc;
+                    "@ is a {kind}, and '{word}', which takes it, is a {other}"
+                );
+                let text = self.made(text);
+                self.say(KINDS, alone(output), text.as_str(), &[]);
             }
         }
     }

@@ -1,7 +1,9 @@
 //! All units of a plant are walked.
 
 use crate::teller::Teller;
-use source_trees::{Body, Cursor, Mistake, Rule, Told, Trees, sources_of, steps_of, units_of};
+use source_trees::{
+    Body, Cursor, Mistake, Rule, Source, Told, Trees, sources_of, steps_of, units_of,
+};
 use st_names::SharedNames;
 use st_parser::{Pou, Section, Unit};
 use std::alloc::{AllocError, Global};
@@ -71,6 +73,30 @@ fn mistakes_in<'t>(plant: &'t Trees<'t>, refused: Rule) -> Result<Vec<Mistake>, 
     told.into_list(alloc)
 }
 
+/// The mistakes of units whose names are known.
+fn in_units(
+    alloc: Global,
+    sources: &[Source<'_>],
+    units: &[Unit],
+    shared: &SharedNames<'_>,
+    refused: Rule,
+) -> Result<Vec<Mistake>, AllocError> {
+    let standard = SharedNames::new(alloc, &[])?;
+    let plant = Trees::new(alloc, sources, units, shared, &standard)?;
+    mistakes_in(&plant, refused)
+}
+
+/// The mistakes of sources with their units.
+fn in_sources(
+    alloc: Global,
+    sources: &[Source<'_>],
+    units: &[Unit],
+    refused: Rule,
+) -> Result<Vec<Mistake>, AllocError> {
+    let shared = SharedNames::new(alloc, units)?;
+    in_units(alloc, sources, units, &shared, refused)
+}
+
 /// What is wrong in the units of the sources of a plant, that is refused by a rule: first the first mistake that breaks this rule, and then the others in
 /// order of text, 20 in all at most. None where a source isn't spelled as the grammar says.
 pub fn mistakes<'a>(
@@ -80,14 +106,5 @@ pub fn mistakes<'a>(
 ) -> Result<Vec<Mistake>, AllocError> {
     let sources = sources_of(alloc, texts)?;
     let units = units_of(alloc, sources.as_slice())?;
-    let shared = SharedNames::new(alloc, units.as_slice())?;
-    let standard = SharedNames::new(alloc, &[])?;
-    let plant = Trees::new(
-        alloc,
-        sources.as_slice(),
-        units.as_slice(),
-        &shared,
-        &standard,
-    )?;
-    mistakes_in(&plant, refused)
+    in_sources(alloc, sources.as_slice(), units.as_slice(), refused)
 }

@@ -82,35 +82,35 @@ fn told(
     total: u64,
 ) -> Result<Found, AllocError> {
     let (mark, part, count) = told_part(measure, source, (entry, weight));
-    let (total, own) = (written(alloc, total)?, written(alloc, weight.total)?);
-    let count = written(alloc, count)?;
-    let (total, own, name) = (total.as_str(), own.as_str(), entry.name.as_str());
-    let (text, more, words) = match measure {
+    let (text, more) = match measure {
         Measure::Programs => (
             "there are % programs, and at most 512 are allowed: with ",
             "this one they are too many",
-            [total, "", "", ""],
         ),
-        Measure::Slots if entry.is_global(None) => {
-            (SLOTS, "this global they are too many", [total, "", "", ""])
-        }
-        Measure::Slots => (
-            SLOTS,
-            "the program '%', which has %, they are too many",
-            [total, name, own, count.as_str()],
-        ),
+        Measure::Slots if entry.is_global(None) => (SLOTS, "this global they are too many"),
+        Measure::Slots => (SLOTS, "the program '%', which has %, they are too many"),
         Measure::Size => (
             "the programs together have the size %, and at most 1000000 is allowed: with ",
             "the program '%', which has %, they are too large",
-            [total, name, own, count.as_str()],
         ),
         _ => (
             "a scan of the program '%' costs %",
             ", and at most 2000000 is allowed",
-            [name, own, count.as_str(), ""],
         ),
     };
-    let said = filled(alloc, &[text, more, part], "", &words)?;
+    let total = written(alloc, total)?;
+    let own = written(alloc, weight.total)?;
+    let count = written(alloc, count)?;
+    let words = [
+        total.as_str(),
+        entry.name.as_str(),
+        own.as_str(),
+        count.as_str(),
+    ];
+    let words = words
+        .get(usize::from(measure == Measure::Cost)..)
+        .unwrap_or(&[]);
+    let said = filled(alloc, &[text, more, part], "", words)?;
     let page = if measure == Measure::Cost {
         COSTS
     } else {

@@ -1,11 +1,12 @@
 //! The inputs and outputs of blocks.
 
+use crate::texts::filled;
 use crate::trees::Trees;
 use plant_types::Text;
 use st_names::declared_in;
 use st_parser::SectionKind;
 use std::alloc::AllocError;
-use token_causes::{Hint, Nearest};
+use token_causes::Nearest;
 
 /// How a name behind a call's parenthesis or an instance's point is used.
 #[derive(Clone, Copy, PartialEq, Eq, Drop)]
@@ -54,7 +55,7 @@ pub fn members_of<'t>(
     word: &Text,
     name: &'t Text,
     member: Member,
-) -> Result<(String, Hint<'t>), AllocError> {
+) -> Result<(String, String), AllocError> {
     let mut names = Vec::new(plant.alloc);
     add_members(plant, word, member == Member::Given, &mut names)?;
     let mut list = String::new(plant.alloc);
@@ -64,7 +65,9 @@ pub fn members_of<'t>(
         list.push_str(name)?;
         nearest.offer(name);
     }
-    Ok((list, nearest.hint()))
+    let hint = nearest.hint();
+    let hint = filled(plant.alloc, &[hint.0], "", &[hint.1])?;
+    Ok((list, hint))
 }
 
 /// What is said beside a name that a block has, but not for this use; empty where it hasn't it.
