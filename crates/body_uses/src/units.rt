@@ -124,10 +124,12 @@ impl<'p> Looking<'p> {
 
     /// Tells of what a unit declares itself.
     fn end_unit(&mut self) {
+        let entries = self.entries;
         for number in self.first..self.first.saturating_add(self.own.len()) {
-            if let (Some(entry), Some(uses)) = (self.entries.get(number), self.uses.get(number)) {
+            let uses = self.uses.get(number).copied();
+            if let (Some(entry), Some(uses)) = (entries.get(number), uses) {
                 if let Form::Declared(declared) = &entry.form {
-                    self.doubt(entry, own_doubt(declared, *uses));
+                    self.doubt(entry, own_doubt(declared, uses));
                 }
             }
         }
