@@ -36,3 +36,30 @@ pub fn part(text: &[u8], from: usize, until: usize) -> &[u8] {
         None => b"",
     }
 }
+
+/// The number of the byte at a line and a column of a text, which count from 1; that of its end if it has no such line. A byte order mark at its start isn't
+/// counted.
+pub fn byte_at(text: &[u8], line: usize, column: usize) -> usize {
+    let mut lines = 1usize;
+    let mut start = if text.starts_with(&[0xEF, 0xBB, 0xBF]) {
+        3
+    } else {
+        0
+    };
+    for (i, byte) in text.iter().enumerate() {
+        if lines >= line {
+            break;
+        }
+        if *byte == b'\n' {
+            lines = lines.saturating_add(1);
+            start = i.saturating_add(1);
+        }
+    }
+    if lines < line {
+        return text.len();
+    }
+    start
+        .saturating_add(column)
+        .saturating_sub(1)
+        .min(text.len())
+}

@@ -1,7 +1,6 @@
 //! A name that is near another one.
 
 use plant_types::same_word;
-use std::alloc::{AllocError, Global};
 
 /// With how many letters two words both begin.
 fn same_len(a: &[u8], b: &[u8]) -> usize {
@@ -39,7 +38,7 @@ fn is_swapped(a: &[u8], b: &[u8]) -> bool {
 }
 
 /// Whether a letter put in, left out or changed, or two changed about, makes one word of another, or none.
-fn within_one(a: &[u8], b: &[u8]) -> bool {
+pub fn within_one(a: &[u8], b: &[u8]) -> bool {
     let (a, b) = rests(a, b);
     same_word(tail(a), tail(b))
         || same_word(tail(a), b)
@@ -53,11 +52,15 @@ fn within_two(a: &[u8], b: &[u8]) -> bool {
     within_one(tail(a), tail(b)) || within_one(tail(a), b) || within_one(a, tail(b))
 }
 
+/// What is said beside a name that isn't there: a text with holes, and the words in these.
+pub type Hint<'t> = (&'static str, &'t str, &'t str);
+
 /// A name that is sought among others: the nearest so far.
 #[derive(Clone, Copy, Drop)]
 pub struct Nearest<'a> {
     word: &'a str,
-    best: &'a str,
+    /// The nearest name; empty where none is near.
+    pub best: &'a str,
     is_close: bool,
 }
 
@@ -71,39 +74,28 @@ impl<'a> Nearest<'a> {
         }
     }
 
-    /// Whether a name is so near that it may be meant. Words of one letter or two have none that is near, nor have those of more than 64.
-    pub fn is_near(&self, name: &str) -> bool {
+    /// Takes a name that may be meant, where it is nearer than those before; returns whether it is. Words of one letter or two have none that is near, nor have
+    /// those of more than 64.
+    pub fn offer(&mut self, name: &'a str) -> bool {
         let (word, bytes) = (self.word.as_bytes(), name.as_bytes());
-        if word.len() < 3 || word.len() > 64 || bytes.len() > 64 {
+        if self.is_close || word.len() < 3 || word.len() > 64 || bytes.len() > 64 {
             return false;
         }
-        within_one(word, bytes) || (word.len() > 5 && within_two(word, bytes))
-    }
-
-    /// Takes a name that may be meant.
-    pub fn offer(&mut self, name: &'a str) {
-        if self.is_close || !self.is_near(name) {
-            return;
-        }
-        if within_one(self.word.as_bytes(), name.as_bytes()) {
-            self.best = name;
-            self.is_close = true;
-        } else if self.best.is_empty() {
+        self.is_close = within_one(word, bytes);
+        let is_open = self.best.is_empty() && word.len() > 5;
+        let is_nearer = self.is_close || (is_open && within_two(word, bytes));
+        if is_nearer {
             self.best = name;
         }
+        is_nearer
     }
 
-    /// The nearest name; empty where none is near.
-    pub fn best(&self) -> &'a str {
-        self.best
-    }
-
-    /// A question for the nearest name; empty where none is near. Fails if allocation fails.
-    pub fn hint(&self, alloc: Global) -> Result<String, AllocError> {
-        let best = self.best;
-        if best.is_empty() {
-            return Ok(String::new(alloc));
+    /// A question for the nearest name; empty where none is near.
+    pub fn hint(&self) -> Hint<'a> {
+        if self.best.is_empty() {
+            ("", "", "")
+        } else {
+            ("; did you mean '%'?", self.best, "")
         }
-        format!(in alloc; "; did you mean '{best}'?")
     }
 }
