@@ -31,19 +31,15 @@ fn comment_at(text: &[u8], from: usize) -> Option<(usize, Option<usize>)> {
         if rest.starts_with(opens) {
             let inside = from.saturating_add(2);
             let end = find_from(text, inside, closes)?;
-            let body = text.get(..end).unwrap_or(b"");
-            let inner = find_from(body, inside, opens);
+            let inner = find_from(text.get(..end).unwrap_or(b""), inside, opens);
             let before = text.get(inside..inner.unwrap_or(inside)).unwrap_or(b"");
-            let swallows = before.contains(&b';');
-            return Some((end.saturating_add(2), if swallows { inner } else { None }));
+            return Some((
+                end.saturating_add(2),
+                inner.filter(|_| before.contains(&b';')),
+            ));
         }
     }
     None
-}
-
-/// Where a line ends, from a byte on.
-fn line_end(text: &[u8], from: usize) -> usize {
-    find_from(text, from, b"\n").unwrap_or(text.len())
 }
 
 /// The first comment between two bytes of a text, where no token stands, that goes on over statements to the end of another: where it begins, and where
@@ -54,23 +50,16 @@ fn swallowing(text: &[u8], from: usize, until: usize) -> Option<(usize, usize)> 
         if at >= until {
             return None;
         }
-        let rest = text.get(at..).unwrap_or(b"");
-        match comment_at(text, at) {
+        at = match comment_at(text, at) {
             Some((_, Some(inner))) => return Some((at, inner)),
-            Some((behind, None)) => at = behind,
-            None if rest.starts_with(b"//") => at = line_end(text, at),
-            None => at = at.saturating_add(1),
-        }
+            Some((behind, None)) => behind,
+            None if text.get(at..).unwrap_or(b"").starts_with(b"//") => {
+                find_from(text, at, b"\n").unwrap_or(text.len())
+            }
+            None => at.saturating_add(1),
+        };
     }
     None
-}
-
-/// What is said of a comment that goes on to the end of the one that begins at a byte.
-fn said_of(alloc: Global, text: &[u8], inner: usize) -> Result<String, AllocError> {
-    let line = Cursor::line_of(text, inner);
-    format!(in alloc;
-        "this comment goes on to the end of the one that begins in line {line}: its own end seems to be missing"
-    )
 }
 
 /// The first comment of a source that goes on over statements to the end of another; `None` where none does.
@@ -82,7 +71,10 @@ pub fn swallower(
     let mut from = 0;
     for token in tokens {
         if let Some((at, inner)) = swallowing(text, from, token.from) {
-            let said = said_of(alloc, text, inner)?;
+            let line = Cursor::line_of(text, inner);
+            let said = format!(in alloc;
+                "this comment goes on to the end of the one that begins in line {line}: its own end seems to be missing"
+            )?;
             return Ok(Some(cause_at((at, at.saturating_add(2)), said, SPELLING)));
         }
         from = token.until;
@@ -92,13 +84,11 @@ pub fn swallower(
 
 impl<'p> Looking<'p> {
     /// Tells of the first comment of a source that goes on over statements to the end of another.
-    pub fn comments(&mut self, source: &Source<'_>) -> Result<(), AllocError> {
-        let tokens = source.tokens.as_slice();
-        let Some(cause) = swallower(self.alloc, source.text, tokens)? else {
-            return Ok(());
-        };
-        let (mark, said) = (cause.mark.unwrap_or((0, 0)), cause.said.as_str());
-        let said = format!(in self.alloc; "warning: {said}")?;
-        self.warn(mark, said)
+    pub fn comments(&mut self, source: &Source<'_>) {
+        let found = swallower(self.alloc, source.text, source.tokens.as_slice());
+        if let Some(Some(cause)) = self.got(found) {
+            let mark = cause.mark.unwrap_or((0, 0));
+            self.warn(mark, "%", ("", &[cause.said.as_str()]));
+        }
     }
 }

@@ -1,17 +1,24 @@
 //! Arrays are told of: their declarations, their elements, and their names where no index stands behind them.
 
-use crate::part::{Form, Part, Worth};
+use crate::part::Part;
 use crate::teller::{ARRAYS, BOUNDS, Teller, alone};
 use plant_types::{Bounds, Kind, Text};
-use source_trees::{Body, Sought, joined, kind_text};
+use source_trees::{Sought, Wanted, kind_text};
 use st_names::Scope;
 use st_parser::{SectionKind, Sort};
+use st_tree::Expr;
 use std::alloc::{AllocError, Global};
 
-/// What arrays with these bounds and elements of a kind are declared as.
-fn array_text(alloc: Global, bounds: Bounds, kind: Kind) -> Result<String, AllocError> {
-    let (low, high, kind) = (bounds.low, bounds.high, kind_text(kind));
-    format!(in alloc; "ARRAY[{low}..{high}] OF {kind}")
+/// What variables or arrays are declared as; empty for instances.
+fn sort_text(alloc: Global, sort: &Sort) -> Result<String, AllocError> {
+    match sort {
+        Sort::Kind(kind) => String::from_str(alloc, kind_text(*kind)),
+        Sort::Array(bounds, kind) => {
+            let (low, high, kind) = (bounds.low, bounds.high, kind_text(*kind));
+            format!(in alloc; "ARRAY[{low}..{high}] OF {kind}")
+        }
+        Sort::Block(_) => Ok(String::new(alloc)),
+    }
 }
 
 /// What an element is before one is assigned to it.
@@ -23,144 +30,84 @@ fn first_value(kind: Kind) -> &'static str {
     }
 }
 
-/// The number of the first token behind bounds whose low one ends with the token of a number.
-fn behind_bounds(number: usize, bounds: Bounds) -> usize {
-    let high = if bounds.high < 0 { 2 } else { 1 };
-    number.saturating_add(2).saturating_add(high)
-}
-
 impl<'t> Teller<'t> {
     /// Tells of an array, at the token of a number, that is read or assigned without an index.
-    pub fn tell_array(
-        &mut self,
-        body: &Body<'_>,
-        name: &Text,
-        number: usize,
-    ) -> Result<(), AllocError> {
-        let Some((bounds, _)) = body.scope.array(name) else {
-            return Ok(());
-        };
-        let (word, low) = (self.cursor.word(number), bounds.low);
-        let said = format!(in self.alloc;
-            "'{word}' is an array, and one of its elements is read or assigned as {word}[{low}]"
-        )?;
-        self.say(ARRAYS, alone(number), &[said.as_str()])
+    pub fn tell_array(&mut self, name: &Text, number: usize) {
+        if let Some((bounds, _)) = self.body.scope.array(name) {
+            let low = self.made(bounds.low.to_string(self.alloc));
+            let text = "@ is an array, and one of its elements is read or assigned as %[%]";
+            let words = [self.cursor.word(number), low.as_str()];
+            self.say(ARRAYS, alone(number), text, &words);
+        }
     }
 
     /// Tells of an index that is no DINT, of the array of a name.
-    fn tell_index(&mut self, name: &Text, index: &Part) -> Result<(), AllocError> {
-        let kind = match index.kind {
-            None | Some(Kind::Dint) => return Ok(()),
-            Some(kind) => kind_text(kind),
-        };
-        let name = name.as_str();
-        let said = format!(in self.alloc;
-            "the index of '{name}' is a {kind}, and an index is a DINT"
-        )?;
-        self.say(ARRAYS, index.tokens(), &[said.as_str()])
-    }
-
-    /// The kind of the elements of a name at the token of a number, where that is certain; tells where it is no array.
-    fn element_kind(
-        &mut self,
-        body: &Body<'_>,
-        name: &Text,
-        number: usize,
-    ) -> Result<Option<Kind>, AllocError> {
-        if body.scope.find(name).is_none() || body.doubts(self.plant, name) {
-            return Ok(None);
-        }
-        match body.scope.array(name) {
-            Some((_, kind)) => Ok(Some(kind)),
-            None => {
-                self.say_at(ARRAYS, number, "is no array, and has no elements")?;
-                Ok(None)
+    fn tell_index(&mut self, name: &Text, index: &Part) {
+        match index.kind {
+            None | Some(Kind::Dint) => {}
+            Some(kind) => {
+                let name = name.as_str();
+                let kind = kind_text(kind);
+                let text = format!(in self.alloc;
+                    "the index of '{name}' is a {kind}, and an index is a DINT"
+                );
+                let text = self.made(text);
+                self.say(ARRAYS, index.tokens, text.as_str(), &[]);
             }
         }
     }
 
-    /// The element of a name at the token of a number, behind its index.
-    pub fn element(
-        &mut self,
-        body: &Body<'_>,
-        (name, first): (&Text, usize),
-        index: &Part,
-    ) -> Result<Part, AllocError> {
+    /// Walks an element of an array; tells where its name is that of no array.
+    #[cycle(expressions)]
+    pub fn element(&mut self, name: &'t Text, index: &'t Expr<Text>) -> Part {
+        let first = self.cursor.pass_name(name);
+        let is_known = self.is_known(name, first, Wanted::Array);
+        let index = self.expr(index, Wanted::Of(Kind::Dint));
         let behind = self.cursor.pass(Sought::CloseBracket).saturating_add(1);
-        let kind = self.element_kind(body, name, first)?;
-        if kind.is_some() {
-            self.tell_index(name, index)?;
+        let mut part = Part::varies((first, behind));
+        if is_known {
+            if let Some((_, kind)) = self.body.scope.array(name) {
+                part.kind = Some(kind);
+                self.tell_index(name, &index);
+            } else {
+                self.say_at(ARRAYS, first, "is no array, and has no elements");
+            }
         }
-        Ok(Part {
-            kind,
-            first,
-            behind,
-            form: Form::Other,
-            worth: Worth::Varies(first),
-        })
+        part
     }
 
     /// Walks the bounds of arrays that are declared in a section, and tells where they can't stand there, or the low bound is above the high one.
-    pub fn array_sort(&mut self, section: SectionKind, bounds: Bounds) -> Result<(), AllocError> {
+    pub fn array_of(&mut self, section: SectionKind, bounds: Bounds) {
         let low = self.cursor.pass_label();
         let first = self.cursor.first_of(low, bounds.low < 0);
         if matches!(section, SectionKind::Input | SectionKind::Output) {
-            let said = "an array stands in VAR, VAR_GLOBAL or VAR_EXTERNAL alone";
-            return self.say(ARRAYS, alone(first.saturating_sub(2)), &[said]);
+            let text = "an array stands in VAR, VAR_GLOBAL or VAR_EXTERNAL alone";
+            return self.say(ARRAYS, alone(first.saturating_sub(2)), text, &[]);
         }
-        if bounds.low <= bounds.high {
-            return Ok(());
+        if bounds.low > bounds.high {
+            let high = if bounds.high < 0 { 4 } else { 3 };
+            let low_bound = self.made(bounds.low.to_string(self.alloc));
+            let high_bound = self.made(bounds.high.to_string(self.alloc));
+            let text = "the low bound % is above the high bound %";
+            let words = [low_bound.as_str(), high_bound.as_str()];
+            self.say(BOUNDS, (first, low.saturating_add(high)), text, &words);
         }
-        let (low_bound, high_bound) = (bounds.low, bounds.high);
-        let said = format!(in self.alloc;
-            "the low bound {low_bound} is above the high bound {high_bound}"
-        )?;
-        self.say(
-            BOUNDS,
-            (first, behind_bounds(low, bounds)),
-            &[said.as_str()],
-        )
     }
 
     /// Tells of the initial value of arrays of elements of a kind.
-    pub fn tell_array_value(&mut self, kind: Kind, initial: &Part) -> Result<(), AllocError> {
-        let words = [
-            "an array has no initial value: its elements begin with ",
-            first_value(kind),
-        ];
-        self.say(ARRAYS, initial.tokens(), &words)
+    pub fn tell_array_value(&mut self, kind: Kind, initial: &Part) {
+        let text = "an array has no initial value: its elements begin with %";
+        self.say(ARRAYS, initial.tokens, text, &[first_value(kind)]);
     }
 
     /// Tells of a name of VAR_EXTERNAL, at the token of a number, whose global is declared as something else, where one of both is an array.
-    pub fn external_array(
-        &mut self,
-        body: &Body<'_>,
-        name: &Text,
-        number: usize,
-        sort: &Sort,
-    ) -> Result<(), AllocError> {
-        let global = match (body.scope.global_array(name), body.scope.global_kind(name)) {
-            (Some((bounds, kind)), _) => array_text(self.alloc, bounds, kind)?,
-            (None, Some(kind)) => String::from_str(self.alloc, kind_text(kind))?,
-            (None, None) => return Ok(()),
-        };
-        let here = match sort {
-            Sort::Kind(kind) => String::from_str(self.alloc, kind_text(*kind))?,
-            Sort::Array(bounds, kind) => array_text(self.alloc, *bounds, *kind)?,
-            Sort::Block(_) => return Ok(()),
-        };
-        if global.as_str() == here.as_str() {
-            return Ok(());
+    pub fn external_array(&mut self, number: usize, global: &Sort, sort: &Sort) {
+        let global = self.made(sort_text(self.alloc, global));
+        let here = self.made(sort_text(self.alloc, sort));
+        let words = [global.as_str(), here.as_str()];
+        if global.as_str() != here.as_str() && !global.is_empty() && !here.is_empty() {
+            let text = "the global @ is declared as %, and here as %";
+            self.say(ARRAYS, alone(number), text, &words);
         }
-        let words = [
-            "the global '",
-            self.cursor.word(number),
-            "' is declared as ",
-            global.as_str(),
-            ", and here as ",
-            here.as_str(),
-        ];
-        let said = joined(self.alloc, &words)?;
-        self.say(ARRAYS, alone(number), &[said.as_str()])
     }
 }

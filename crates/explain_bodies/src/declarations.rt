@@ -1,258 +1,151 @@
 //! Declarations are walked.
 
 use crate::teller::{CIRCLES, KINDS, NAMES, Teller, VARIABLES, alone};
-use plant_types::{Kind, Text, same_word};
-use source_trees::{Body, Cursor, Rule, global_hint, joined, kind_text, leads_back, type_hint};
+use plant_types::{Text, same_word};
+use source_trees::{Cursor, Rule, kind_text, leads_back, nearest_global, type_hint};
 use st_names::{Scope, sort_kind};
 use st_parser::{Declaration, Section, SectionKind, Sort};
-use std::alloc::AllocError;
-
-/// An earlier declaration of a name: its source and its byte there, and how it is spelled.
-#[derive(Clone, Copy, Drop)]
-struct Other<'o> {
-    source: usize,
-    at: u32,
-    word: &'o str,
-}
 
 impl<'t> Teller<'t> {
-    /// Tells of a name at the token of a number that is there already, by the other one.
-    fn tell_taken(&mut self, number: usize, other: Other<'_>) -> Result<(), AllocError> {
-        let Some(source) = self.plant.sources.get(other.source) else {
-            return Ok(());
-        };
-        if !self.takes(NAMES) {
-            return Ok(());
+    /// Tells of a name at the token of a number that is there already, by the other one in a source.
+    fn tell_taken(&mut self, number: usize, source: usize, other: &Text) {
+        if let (Some(source), true) = (self.plant.sources.get(source), self.takes(NAMES)) {
+            let line = Cursor::line_of(source.text, other.at() as usize).to_string(self.alloc);
+            let line = self.made(line);
+            let words = [other.as_str(), line.as_str(), source.name];
+            let text = "the name @ is there already: '%' stands in line % of %";
+            self.say(NAMES, alone(number), text, &words);
         }
-        let line = Cursor::line_of(source.text, other.at as usize).to_string(self.alloc)?;
-        let words = [
-            "the name '",
-            self.cursor.word(number),
-            "' is there already: '",
-            other.word,
-            "' stands in line ",
-            line.as_str(),
-            " of ",
-            source.name,
-        ];
-        self.say(NAMES, alone(number), &words)
     }
 
     /// Tells of a name of all sources, at the token of a number, that is taken: by a block that is there from the start, or by an earlier declaration.
-    pub fn shared_name(&mut self, name: &Text, number: usize) -> Result<(), AllocError> {
-        let plant = self.plant;
-        if plant.is_standard(name) {
+    pub fn shared_name(&mut self, name: &Text, number: usize) {
+        if self.plant.is_standard(name) {
             return self.say_at(NAMES, number, "is a block that is there from the start");
         }
-        match plant.titles.find(name) {
-            Some(first) if first.source != self.source || first.at != name.at() => {
-                let other = Other {
-                    source: first.source,
-                    at: first.at,
-                    word: plant.titles.spelled(name),
-                };
-                self.tell_taken(number, other)
+        match self.plant.find(name) {
+            Some(first) if first.source != self.source || first.name.at() != name.at() => {
+                self.tell_taken(number, first.source, first.name);
             }
-            _ => Ok(()),
+            _ => {}
         }
     }
 
     /// Tells of a name of a unit's own that it declares a second time, or of a VAR_EXTERNAL whose global isn't there or is of another kind.
-    fn own_name(
-        &mut self,
-        body: &Body<'_>,
-        name: &Text,
-        number: usize,
-        (section, sort): (SectionKind, &Sort),
-    ) -> Result<(), AllocError> {
-        if let Some(first) = body.scope.find(name) {
-            if first.name().at() != name.at() {
-                let other = Other {
-                    source: self.source,
-                    at: first.name().at(),
-                    word: first.name().as_str(),
-                };
-                return self.tell_taken(number, other);
+    fn own_name(&mut self, name: &'t Text, number: usize, section: SectionKind, sort: &Sort) {
+        let first = self.body.scope.find(name).map(|first| first.name());
+        match (first, section) {
+            (Some(first), _) if first.at() != name.at() => {
+                self.tell_taken(number, self.source, first);
             }
+            (_, SectionKind::External) => self.external(name, number, sort),
+            _ => {}
         }
-        match section {
-            SectionKind::External => self.external(body, name, number, sort),
-            _ => Ok(()),
-        }
-    }
-
-    /// Tells of a name of VAR_EXTERNAL whose global is of another kind than the one that was found.
-    fn other_global(&mut self, number: usize, kind: Kind, found: Kind) -> Result<(), AllocError> {
-        let mut said = joined(
-            self.alloc,
-            &["'", self.cursor.word(number), "' is a global"],
-        )?;
-        said.push_str(" of the kind ")?;
-        said.push_str(kind_text(kind))?;
-        said.push_str(", and here it is a ")?;
-        said.push_str(kind_text(found))?;
-        self.say(KINDS, alone(number), &[said.as_str()])
-    }
-
-    /// Tells of a name of VAR_EXTERNAL that no global has.
-    fn no_global(&mut self, number: usize, hint: &str) -> Result<(), AllocError> {
-        let mut said = joined(
-            self.alloc,
-            &["no global is called '", self.cursor.word(number)],
-        )?;
-        said.push_str("', which VAR_EXTERNAL names")?;
-        said.push_str(hint)?;
-        self.say(NAMES, alone(number), &[said.as_str()])
     }
 
     /// Tells of a VAR_EXTERNAL whose global isn't there or is of another kind.
-    fn external(
-        &mut self,
-        body: &Body<'_>,
-        name: &Text,
-        number: usize,
-        sort: &Sort,
-    ) -> Result<(), AllocError> {
-        if self.plant.titles.doubts(name) {
-            return Ok(());
+    fn external(&mut self, name: &'t Text, number: usize, sort: &Sort) {
+        if self.plant.doubts(name) {
+            return;
         }
-        if !body.scope.is_global(name) {
-            let hint = global_hint(self.alloc, self.plant, name)?;
-            return self.no_global(number, hint.as_str());
+        if !self.body.scope.is_global(name) {
+            let entries = self.plant.entries.as_slice();
+            let hint = nearest_global(entries, name.as_str(), None).hint();
+            let texts = ["no global is called @, which VAR_EXTERNAL names", hint.0];
+            self.tell(NAMES, alone(number), texts, &[hint.1]);
+            return;
         }
-        let (Some(found), Some(kind)) = (sort_kind(sort), body.scope.global_kind(name)) else {
-            return self.external_array(body, name, number, sort);
+        let Some(global) = self.plant.find(name).and_then(|entry| entry.sort()) else {
+            return;
         };
-        if found == kind {
-            return Ok(());
+        let (Some(kind), Some(found)) = (sort_kind(global), sort_kind(sort)) else {
+            return self.external_array(number, global, sort);
+        };
+        if found != kind {
+            let text = "@ is a global of the kind %, and here it is a %";
+            let words = [kind_text(kind), kind_text(found)];
+            self.say(KINDS, alone(number), text, &words);
         }
-        self.other_global(number, kind, found)
     }
 
     /// Tells of a word in the place of a block or a kind that names neither.
-    fn tell_no_type(&mut self, word: &Text, number: usize) -> Result<(), AllocError> {
-        if self.plant.titles.doubts(word) || !self.takes(NAMES) {
-            return Ok(());
+    fn tell_no_type(&mut self, word: &'t Text, number: usize) {
+        if self.plant.doubts(word) || !self.takes(NAMES) {
+            return;
         }
-        let hint = type_hint(self.alloc, self.plant, word)?;
-        let (word, hint) = (word.as_str(), hint.as_str());
-        let words = [
-            "no block is called '",
-            word,
-            "', and the kinds are BOOL, DINT and TIME",
-            hint,
-        ];
-        self.say(NAMES, alone(number), &words)
+        let hint = type_hint(self.plant, word.as_str());
+        let text = "no block is called @, and the kinds are BOOL, DINT and TIME";
+        self.tell(NAMES, alone(number), [text, hint.0], &[hint.1]);
     }
 
     /// Tells of the block of instances that isn't there, that can't stand in its section, or that leads back to the block that declares them.
-    fn block_of(
-        &mut self,
-        body: &Body<'_>,
-        word: &Text,
-        section: SectionKind,
-        has_value: bool,
-    ) -> Result<(), AllocError> {
+    fn block_of(&mut self, word: &'t Text, section: SectionKind, has_value: bool) {
         let number = self.cursor.pass_name(word);
         if !self.plant.shared.is_block_type(word) {
-            return self.tell_no_type(word, number);
-        }
-        let why = if !matches!(section, SectionKind::Local) {
-            "is a block, and its instances stand in VAR of a program or a block alone"
+            self.tell_no_type(word, number);
+        } else if !matches!(section, SectionKind::Local) {
+            let why = "is a block, and its instances stand in VAR of a program or a block alone";
+            self.say_at(KINDS, number, why);
         } else if has_value {
-            "is a block, and its instances have no initial value"
+            let why = "is a block, and its instances have no initial value";
+            self.say_at(KINDS, number, why);
+        } else if self.told.refused == Rule::Blocks {
+            self.circle(word, number);
+        }
+    }
+
+    /// Tells of a block whose instances lead back to the block that declares one.
+    fn circle(&mut self, word: &'t Text, number: usize) {
+        let (name, block) = (self.body.name, word.as_str());
+        let leads = leads_back(self.plant, word, name);
+        if self.told.got(leads) != Some(true) {
+            return;
+        }
+        let text = if same_word(name.as_bytes(), block.as_bytes()) {
+            "block % holds an instance of itself"
         } else {
-            return self.circle(body, word, number);
+            "block % holds an instance of %, whose instances lead back to %"
         };
-        self.say_at(KINDS, number, why)
+        self.say(CIRCLES, alone(number), text, &[name, block, name]);
     }
 
-    /// Tells of a block whose instances lead back to the block that declares one, where the plant is refused for one.
-    fn circle(&mut self, body: &Body<'_>, word: &Text, number: usize) -> Result<(), AllocError> {
-        if self.told.refused != Rule::Blocks
-            || !leads_back(self.alloc, self.plant, word, body.name)?
-        {
-            return Ok(());
-        }
-        let (name, block) = (body.name, word.as_str());
-        if same_word(name.as_bytes(), block.as_bytes()) {
-            let words = ["block ", name, " holds an instance of itself"];
-            return self.say(CIRCLES, alone(number), &words);
-        }
-        let words = [
-            "block ",
-            name,
-            " holds an instance of ",
-            block,
-            ", whose instances lead back to ",
-            name,
-        ];
-        self.say(CIRCLES, alone(number), &words)
-    }
-
-    /// Walks what variables are declared as, and their initial value.
-    fn sort(
-        &mut self,
-        body: &Body<'_>,
-        section: SectionKind,
-        declaration: &Declaration,
-    ) -> Result<(), AllocError> {
-        let kind = match &declaration.sort {
-            Sort::Kind(kind) => Some(*kind),
-            Sort::Block(word) => {
-                self.block_of(body, word, section, declaration.initial.is_some())?;
-                None
-            }
-            Sort::Array(bounds, _) => {
-                self.array_sort(section, *bounds)?;
-                None
-            }
-        };
-        let Some(initial) = &declaration.initial else {
-            return Ok(());
-        };
-        let part = self.value(body, initial, kind, declaration.names.first())?;
-        if let Sort::Array(_, kind) = &declaration.sort {
-            return self.tell_array_value(*kind, &part);
-        }
-        if matches!(section, SectionKind::External) {
-            let said = "a VAR_EXTERNAL has no initial value: its global has one";
-            return self.say(KINDS, part.tokens(), &[said]);
-        }
-        match kind {
-            Some(_) => {
-                let why = "is a variable, and an initial value is constant";
-                self.constant(&part, VARIABLES, why)
-            }
-            None => Ok(()),
-        }
-    }
-
-    /// Walks a declaration.
-    fn declaration(
-        &mut self,
-        body: &Body<'_>,
-        section: SectionKind,
-        declaration: &Declaration,
-    ) -> Result<(), AllocError> {
+    /// Walks a declaration: its names, what they are declared as, and their initial value.
+    fn declaration(&mut self, section: SectionKind, declaration: &'t Declaration) {
         for name in &declaration.names {
             let number = self.cursor.pass_name(name);
             if matches!(section, SectionKind::Global) {
-                self.shared_name(name, number)?;
+                self.shared_name(name, number);
             } else {
-                self.own_name(body, name, number, (section, &declaration.sort))?;
+                self.own_name(name, number, section, &declaration.sort);
             }
         }
-        self.sort(body, section, declaration)
+        match &declaration.sort {
+            Sort::Kind(_) => {}
+            Sort::Block(word) => self.block_of(word, section, declaration.initial.is_some()),
+            Sort::Array(bounds, _) => self.array_of(section, *bounds),
+        }
+        let Some(initial) = &declaration.initial else {
+            return;
+        };
+        let kind = sort_kind(&declaration.sort);
+        let part = self.value(initial, kind, declaration.names.first());
+        if let Sort::Array(_, kind) = &declaration.sort {
+            self.tell_array_value(*kind, &part);
+        } else if matches!(section, SectionKind::External) {
+            let text = "a VAR_EXTERNAL has no initial value: its global has one";
+            self.say(KINDS, part.tokens, text, &[]);
+        } else if kind.is_some() {
+            let why = "is a variable, and an initial value is constant";
+            self.constant(&part, VARIABLES, why);
+        }
     }
 
     /// Walks declarations.
-    pub fn sections(&mut self, body: &Body<'_>, sections: &[Section]) -> Result<(), AllocError> {
+    pub fn sections(&mut self, sections: &'t [Section]) {
         for section in sections {
             for declaration in &section.declarations {
-                self.declaration(body, section.kind, declaration)?;
+                self.declaration(section.kind, declaration);
             }
         }
-        Ok(())
     }
 }

@@ -1,26 +1,17 @@
 //! Expressions are walked.
 
 use crate::part::{Form, Part, Worth};
-use crate::teller::{MEMBERS, Teller};
+use crate::teller::{Breach, MEMBERS, Teller, alone};
 use plant_types::{Kind, Text, Trap};
-use source_trees::{Body, Member, Sought, Wanted};
+use source_trees::{Member, Sought, Wanted};
 use st_names::Scope;
 use st_tree::{
     Binary, Expr, Literal, Unary, binary_kind, eval_binary, eval_unary, resolved_binary,
     resolved_unary, unary_kind,
 };
-use std::alloc::AllocError;
-
-/// What the operand of NOT or of a minus has to be.
-fn wanted_below(op: Unary) -> Wanted {
-    match op {
-        Unary::Not => Wanted::Of(Kind::Bool),
-        _ => Wanted::Number,
-    }
-}
 
 /// What the operands of an operator have to be.
-fn wanted_beside(op: Binary) -> Wanted {
+pub fn wanted_beside(op: Binary) -> Wanted {
     match op {
         Binary::And | Binary::Xor | Binary::Or => Wanted::Of(Kind::Bool),
         Binary::Multiply | Binary::Divide | Binary::Mod => Wanted::Of(Kind::Dint),
@@ -45,14 +36,6 @@ fn worth_of(outcome: Result<i64, Trap>, number: usize) -> Worth {
     }
 }
 
-/// The value of an operator at the token of a number, by that of its operand, which is of a kind.
-fn unary_worth(op: Unary, number: usize, kind: Kind, worth: Worth) -> Worth {
-    match worth {
-        Worth::Is(x) => worth_of(eval_unary(resolved_unary(op, kind), x), number),
-        _ => worth,
-    }
-}
-
 /// The value of an operator at the token of a number, by those of its operands, the left one of a kind.
 fn binary_worth(op: Binary, number: usize, kind: Kind, worths: (Worth, Worth)) -> Worth {
     match worths {
@@ -73,149 +56,157 @@ impl<'t> Teller<'t> {
             Literal::Integer(0 | 1) => Form::Bit,
             _ => Form::Literal,
         };
+        let first = self.cursor.first_of(number, worth < 0);
         Part {
             kind: Some(literal.kind()),
-            first: self.cursor.first_of(number, worth < 0),
-            behind: number.saturating_add(1),
+            tokens: (first, number.saturating_add(1)),
             form,
             worth: Worth::Is(worth),
         }
     }
 
-    /// Walks a variable that is read.
-    fn read(&mut self, body: &Body<'_>, name: &Text, wanted: Wanted) -> Result<Part, AllocError> {
-        let number = self.cursor.pass_name(name);
-        if !self.is_named(body, name, number, wanted)? || body.doubts(self.plant, name) {
-            return Ok(Part::variable(None, number));
-        }
-        let kind = body.scope.variable_kind(name);
+    /// The kind of a variable at the token of a number; what is an instance or an array is told.
+    pub fn variable_kind(&mut self, name: &'t Text, number: usize) -> Option<Kind> {
+        let kind = self.body.scope.variable_kind(name);
         if kind.is_none() {
-            self.tell_instance(body, name, number)?;
-            self.tell_array(body, name, number)?;
+            self.tell_instance(name, number);
+            self.tell_array(name, number);
         }
-        Ok(Part::variable(kind, number))
+        kind
+    }
+
+    /// Walks a variable that is read.
+    fn read(&mut self, name: &'t Text, wanted: Wanted) -> Part {
+        let number = self.cursor.pass_name(name);
+        let mut part = Part::varies(alone(number));
+        if self.is_known(name, number, wanted) {
+            part.kind = self.variable_kind(name, number);
+        }
+        part
+    }
+
+    /// The block of the instance at the token of a number; `None` where that isn't certain. What is no instance is told.
+    pub fn block_of_instance(
+        &mut self,
+        instance: &'t Text,
+        number: usize,
+        (breach, why): (Breach, &str),
+    ) -> Option<&'t Text> {
+        if !self.is_known(instance, number, Wanted::Instance) {
+            return None;
+        }
+        let word = self.body.block_word(instance);
+        if word.is_none() {
+            self.say_at(breach, number, why);
+        }
+        word
     }
 
     /// Walks an output of an instance that is read.
-    fn output(
-        &mut self,
-        body: &Body<'_>,
-        instance: &Text,
-        name: &Text,
-    ) -> Result<Part, AllocError> {
+    fn output(&mut self, instance: &'t Text, name: &'t Text) -> Part {
         let first = self.cursor.pass_name(instance);
-        let behind = self.cursor.pass_name(name).saturating_add(1);
+        let last = self.cursor.pass_name(name);
+        let mut part = Part::varies((first, last.saturating_add(1)));
         let why = "is no instance of a block, and so no point may stand behind it";
-        let word = self.block_of_instance(body, (instance, first), (MEMBERS, why))?;
-        let kind = match word {
-            Some(_) => body.scope.output_kind(instance, name),
-            None => None,
-        };
-        if let (Some(word), None) = (word, kind) {
-            self.tell_no_member(word, name, behind.saturating_sub(1), Member::Read)?;
+        if let Some(word) = self.block_of_instance(instance, first, (MEMBERS, why)) {
+            part.kind = self.body.scope.output_kind(instance, name);
+            if part.kind.is_none() {
+                self.tell_no_member(word, name, last, Member::Read);
+            }
         }
-        Ok(Part {
-            kind,
-            first,
-            behind,
-            form: Form::Other,
-            worth: Worth::Varies(first),
-        })
+        part
     }
 
     /// The part that an operator and its operand are.
-    fn unary(&mut self, op: Unary, number: usize, part: &Part) -> Result<Part, AllocError> {
+    fn unary(&mut self, op: Unary, number: usize, part: &Part) -> Part {
         let mut whole = Part {
             kind: None,
-            first: number,
-            behind: part.behind,
+            tokens: (number, part.tokens.1),
             form: Form::Other,
             worth: part.worth,
         };
-        if let Some(kind) = part.kind {
-            whole.kind = unary_kind(op, kind);
-            if whole.kind.is_none() {
-                self.tell_unary(op, number, part)?;
-            } else {
-                whole.worth = unary_worth(op, number, kind, part.worth);
-            }
+        let Some(kind) = part.kind else {
+            return whole;
+        };
+        whole.kind = unary_kind(op, kind);
+        match part.worth {
+            _ if whole.kind.is_none() => self.tell_unary(op, number, part),
+            Worth::Is(x) => whole.worth = worth_of(eval_unary(resolved_unary(op, kind), x), number),
+            _ => {}
         }
-        Ok(whole)
+        whole
     }
 
     /// The part that an operator and its operands are.
-    fn binary(
-        &mut self,
-        op: Binary,
-        number: usize,
-        left: &Part,
-        right: &Part,
-    ) -> Result<Part, AllocError> {
+    fn binary(&mut self, op: Binary, number: usize, left: &Part, right: &Part) -> Part {
         let mut whole = Part {
             kind: None,
-            first: left.first,
-            behind: right.behind,
+            tokens: (left.tokens.0, right.tokens.1),
             form: form_of(op),
             worth: Worth::Varies(number),
         };
         if let (Some(one), Some(other)) = (left.kind, right.kind) {
             whole.kind = binary_kind(op, one, other);
             if whole.kind.is_none() {
-                self.tell_binary(op, number, left, right)?;
+                self.tell_binary(op, number, left, right);
             } else {
                 whole.worth = binary_worth(op, number, one, (left.worth, right.worth));
             }
         }
-        Ok(whole)
+        whole
     }
 
     /// Walks an expression; a name that isn't there may be one that is what is wanted.
-    pub fn expr(
-        &mut self,
-        body: &Body<'_>,
-        expr: &Expr<Text>,
-        wanted: Wanted,
-    ) -> Result<Part, AllocError> {
+    #[cycle(expressions)]
+    pub fn expr(&mut self, expr: &'t Expr<Text>, wanted: Wanted) -> Part {
         match expr {
-            Expr::Literal(literal) => Ok(self.literal(*literal)),
-            Expr::Read(name) => self.read(body, name, wanted),
-            Expr::Output(instance, name) => self.output(body, instance, name),
-            Expr::Element(name, _, index) => {
-                let first = self.cursor.pass_name(name);
-                let _ = self.is_named(body, name, first, Wanted::Array)?;
-                let part = self.expr(body, index, Wanted::of(Some(Kind::Dint)))?;
-                self.element(body, (name, first), &part)
-            }
+            Expr::Literal(literal) => self.literal(*literal),
+            Expr::Read(name) => self.read(name, wanted),
+            Expr::Output(instance, name) => self.output(instance, name),
+            Expr::Element(name, _, index) => self.element(name, index),
             Expr::Unary(op, a) => {
-                let number = self.cursor.pass(Sought::Operator);
-                let part = self.expr(body, a, wanted_below(*op))?;
+                let number = self.cursor.pass(Sought::Prefix);
+                let wanted = match op {
+                    Unary::Not => Wanted::Of(Kind::Bool),
+                    _ => Wanted::Number,
+                };
+                let part = self.expr(a, wanted);
                 self.unary(*op, number, &part)
             }
             Expr::Binary(op, a, b) => {
-                let left = self.expr(body, a, wanted_beside(*op))?;
-                let number = self.cursor.pass(Sought::Operator);
-                let right = self.expr(body, b, wanted_beside(*op))?;
+                let left = self.expr(a, wanted_beside(*op));
+                let number = self.cursor.pass(Sought::Infix);
+                let right = self.expr(b, wanted_beside(*op));
                 self.binary(*op, number, &left, &right)
             }
         }
     }
 
-    /// Walks an expression that has to be of a kind, where that is known. Where something takes it, the integer 0 or 1 may stand for a BOOL.
+    /// Tells of a part that isn't of the kind that it has to be, where both are known. Where it is assigned or given, the integer 0 or 1 may stand for a BOOL.
+    pub fn judge(
+        &mut self,
+        part: &Part,
+        wanted: Option<Kind>,
+        is_given: bool,
+        taker: Option<&Text>,
+    ) {
+        if let (Some(kind), Some(found)) = (wanted, part.kind) {
+            let is_bit = is_given && kind == Kind::Bool && part.form == Form::Bit;
+            if found != kind && !is_bit {
+                self.tell_unfit(part, kind, taker);
+            }
+        }
+    }
+
+    /// Walks an expression that has to be of a kind, where that is known, and is given to something, where that has a name.
     pub fn value(
         &mut self,
-        body: &Body<'_>,
-        expr: &Expr<Text>,
+        expr: &'t Expr<Text>,
         wanted: Option<Kind>,
         taker: Option<&Text>,
-    ) -> Result<Part, AllocError> {
-        let part = self.expr(body, expr, Wanted::of(wanted))?;
-        let Some(kind) = wanted else {
-            return Ok(part);
-        };
-        let is_bit = taker.is_some() && kind == Kind::Bool && part.form == Form::Bit;
-        if part.kind != Some(kind) && !is_bit {
-            self.tell_unfit(&part, kind, taker)?;
-        }
-        Ok(part)
+    ) -> Part {
+        let part = self.expr(expr, Wanted::of(wanted));
+        self.judge(&part, wanted, taker.is_some(), taker);
+        part
     }
 }

@@ -1,12 +1,12 @@
-//! What isn't of its kind (C7): the operands of operators, and what is given to variables and inputs.
+//! Names that aren't there (C6), and what isn't of its kind (C7): the operands of operators, and what is given to variables and inputs.
 
+use crate::expressions::wanted_beside;
 use crate::part::{Form, Part};
-use crate::teller::{KINDS, Teller, alone};
+use crate::teller::{KINDS, MEMBERS, NAMES, Teller, alone};
 use plant_types::{Kind, Text};
-use source_trees::{Body, Member, joined, kind_text, members_of};
+use source_trees::{Member, Wanted, kind_text, members_of, other_use, variable_hint};
 use st_names::Scope;
 use st_tree::{Binary, Unary};
-use std::alloc::{AllocError, Global};
 
 /// What is said beside two kinds that don't fit: how what is wanted is written.
 fn beside(wanted: Kind, part: &Part) -> &'static str {
@@ -19,203 +19,206 @@ fn beside(wanted: Kind, part: &Part) -> &'static str {
     }
 }
 
-/// What is said beside an operand of `*`, `/` and MOD.
-fn beside_number(part: &Part) -> &'static str {
-    match part.kind {
-        Some(Kind::Time) => ", which is neither multiplied nor divided",
+/// What is said beside an operand that isn't of its kind.
+fn beside_operand(wanted: Option<Kind>, part: &Part) -> &'static str {
+    match (wanted, part.kind) {
+        (Some(Kind::Dint), Some(Kind::Time)) => ", which is neither multiplied nor divided",
+        (Some(kind), _) => beside(kind, part),
         _ => "",
     }
 }
 
-/// An operator, by the number of its token, and what it takes.
-#[derive(Clone, Copy, Drop)]
-struct Operator {
-    number: usize,
-    takes: &'static str,
-}
-
 /// The kind of a part, as it is told; none of one that isn't known.
 fn kind_of(part: &Part) -> &'static str {
-    match part.kind {
-        Some(kind) => kind_text(kind),
-        None => "",
-    }
-}
-
-/// What is said before a part that isn't of the kind that it has to be: of what takes it, where something does.
-fn lead_of(alloc: Global, wanted: Kind, taker: Option<&Text>) -> Result<String, AllocError> {
-    let Some(name) = taker else {
-        return joined(alloc, &["a ", kind_text(wanted), " is wanted here, and "]);
-    };
-    let mut said = joined(alloc, &["'", name.as_str(), "' is a "])?;
-    said.push_str(kind_text(wanted))?;
-    said.push_str(", and ")?;
-    Ok(said)
+    part.kind.map_or("", kind_text)
 }
 
 impl<'t> Teller<'t> {
-    /// Tells of a part that isn't of the kind that it has to be, for what takes it.
-    pub fn tell_unfit(
-        &mut self,
-        part: &Part,
-        wanted: Kind,
-        taker: Option<&Text>,
-    ) -> Result<(), AllocError> {
-        if part.kind.is_none() {
-            return Ok(());
+    /// Tells of a name at the token of a number that is no variable; returns the number of the mistake, where it is told.
+    fn tell_no_variable(&mut self, name: &'t Text, number: usize, wanted: Wanted) -> Option<usize> {
+        if self.plant.shared.is_block_type(name) {
+            let more = "; END_VAR declares one, called t1";
+            let text = "@ is a block, and what is called or read is an instance of it: VAR t1 : %";
+            return self.tell(NAMES, alone(number), [text, more], &[name.as_str()]);
         }
-        let lead = lead_of(self.alloc, wanted, taker)?;
-        let quoted = self.cursor.quoted(self.alloc, part.first, part.behind)?;
-        let words = [
-            lead.as_str(),
-            quoted.as_str(),
-            " is a ",
-            kind_of(part),
-            beside(wanted, part),
-        ];
-        self.say(KINDS, part.tokens(), &words)
+        if self.plant.is_program(name) {
+            let text = "@ is a program, and no variable";
+            return self.tell(NAMES, alone(number), [text, ""], &[]);
+        }
+        let hint = variable_hint(&self.body, name, wanted);
+        let words = [self.body.name, hint.1, hint.2];
+        self.tell(
+            NAMES,
+            alone(number),
+            ["no variable is called @ in %", hint.0],
+            &words,
+        )
     }
 
-    /// Tells of an operand that isn't of its kind, where it stands, and what is said beside that.
-    fn tell_operand(
-        &mut self,
-        operator: Operator,
-        part: &Part,
-        side: &'static str,
-        more: &'static str,
-    ) -> Result<(), AllocError> {
-        if part.kind.is_none() {
-            return Ok(());
+    /// Whether it was told of the unit that a name isn't there; then it is counted.
+    fn is_told(&mut self, name: &Text) -> bool {
+        let Some(number) = self.missing.find(name.as_str()) else {
+            return false;
+        };
+        if let Some(kept) = self.kept.get(number).copied() {
+            self.told.count(kept);
         }
-        let mut said = joined(
-            self.alloc,
-            &["'", self.cursor.word(operator.number), "' takes "],
-        )?;
-        said.push_str(operator.takes)?;
-        said.push_str(", and ")?;
-        let quoted = self.cursor.quoted(self.alloc, part.first, part.behind)?;
-        said.push_str(quoted.as_str())?;
-        said.push_str(side)?;
-        said.push_str(" is a ")?;
-        said.push_str(kind_of(part))?;
-        said.push_str(more)?;
-        self.say(KINDS, part.tokens(), &[said.as_str()])
+        true
+    }
+
+    /// Whether a name at the token of a number is a variable's or an instance's; where it certainly isn't, that is told, once in a unit.
+    pub fn is_named(&mut self, name: &'t Text, number: usize, wanted: Wanted) -> bool {
+        if self.body.scope.find(name).is_some() {
+            return true;
+        }
+        if self.is_told(name) || self.body.doubts(name) || !self.takes(NAMES) {
+            return false;
+        }
+        if let Some(kept) = self.tell_no_variable(name, number, wanted) {
+            let added = self.missing.add(self.alloc, name.as_str());
+            self.told.got(added);
+            let pushed = self.kept.push(kept);
+            self.told.got(pushed);
+        }
+        false
+    }
+
+    /// Whether it is certain what a name at the token of a number is; where it isn't there, that is told.
+    pub fn is_known(&mut self, name: &'t Text, number: usize, wanted: Wanted) -> bool {
+        self.is_named(name, number, wanted) && !self.body.doubts(name)
+    }
+
+    /// Tells of a name that isn't what a block has: an input that is given, an output that is taken, or one that is read.
+    pub fn tell_no_member(&mut self, word: &Text, name: &'t Text, number: usize, member: Member) {
+        if !self.takes(MEMBERS) {
+            return;
+        }
+        let what = if member == Member::Given {
+            "input"
+        } else {
+            "output"
+        };
+        let members = members_of(self.plant, word, name, member);
+        let Some((list, hint)) = self.told.got(members) else {
+            return;
+        };
+        let other = other_use(self.plant, word, name, member);
+        if !other.is_empty() {
+            let block = word.as_str();
+            let text = format!(in self.alloc; "block {block} has no {what} @: {other}");
+            let text = self.made(text);
+            return self.say(MEMBERS, alone(number), text.as_str(), &[]);
+        }
+        let text = if list.is_empty() {
+            "block % has no % @, since it has none"
+        } else {
+            "block % has no % @; it has:%%"
+        };
+        let words = [word.as_str(), what, list.as_str(), hint.as_str()];
+        self.say(MEMBERS, alone(number), text, &words);
+    }
+
+    /// Tells of a part that isn't of the kind that it has to be, for what takes it.
+    pub fn tell_unfit(&mut self, part: &Part, wanted: Kind, taker: Option<&Text>) {
+        let (kind, found, more) = (kind_text(wanted), kind_of(part), beside(wanted, part));
+        let text = match taker {
+            Some(name) => {
+                let name = name.as_str();
+                format!(in self.alloc; "'{name}' is a {kind}, and @ is a {found}{more}")
+            }
+            None => format!(in self.alloc; "a {kind} is wanted here, and @ is a {found}{more}"),
+        };
+        let text = self.made(text);
+        self.say(KINDS, part.tokens, text.as_str(), &[]);
     }
 
     /// Tells of an instance that is read or assigned, at the token of a number.
-    pub fn tell_instance(
-        &mut self,
-        body: &Body<'_>,
-        name: &Text,
-        number: usize,
-    ) -> Result<(), AllocError> {
-        let (Some(word), true) = (body.block_word(name), self.takes(KINDS)) else {
-            return Ok(());
+    pub fn tell_instance(&mut self, name: &'t Text, number: usize) {
+        let (Some(word), true) = (self.body.block_word(name), self.takes(KINDS)) else {
+            return;
         };
-        let (list, _) = members_of(self.alloc, self.plant, word, name, Member::Read)?;
-        let hides = if body.scope.is_global(name) {
+        let members = members_of(self.plant, word, name, Member::Read);
+        let Some((list, _)) = self.told.got(members) else {
+            return;
+        };
+        let hides = if self.body.scope.is_global(name) {
             "; it hides the global of this name"
         } else {
             ""
         };
-        let words = [
-            "'",
-            self.cursor.word(number),
-            "' is an instance of ",
-            word.as_str(),
-            ", and itself neither read nor assigned; its outputs are read behind a point:",
-            list.as_str(),
-            hides,
-        ];
-        self.say(KINDS, alone(number), &words)
+        let text =
+            "@ is an instance of %, and itself neither read nor assigned; its outputs are read behind a point:%%";
+        let words = [word.as_str(), list.as_str(), hides];
+        self.say(KINDS, alone(number), text, &words);
+    }
+
+    /// Tells of an operand of the operator at the token of a number, where it isn't of the kind that it has to be, or where none is given no number.
+    fn tell_operand(
+        &mut self,
+        number: usize,
+        (takes, wanted): (&str, Option<Kind>),
+        part: &Part,
+        side: &str,
+    ) {
+        let is_fit = match wanted {
+            Some(_) => part.kind == wanted,
+            None => part.kind != Some(Kind::Bool),
+        };
+        if !is_fit {
+            let word = self.cursor.word(number);
+            let (found, more) = (kind_of(part), beside_operand(wanted, part));
+            let text = format!(in self.alloc;
+                "'{word}' takes {takes}, and @{side} is a {found}{more}"
+            );
+            let text = self.made(text);
+            self.say(KINDS, part.tokens, text.as_str(), &[]);
+        }
     }
 
     /// Tells of the operand of NOT or of a minus, which isn't of its kind.
-    pub fn tell_unary(&mut self, op: Unary, number: usize, part: &Part) -> Result<(), AllocError> {
-        let (takes, more) = match op {
-            Unary::Not => ("a BOOL", beside(Kind::Bool, part)),
-            _ => ("a DINT or a TIME", ""),
+    pub fn tell_unary(&mut self, op: Unary, number: usize, part: &Part) {
+        let takes = match op {
+            Unary::Not => ("a BOOL", Some(Kind::Bool)),
+            _ => ("a DINT or a TIME", None),
         };
-        self.tell_operand(Operator { number, takes }, part, "", more)
-    }
-
-    /// Tells of the operands of an operator that aren't of the kind that both have to be, each by itself.
-    fn tell_each(
-        &mut self,
-        operator: Operator,
-        wanted: Kind,
-        left: &Part,
-        right: &Part,
-    ) -> Result<(), AllocError> {
-        for (part, side) in [(left, " before it"), (right, " behind it")] {
-            if part.kind != Some(wanted) {
-                let more = match wanted {
-                    Kind::Bool => beside(wanted, part),
-                    _ => beside_number(part),
-                };
-                self.tell_operand(operator, part, side, more)?;
-            }
-        }
-        Ok(())
-    }
-
-    /// Tells of two operands that have to be two DINT or two TIME: which of them is a BOOL, or that one is of either kind.
-    fn tell_pair(&mut self, number: usize, left: &Part, right: &Part) -> Result<(), AllocError> {
-        if left.form == Form::Order {
-            let why =
-                "has a comparison before it, which is a BOOL; a < b < c is written a < b AND b < c";
-            return self.say_at(KINDS, number, why);
-        }
-        if left.kind != Some(Kind::Bool) && right.kind != Some(Kind::Bool) {
-            let why =
-                "has a TIME and a DINT beside it, and nothing is converted; a duration is written as T#5s";
-            return self.say_at(KINDS, number, why);
-        }
-        let takes = "two DINT or two TIME";
-        for (part, side) in [(left, " before it"), (right, " behind it")] {
-            if part.kind == Some(Kind::Bool) {
-                self.tell_operand(Operator { number, takes }, part, side, "")?;
-            }
-        }
-        Ok(())
+        self.tell_operand(number, takes, part, "");
     }
 
     /// Tells of two operands that aren't of one kind.
-    fn tell_unlike(&mut self, number: usize, left: &Part, right: &Part) -> Result<(), AllocError> {
+    fn tell_unlike(&mut self, number: usize, left: &Part, right: &Part) {
         let (Some(one), Some(other)) = (left.kind, right.kind) else {
-            return Ok(());
+            return;
         };
         let words = [
-            "compares two of one kind, and here are a ",
             kind_text(one),
-            " and a ",
             kind_text(other),
             beside(one, right),
             beside(other, left),
         ];
-        let why = joined(self.alloc, &words)?;
-        self.say_at(KINDS, number, why.as_str())
+        let text = "@ compares two of one kind, and here are a % and a %%%";
+        self.say(KINDS, alone(number), text, &words);
     }
 
     /// Tells of the operands of an operator at the token of a number, which it doesn't take.
-    pub fn tell_binary(
-        &mut self,
-        op: Binary,
-        number: usize,
-        left: &Part,
-        right: &Part,
-    ) -> Result<(), AllocError> {
-        match op {
-            Binary::And | Binary::Xor | Binary::Or => {
-                let takes = "two BOOL";
-                self.tell_each(Operator { number, takes }, Kind::Bool, left, right)
+    pub fn tell_binary(&mut self, op: Binary, number: usize, left: &Part, right: &Part) {
+        let are_numbers = left.kind != Some(Kind::Bool) && right.kind != Some(Kind::Bool);
+        let takes = match wanted_beside(op) {
+            Wanted::Of(Kind::Bool) => ("two BOOL", Some(Kind::Bool)),
+            Wanted::Of(kind) => ("two DINT", Some(kind)),
+            Wanted::Any => return self.tell_unlike(number, left, right),
+            _ if left.form == Form::Order => {
+                let why =
+                    "has a comparison before it, which is a BOOL; a < b < c is written a < b AND b < c";
+                return self.say_at(KINDS, number, why);
             }
-            Binary::Multiply | Binary::Divide | Binary::Mod => {
-                let takes = "two DINT";
-                self.tell_each(Operator { number, takes }, Kind::Dint, left, right)
+            _ if are_numbers => {
+                let why =
+                    "has a TIME and a DINT beside it, and nothing is converted; a duration is written as T#5s";
+                return self.say_at(KINDS, number, why);
             }
-            Binary::Equal | Binary::Unequal => self.tell_unlike(number, left, right),
-            _ => self.tell_pair(number, left, right),
-        }
+            _ => ("two DINT or two TIME", None),
+        };
+        self.tell_operand(number, takes, left, " before it");
+        self.tell_operand(number, takes, right, " behind it");
     }
 }

@@ -28,26 +28,19 @@ pub enum Worth {
 #[derive(Clone, Copy, Drop)]
 pub struct Part {
     pub kind: Option<Kind>,
-    pub first: usize,
-    pub behind: usize,
+    pub tokens: (usize, usize),
     pub form: Form,
     pub worth: Worth,
 }
 
 impl Part {
-    /// A variable at the token of a number.
-    pub fn variable(kind: Option<Kind>, number: usize) -> Part {
+    /// What reads a variable or an output, and of which the kind isn't known.
+    pub fn varies(tokens: (usize, usize)) -> Part {
         Part {
-            kind,
-            first: number,
-            behind: number.saturating_add(1),
+            kind: None,
+            tokens,
             form: Form::Other,
-            worth: Worth::Varies(number),
+            worth: Worth::Varies(tokens.0),
         }
-    }
-
-    /// The number of its first token, and of the one behind its last.
-    pub fn tokens(&self) -> (usize, usize) {
-        (self.first, self.behind)
     }
 }

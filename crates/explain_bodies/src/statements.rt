@@ -1,177 +1,220 @@
-//! Statements are walked.
+//! Statements and calls are walked; what isn't constant, and what controls a FOR (C9).
 
-use crate::part::Form;
-use crate::teller::{KINDS, Teller};
-use plant_types::{Kind, Text};
-use source_trees::{Body, Wanted};
+use crate::part::{Part, Worth};
+use crate::teller::{Breach, KINDS, MEMBERS, STATEMENTS, Teller, alone};
+use plant_types::{Kind, Text, Trap, same_word};
+use source_trees::{Member, Step, Wanted, kind_text};
 use st_names::Scope;
-use st_tree::{Branch, Choice, Expr, Label, Stmt};
-use std::alloc::AllocError;
+use st_parser::SectionKind;
+use st_tree::{Argument, Expr};
+use word_index::Names;
+
+/// Why a constant has no value.
+fn why_none(trap: Trap) -> &'static str {
+    match trap {
+        Trap::DivZero => "has a 0 behind it, and nothing is divided by 0",
+        Trap::Overflow => "makes a number here that is beyond those of its kind",
+        Trap::Index => "has an index outside the bounds of its array",
+    }
+}
 
 impl<'t> Teller<'t> {
-    /// The kind of a variable at the token of a number that is assigned, where that is certain; tells where it may not be assigned.
-    pub fn target(
-        &mut self,
-        body: &Body<'_>,
-        name: &Text,
-        number: usize,
-        wanted: Wanted,
-    ) -> Result<Option<Kind>, AllocError> {
-        if !self.is_named(body, name, number, wanted)? || body.doubts(self.plant, name) {
-            return Ok(None);
-        }
-        if body.scope.variable_kind(name).is_none() {
-            self.tell_instance(body, name, number)?;
-            self.tell_array(body, name, number)?;
-            return Ok(None);
-        }
-        if !body.scope.is_assignable(name) {
-            let why = "is an input of the plant, and no program may assign it";
-            self.say_at(KINDS, number, why)?;
-            return Ok(None);
-        }
-        self.assigned(name, number)?;
-        Ok(body.scope.variable_kind(name))
-    }
-
-    /// Walks an assignment.
-    fn assign(
-        &mut self,
-        body: &Body<'_>,
-        name: &Text,
-        expr: &Expr<Text>,
-    ) -> Result<(), AllocError> {
-        let number = self.cursor.pass_name(name);
-        let kind = self.target(body, name, number, Wanted::Target)?;
-        self.value(body, expr, kind, Some(name))?;
-        Ok(())
-    }
-
-    /// Walks the labels of a CASE.
-    fn labels(&mut self, labels: &[Label]) {
-        for _label in labels {
-            let _ = self.cursor.pass_label();
+    /// Tells of what is of its kind and has to be constant, and isn't, or has no value.
+    pub fn constant(&mut self, part: &Part, breach: Breach, why: &str) {
+        match part.worth {
+            _ if part.kind.is_none() => {}
+            Worth::Varies(number) => self.say_at(breach, number, why),
+            Worth::Traps(number, trap) => self.say_at(breach, number, why_none(trap)),
+            Worth::Is(_) => {}
         }
     }
 
-    /// Walks the variable of a FOR.
-    fn variable(&mut self, body: &Body<'_>, name: &Text) -> Result<(), AllocError> {
-        let number = self.cursor.pass_name(name);
-        if self.is_named(body, name, number, Wanted::Control)? && !body.doubts(self.plant, name) {
-            self.control(body, name, number)?;
-            self.assigned(name, number)?;
+    /// Tells of a bound or a step of a FOR that isn't constant, or has no value.
+    pub fn bound(&mut self, part: &Part) {
+        if part.kind == Some(Kind::Dint) {
+            let why = "is a variable, and the bounds and the step of a FOR are constant";
+            self.constant(part, STATEMENTS, why);
         }
-        Ok(())
     }
 
-    /// Walks the bounds and the step of a FOR.
-    fn bounds(
-        &mut self,
-        body: &Body<'_>,
-        bounds: [&Expr<Text>; 2],
-        by: &Option<Expr<Text>>,
-    ) -> Result<(), AllocError> {
-        for bound in bounds {
-            let part = self.value(body, bound, Some(Kind::Dint), None)?;
-            self.bound(&part)?;
+    /// Tells of a step of a FOR that isn't constant, or has no value, or is 0.
+    pub fn step(&mut self, part: &Part) {
+        match part.worth {
+            Worth::Is(0) if part.kind == Some(Kind::Dint) => {
+                let text = "@ is no step of a FOR, since it is 0";
+                self.say(STATEMENTS, part.tokens, text, &[]);
+            }
+            _ => self.bound(part),
         }
-        let Some(by) = by else {
-            return Ok(());
+    }
+
+    /// Tells of a variable that may not control a FOR.
+    pub fn control(&mut self, name: &Text, number: usize) {
+        if self.body.scope.is_control(name) {
+            return;
+        }
+        let Some(declared) = self.body.scope.find(name) else {
+            return;
         };
-        let part = self.value(body, by, Some(Kind::Dint), None)?;
-        self.step(&part)
+        let why = match declared.section() {
+            _ if self.body.scope.array(name).is_some() => {
+                "is an array, and the variable of a FOR is a DINT"
+            }
+            SectionKind::Global | SectionKind::External => {
+                "is a global, and the variable of a FOR is declared in the program or block itself"
+            }
+            _ => "is no DINT, and the variable of a FOR is one",
+        };
+        self.say_at(STATEMENTS, number, why);
     }
 
-    /// Walks an assignment to an element of an array.
-    fn store(
-        &mut self,
-        body: &Body<'_>,
-        array: &Text,
-        index: &Expr<Text>,
-        value: &Expr<Text>,
-    ) -> Result<(), AllocError> {
-        let number = self.cursor.pass_name(array);
-        let _ = self.is_named(body, array, number, Wanted::Array)?;
-        let index = self.expr(body, index, Wanted::of(Some(Kind::Dint)))?;
-        let element = self.element(body, (array, number), &index)?;
-        let part = self.expr(body, value, Wanted::of(element.kind))?;
-        let is_bit = element.kind == Some(Kind::Bool) && part.form == Form::Bit;
-        match element.kind {
-            Some(kind) if part.kind != Some(kind) && !is_bit => self.tell_unfit(&part, kind, None),
-            _ => Ok(()),
+    /// Tells of a variable that is assigned, where it controls a FOR around the statement.
+    pub fn assigned(&mut self, name: &Text, number: usize) {
+        let word = name.as_bytes();
+        let mut controls = self.controls.iter();
+        if controls.any(|control| same_word(control.as_bytes(), word)) {
+            let why = "is the variable of the FOR around it, and is assigned here";
+            self.say_at(STATEMENTS, number, why);
         }
     }
 
-    /// Walks a statement.
-    #[cycle(statements)]
-    fn stmt(&mut self, body: &Body<'_>, stmt: &'t Stmt<Text>) -> Result<(), AllocError> {
-        match stmt {
-            Stmt::Empty(_) => Ok(()),
-            Stmt::Assign(_, name, expr) => self.assign(body, name, expr),
-            Stmt::Store {
-                array,
-                index,
-                value,
-                ..
-            } => self.store(body, array, index, value),
-            Stmt::Call(_, instance, arguments) => self.call(body, instance, arguments),
-            Stmt::If(_, branches, last) => {
-                self.branches(body, branches)?;
-                self.stmts(body, last)
+    /// The kind of an input that a call gives to an instance of a block, or of an output that it takes, where that is sure; tells of one that isn't there, or
+    /// is there twice.
+    fn member(
+        &mut self,
+        (instance, word): (&Text, &Text),
+        name: &'t Text,
+        number: usize,
+        member: Member,
+    ) -> Option<Kind> {
+        let (what, kind) = match member {
+            Member::Given => ("input", self.body.scope.input_kind(instance, name)),
+            _ => ("output", self.body.scope.output_kind(instance, name)),
+        };
+        if kind.is_none() {
+            self.tell_no_member(word, name, number, member);
+            return None;
+        }
+        let added = self.given.add(self.alloc, name.as_str());
+        if self.told.got(added) == Some(false) {
+            self.say(
+                MEMBERS,
+                alone(number),
+                "the % @ is there twice in this call",
+                &[what],
+            );
+        }
+        kind
+    }
+
+    /// Walks the variable that takes the output of a call at the token of a number, which is of a kind, where that is known.
+    fn taker(&mut self, output: usize, kind: Option<Kind>, variable: &'t Text) {
+        let number = self.cursor.pass_name(variable);
+        let target = self.target(variable, number, kind.map_or(Wanted::Target, Wanted::Of));
+        if let (Some(kind), Some(target)) = (kind, target) {
+            if kind != target {
+                let word = self.cursor.word(number);
+                let (kind, other) = (kind_text(kind), kind_text(target));
+                let text = format!(in self.alloc;
+                    "@ is a {kind}, and '{word}', which takes it, is a {other}"
+                );
+                let text = self.made(text);
+                self.say(KINDS, alone(output), text.as_str(), &[]);
             }
-            Stmt::Case(_, selector, choices, last) => {
-                self.value(body, selector, Some(Kind::Dint), None)?;
-                self.choices(body, choices)?;
-                self.stmts(body, last)
+        }
+    }
+
+    /// Walks an argument of the call of an instance, whose block is of a word, where that is known.
+    fn argument(&mut self, instance: &Text, word: Option<&Text>, argument: &'t Argument<Text>) {
+        let (name, member) = match argument {
+            Argument::Input(name, _) => (name, Member::Given),
+            Argument::Output(name, _) => (name, Member::Taken),
+        };
+        let number = self.cursor.pass_name(name);
+        let kind = match word {
+            Some(word) => self.member((instance, word), name, number, member),
+            None => None,
+        };
+        match argument {
+            Argument::Input(_, expr) => {
+                self.value(expr, kind, Some(name));
             }
-            Stmt::For {
-                variable,
-                from,
-                to,
-                by,
-                body: inner,
-                ..
-            } => {
-                self.variable(body, variable)?;
-                self.bounds(body, [from, to], by)?;
-                self.controls.push(variable)?;
-                self.stmts(body, inner)?;
+            Argument::Output(_, variable) => self.taker(number, kind, variable),
+        }
+    }
+
+    /// Walks a call.
+    pub fn call(&mut self, instance: &'t Text, arguments: &'t [Argument<Text>]) {
+        let number = self.cursor.pass_name(instance);
+        let why = "is no instance of a block, and can't be called";
+        let word = self.block_of_instance(instance, number, (KINDS, why));
+        self.given = Names::new(self.alloc);
+        for argument in arguments {
+            self.argument(instance, word, argument);
+        }
+    }
+
+    /// The kind of a variable at the token of a number that is assigned, where that is certain; tells where it may not be assigned.
+    pub fn target(&mut self, name: &'t Text, number: usize, wanted: Wanted) -> Option<Kind> {
+        if !self.is_known(name, number, wanted) {
+            return None;
+        }
+        let kind = self.variable_kind(name, number)?;
+        if !self.body.scope.is_assignable(name) {
+            let why = "is an input of the plant, and no program may assign it";
+            self.say_at(KINDS, number, why);
+            return None;
+        }
+        self.assigned(name, number);
+        Some(kind)
+    }
+
+    /// Walks the head of a FOR.
+    fn head(&mut self, name: &'t Text, bounds: [&'t Expr<Text>; 2], by: &'t Option<Expr<Text>>) {
+        let number = self.cursor.pass_name(name);
+        if self.is_known(name, number, Wanted::Control) {
+            self.control(name, number);
+            self.assigned(name, number);
+        }
+        for bound in bounds {
+            let part = self.value(bound, Some(Kind::Dint), None);
+            self.bound(&part);
+        }
+        if let Some(by) = by {
+            let part = self.value(by, Some(Kind::Dint), None);
+            self.step(&part);
+        }
+        let pushed = self.controls.push(name);
+        self.told.got(pushed);
+    }
+
+    /// Walks a step of a body.
+    pub fn stmt(&mut self, step: Step<'t>) {
+        match step {
+            Step::Assign(name, expr) => {
+                let number = self.cursor.pass_name(name);
+                let kind = self.target(name, number, Wanted::Target);
+                self.value(expr, kind, Some(name));
+            }
+            Step::Store(array, index, value) => {
+                let element = self.element(array, index);
+                let part = self.expr(value, Wanted::of(element.kind));
+                self.judge(&part, element.kind, true, None);
+            }
+            Step::Call(instance, arguments) => self.call(instance, arguments),
+            Step::Value(expr, kind) => {
+                self.value(expr, Some(kind), None);
+            }
+            Step::Labels(choices, number) => {
+                let labels = choices.get(number).map_or(0, |choice| choice.labels.len());
+                for _ in 0..labels {
+                    self.cursor.pass_label();
+                }
+            }
+            Step::For(variable, from, to, by) => self.head(variable, [from, to], by),
+            Step::EndFor => {
                 self.controls.pop();
-                Ok(())
             }
         }
-    }
-
-    /// Walks the branches of an IF.
-    #[cycle(statements)]
-    fn branches(
-        &mut self,
-        body: &Body<'_>,
-        branches: &'t [Branch<Text>],
-    ) -> Result<(), AllocError> {
-        for branch in branches {
-            self.value(body, &branch.test, Some(Kind::Bool), None)?;
-            self.stmts(body, &branch.body)?;
-        }
-        Ok(())
-    }
-
-    /// Walks the choices of a CASE.
-    #[cycle(statements)]
-    fn choices(&mut self, body: &Body<'_>, choices: &'t [Choice<Text>]) -> Result<(), AllocError> {
-        for choice in choices {
-            self.labels(&choice.labels);
-            self.stmts(body, &choice.body)?;
-        }
-        Ok(())
-    }
-
-    /// Walks statements.
-    #[cycle(statements)]
-    pub fn stmts(&mut self, body: &Body<'_>, stmts: &'t [Stmt<Text>]) -> Result<(), AllocError> {
-        for stmt in stmts {
-            self.stmt(body, stmt)?;
-        }
-        Ok(())
     }
 }

@@ -1,65 +1,37 @@
 //! A walk over the trees of a plant's units, and what it tells.
 
 use plant_types::Text;
-use source_trees::{Cursor, Mistake, Rule, Told, Trees, joined};
+use source_trees::{Body, Cursor, Mistake, Rule, Told, Trees, filled};
 use std::alloc::{AllocError, Global};
 use token_causes::cause_at;
 use word_index::Names;
 
 /// A rule that is broken, and where to read on.
-#[derive(Clone, Copy, Drop)]
-pub struct Breach {
-    pub rule: Rule,
-    page: &'static str,
-}
+pub type Breach = (Rule, &'static str);
 
 /// A name that isn't there, or is taken.
-pub const NAMES: Breach = Breach {
-    rule: Rule::Names,
-    page: "docs/LANGUAGE.md, \"Names\"",
-};
+pub const NAMES: Breach = (Rule::Names, "docs/LANGUAGE.md, \"Names\"");
 
 /// An input or an output that a block hasn't, or that a call names twice.
-pub const MEMBERS: Breach = Breach {
-    rule: Rule::Names,
-    page: "docs/LANGUAGE.md, \"Function blocks\"",
-};
+pub const MEMBERS: Breach = (Rule::Names, "docs/LANGUAGE.md, \"Function blocks\"");
 
 /// What isn't of its kind.
-pub const KINDS: Breach = Breach {
-    rule: Rule::Kinds,
-    page: "docs/LANGUAGE.md, \"Kinds\"",
-};
+pub const KINDS: Breach = (Rule::Kinds, "docs/LANGUAGE.md, \"Kinds\"");
 
 /// What isn't of its kind, of arrays.
-pub const ARRAYS: Breach = Breach {
-    rule: Rule::Kinds,
-    page: "docs/LANGUAGE.md, \"Arrays\"",
-};
+pub const ARRAYS: Breach = (Rule::Kinds, "docs/LANGUAGE.md, \"Arrays\"");
 
 /// Bounds of an array that aren't in order.
-pub const BOUNDS: Breach = Breach {
-    rule: Rule::Constants,
-    page: "docs/LANGUAGE.md, \"Arrays\"",
-};
+pub const BOUNDS: Breach = (Rule::Constants, "docs/LANGUAGE.md, \"Arrays\"");
 
 /// A block that holds itself.
-pub const CIRCLES: Breach = Breach {
-    rule: Rule::Blocks,
-    page: "docs/LANGUAGE.md, \"Function blocks\"",
-};
+pub const CIRCLES: Breach = (Rule::Blocks, "docs/LANGUAGE.md, \"Function blocks\"");
 
 /// What isn't constant in a FOR, and what controls it.
-pub const STATEMENTS: Breach = Breach {
-    rule: Rule::Constants,
-    page: "docs/LANGUAGE.md, \"Statements\"",
-};
+pub const STATEMENTS: Breach = (Rule::Constants, "docs/LANGUAGE.md, \"Statements\"");
 
 /// An initial value that isn't constant.
-pub const VARIABLES: Breach = Breach {
-    rule: Rule::Constants,
-    page: "docs/LANGUAGE.md, \"Variables\"",
-};
+pub const VARIABLES: Breach = (Rule::Constants, "docs/LANGUAGE.md, \"Variables\"");
 
 /// A walk: what it goes over, where it is, and what it has found.
 #[derive(Drop)]
@@ -69,100 +41,62 @@ pub struct Teller<'t> {
     /// The number of the source, from 0.
     pub source: usize,
     pub cursor: Cursor<'t>,
+    /// The names of the unit.
+    pub body: Body<'t>,
     /// The variables of the FORs around the statement.
     pub controls: Vec<&'t Text>,
     /// The names that the unit uses and that aren't there, and the number of the mistake at which each is told.
     pub missing: Names,
-    pub kept: Vec<Option<usize>>,
+    pub kept: Vec<usize>,
+    /// The inputs and outputs that the call names.
+    pub given: Names,
     pub told: Told,
 }
 
 impl<'t> Teller<'t> {
-    /// A walk that hasn't begun, over a plant that is refused by a rule.
-    pub fn new(alloc: Global, plant: &'t Trees<'t>, refused: Rule) -> Teller<'t> {
-        Teller {
-            alloc,
-            plant,
-            source: 0,
-            cursor: Cursor::new(b"", &[]),
-            controls: Vec::new(alloc),
-            missing: Names::new(alloc),
-            kept: Vec::new(alloc),
-            told: Told::new(alloc, refused),
-        }
-    }
-
-    /// The mistakes that it has found.
-    pub fn into_told(self) -> Told {
-        let Teller { told, .. } = self;
-        told
-    }
-
     /// Whether what breaks a rule would be told.
     pub fn takes(&self, breach: Breach) -> bool {
-        self.told.takes(breach.rule)
+        self.told.takes(breach.0)
     }
 
-    /// Tells in these words of tokens, from the one of a number to before another, which break a rule; returns the number of the mistake, where it is told.
-    fn keep(
-        &mut self,
-        breach: Breach,
-        (first, behind): (usize, usize),
-        words: &[&str],
-    ) -> Result<Option<usize>, AllocError> {
-        if !self.takes(breach) {
-            return Ok(None);
-        }
-        let said = joined(self.alloc, words)?;
-        let mark = self.cursor.marks(first, behind);
-        self.told.add(Mistake {
-            rule: breach.rule,
-            source: self.source,
-            cause: cause_at(mark, said, breach.page),
-            more: 0,
-        })
-    }
-
-    /// Tells in these words of tokens, from the one of a number to before another, which break a rule.
-    pub fn say(
+    /// Tells of tokens, from the one of a number to before another, which break a rule, in texts that `filled` fills; returns the number of the mistake, where
+    /// it is told.
+    pub fn tell(
         &mut self,
         breach: Breach,
         tokens: (usize, usize),
+        texts: [&str; 2],
         words: &[&str],
-    ) -> Result<(), AllocError> {
-        self.keep(breach, tokens, words)?;
-        Ok(())
-    }
-
-    /// Tells of the token of a number, which breaks a rule: it stands in quotes before what is said.
-    pub fn say_at(&mut self, breach: Breach, number: usize, why: &str) -> Result<(), AllocError> {
-        let word = self.cursor.word(number);
-        self.say(breach, alone(number), &["'", word, "' ", why])
-    }
-
-    /// Tells of a name at the token of a number that isn't there; where that was told of the unit, it is counted.
-    pub fn say_missing(
-        &mut self,
-        name: &Text,
-        number: usize,
-        said: &str,
-    ) -> Result<(), AllocError> {
-        let kept = self.keep(NAMES, alone(number), &[said])?;
-        if self.missing.add(self.alloc, name.as_str())? {
-            self.kept.push(kept)?;
+    ) -> Option<usize> {
+        if !self.takes(breach) {
+            return None;
         }
-        Ok(())
+        let said = filled(self.alloc, &texts, self.cursor.quote(tokens), words);
+        let said = self.told.got(said)?;
+        let cause = cause_at(self.cursor.marks(tokens), said, breach.1);
+        Some(
+            self.told.add(Mistake {
+                rule: breach.0,
+                source: self.source,
+                cause,
+                more: 0,
+            }),
+        )
     }
 
-    /// Whether it was told of the unit that a name isn't there; then it is counted.
-    pub fn is_told(&mut self, name: &Text) -> bool {
-        let Some(number) = self.missing.find(name.as_str()) else {
-            return false;
-        };
-        if let Some(Some(kept)) = self.kept.get(number).copied() {
-            self.told.count(kept);
-        }
-        true
+    /// Tells of tokens in a text that `filled` fills.
+    pub fn say(&mut self, breach: Breach, tokens: (usize, usize), text: &str, words: &[&str]) {
+        self.tell(breach, tokens, [text, ""], words);
+    }
+
+    /// A text that was made; empty where memory was refused, which is noted.
+    pub fn made(&mut self, text: Result<String, AllocError>) -> String {
+        self.told.got(text).unwrap_or(String::new(self.alloc))
+    }
+
+    /// Tells of the token of a number, in a text that begins with it.
+    pub fn say_at(&mut self, breach: Breach, number: usize, why: &str) {
+        self.tell(breach, alone(number), ["@ ", why], &[]);
     }
 }
 

@@ -1,78 +1,76 @@
 //! All units of a plant are walked.
 
 use crate::teller::Teller;
-use source_trees::{Body, Cursor, Mistake, Rule, Source, Titles, Trees, sources_of, units_of};
+use source_trees::{
+    Body, Cursor, Mistake, Rule, Source, Told, Trees, sources_of, steps_of, units_of,
+};
 use st_names::SharedNames;
-use st_parser::{Pou, Unit};
+use st_parser::{Pou, Section, Unit};
 use std::alloc::{AllocError, Global};
 use word_index::Names;
 
 impl<'t> Teller<'t> {
-    /// Forgets which names the last unit uses that aren't there.
-    fn begin_unit(&mut self) {
+    /// Begins a unit of a name that declares these sections itself.
+    fn begin(&mut self, name: &'t str, sections: &'t [Section]) {
         self.missing = Names::new(self.alloc);
         self.kept.clear();
+        let body = Body::new(self.plant, name, sections);
+        if let Some(body) = self.told.got(body) {
+            self.body = body;
+        }
     }
 
     /// Walks a block or a program.
-    fn pou(&mut self, pou: &'t Pou) -> Result<(), AllocError> {
+    fn pou(&mut self, pou: &'t Pou) {
         let number = self.cursor.pass_name(&pou.name);
-        self.shared_name(&pou.name, number)?;
-        self.begin_unit();
-        let body = Body::new(self.alloc, self.plant, pou.name.as_str(), &pou.sections)?;
-        self.all_in(&body, pou)
-    }
-
-    /// Walks the declarations and the statements of a block or a program.
-    fn all_in(&mut self, body: &Body<'_>, pou: &'t Pou) -> Result<(), AllocError> {
-        self.sections(body, &pou.sections)?;
-        self.stmts(body, &pou.body)
+        self.shared_name(&pou.name, number);
+        self.begin(pou.name.as_str(), &pou.sections);
+        self.sections(&pou.sections);
+        let steps = steps_of(self.alloc, &pou.body);
+        if let Some(steps) = self.told.got(steps) {
+            for step in steps {
+                self.stmt(step);
+            }
+        }
     }
 
     /// Walks the globals of a source and its blocks and programs, these until as many mistakes are found as are told.
-    fn unit(&mut self, unit: &'t Unit) -> Result<(), AllocError> {
-        self.begin_unit();
-        let globals = Body::new(self.alloc, self.plant, "VAR_GLOBAL", &[])?;
-        let walked = self.sections(&globals, &unit.globals);
-        drop(globals);
-        walked?;
+    fn unit(&mut self, unit: &'t Unit) {
+        self.begin("VAR_GLOBAL", &[]);
+        self.sections(&unit.globals);
         for pou in &unit.pous {
             if self.told.is_full() {
-                return Ok(());
+                return;
             }
-            self.pou(pou)?;
+            self.pou(pou);
         }
-        Ok(())
     }
 }
 
-/// Walks all units of a plant.
-fn walk_all<'t>(teller: &mut Teller<'t>) -> Result<(), AllocError> {
-    let plant = teller.plant;
+/// The mistakes of a plant's units.
+fn mistakes_in<'t>(plant: &'t Trees<'t>, refused: Rule) -> Result<Vec<Mistake>, AllocError> {
+    let alloc = plant.alloc;
+    let mut teller = Teller {
+        alloc,
+        plant,
+        source: 0,
+        cursor: Cursor::new(b"", &[]),
+        body: Body::new(plant, "", &[])?,
+        controls: Vec::new(alloc),
+        missing: Names::new(alloc),
+        kept: Vec::new(alloc),
+        given: Names::new(alloc),
+        told: Told::new(alloc, refused),
+    };
     for (number, source) in plant.sources.iter().enumerate() {
         if let Some(unit) = plant.units.get(number) {
             teller.source = number;
             teller.cursor = Cursor::new(source.text, source.tokens.as_slice());
-            teller.unit(unit)?;
+            teller.unit(unit);
         }
     }
-    Ok(())
-}
-
-/// The mistakes of a plant's units.
-fn mistakes_in<'t>(
-    alloc: Global,
-    plant: &'t Trees<'t>,
-    refused: Rule,
-) -> Result<Vec<Mistake>, AllocError> {
-    let mut teller = Teller::new(alloc, plant, refused);
-    match walk_all(&mut teller) {
-        Ok(()) => teller.into_told().into_list(alloc),
-        Err(refused) => {
-            drop(teller);
-            Err(refused)
-        }
-    }
+    let Teller { told, .. } = teller;
+    told.into_list(alloc)
 }
 
 /// The mistakes of units whose names are known.
@@ -84,26 +82,19 @@ fn in_units(
     refused: Rule,
 ) -> Result<Vec<Mistake>, AllocError> {
     let standard = SharedNames::new(alloc, &[])?;
-    let titles = Titles::of(alloc, units)?;
-    let plant = Trees {
-        sources,
-        units,
-        shared,
-        standard: &standard,
-        titles: &titles,
-    };
-    mistakes_in(alloc, &plant, refused)
+    let plant = Trees::new(alloc, sources, units, shared, &standard)?;
+    mistakes_in(&plant, refused)
 }
 
 /// The mistakes of sources with their units.
 fn in_sources(
     alloc: Global,
     sources: &[Source<'_>],
-    units: Vec<Unit>,
+    units: &[Unit],
     refused: Rule,
 ) -> Result<Vec<Mistake>, AllocError> {
-    let shared = SharedNames::new(alloc, units.as_slice())?;
-    in_units(alloc, sources, units.as_slice(), &shared, refused)
+    let shared = SharedNames::new(alloc, units)?;
+    in_units(alloc, sources, units, &shared, refused)
 }
 
 /// What is wrong in the units of the sources of a plant, that is refused by a rule: first the first mistake that breaks this rule, and then the others in
@@ -114,8 +105,6 @@ pub fn mistakes<'a>(
     refused: Rule,
 ) -> Result<Vec<Mistake>, AllocError> {
     let sources = sources_of(alloc, texts)?;
-    match units_of(alloc, sources.as_slice())? {
-        Some(units) => in_sources(alloc, sources.as_slice(), units, refused),
-        None => Ok(Vec::new(alloc)),
-    }
+    let units = units_of(alloc, sources.as_slice())?;
+    in_sources(alloc, sources.as_slice(), units.as_slice(), refused)
 }

@@ -6,15 +6,10 @@
 #![tactic(auto)]
 
 mod counts;
-mod depths;
-mod elements;
-mod fors;
 mod limits;
 mod measures;
-mod spots;
 mod totals;
 mod weights;
 
-pub use limits::{Past, where_past};
+pub use limits::where_past;
 pub use measures::Measure;
-pub use spots::Found;

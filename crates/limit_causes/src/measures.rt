@@ -1,12 +1,19 @@
-//! What is counted of programs and blocks (C10 SLOTS, SIZE, COST).
+//! What has a limit in the sources (C10).
 
-use plant_types::{Text, same_word};
+use plant_types::{Bounds, Text, same_word};
 use st_tree::Expr;
 use st_typing::for_turns;
 
-/// What is counted.
+/// What is counted in sources, and limited.
 #[derive(Clone, Copy, PartialEq, Eq, Drop)]
 pub enum Measure {
+    /// The turns of a FOR.
+    Turns,
+    /// The elements of an array.
+    Elements,
+    /// How deep blocks are.
+    Depth,
+    Programs,
     /// Variables and standard blocks, in each instance anew.
     Slots,
     /// How large bodies are: all branches count, and one turn of a FOR.
@@ -28,10 +35,20 @@ pub fn standard_slots(word: &Text) -> Option<u64> {
     None
 }
 
+/// How many elements an array with these bounds has.
+pub fn length_of(bounds: Bounds) -> u64 {
+    let span = i64::from(bounds.high).saturating_sub(i64::from(bounds.low));
+    u64::try_from(span.saturating_add(1)).unwrap_or(0)
+}
+
 impl Measure {
     /// The most that is allowed.
     pub fn most(self) -> u64 {
         match self {
+            Measure::Turns => 10_000,
+            Measure::Elements => 4_096,
+            Measure::Depth => 16,
+            Measure::Programs => 512,
             Measure::Slots => 65_536,
             Measure::Size => 1_000_000,
             Measure::Cost => 2_000_000,
@@ -49,16 +66,8 @@ impl Measure {
     /// How many turns of a FOR count.
     pub fn turns(self, from: &Expr<Text>, to: &Expr<Text>, by: &Option<Expr<Text>>) -> u64 {
         match self {
-            Measure::Cost => u64::try_from(for_turns(from, to, by)).unwrap_or(u64::MAX),
-            _ => 1,
-        }
-    }
-
-    /// What an instance of a block counts that is there from the start, by its slots.
-    pub fn of_standard(self, slots: u64) -> u64 {
-        match self {
-            Measure::Slots => slots,
-            _ => 1,
+            Measure::Size => 1,
+            _ => u64::try_from(for_turns(from, to, by)).unwrap_or(u64::MAX),
         }
     }
 }

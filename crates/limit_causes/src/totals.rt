@@ -1,83 +1,45 @@
 //! The program with which the sources are past a limit (C10 PROGRAMS, SLOTS, SIZE, COST).
 
 use crate::counts::Counts;
-use crate::elements::length_of;
+use crate::limits::{Found, LIMITS, for_mark};
 use crate::measures::Measure;
-use crate::spots::{Found, LIMITS, for_mark};
 use crate::weights::Weight;
-use plant_types::Text;
-use source_trees::{Source, joined, mark_of};
-use st_parser::{PouKind, Sort, Unit};
+use source_trees::{Entry, Form, Source, filled, mark_of};
 use std::alloc::{AllocError, Global};
 use token_causes::cause_at;
 
 /// Where it stands what programs cost.
 const COSTS: &str = "docs/LANGUAGE.md, \"To read C10 COST\"";
 
-/// The most programs of a plant.
-const MOST_PROGRAMS: usize = 512;
-
-/// What is said where there are too many slots.
+/// What is said first where there are too many slots.
 const SLOTS: &str =
-    " variables and standard blocks, in each instance anew, and at most 65536 are allowed: with ";
+    "there are % variables and standard blocks, in each instance anew, and at most 65536 are allowed: with ";
 
-/// A program, or a global: its name, the number of its source, from 0, and what it counts.
-#[derive(Clone, Copy, Drop)]
-struct Title<'t> {
-    source: usize,
-    name: &'t Text,
-    weight: Weight,
-}
+/// A program, or a global, and what it counts.
+type Counted<'a, 't> = (&'a Entry<'t>, Weight);
 
-/// The programs of units in order of text, with what each counts, if that is to be known.
-fn programs_of<'t>(
+/// What is counted: globals, if they are, and then programs, in order of text.
+fn counted<'a, 't>(
     alloc: Global,
-    units: &'t [Unit],
-    counts: Option<&Counts>,
-) -> Result<Vec<Title<'t>>, AllocError> {
-    let mut titles = Vec::new(alloc);
-    for (source, unit) in units.iter().enumerate() {
-        for pou in &unit.pous {
-            if matches!(pou.kind, PouKind::Program) {
-                titles.push(Title {
-                    source,
-                    name: &pou.name,
-                    weight: match counts {
-                        Some(counts) => counts.of_pou(alloc, pou)?,
-                        None => Weight::of(1),
-                    },
-                })?;
+    entries: &'a [Entry<'t>],
+    measure: Measure,
+) -> Result<Vec<Counted<'a, 't>>, AllocError> {
+    let counts = Counts::of(alloc, entries, measure)?;
+    let mut list = Vec::new(alloc);
+    for entry in entries {
+        match &entry.form {
+            Form::Declared(declared) if measure == Measure::Slots && entry.owner.is_empty() => {
+                list.push((entry, Weight::of(counts.of_name(declared))))?;
             }
+            _ => {}
         }
     }
-    Ok(titles)
-}
-
-/// How many slots each name of a global declaration has.
-fn slots_of(sort: &Sort) -> u64 {
-    match sort {
-        Sort::Array(bounds, _) => length_of(*bounds),
-        _ => 1,
-    }
-}
-
-/// The globals of units in order of text, and the slots of each.
-fn globals_of(alloc: Global, units: &[Unit]) -> Result<Vec<Title<'_>>, AllocError> {
-    let mut titles = Vec::new(alloc);
-    for (source, unit) in units.iter().enumerate() {
-        for section in &unit.globals {
-            for declaration in &section.declarations {
-                for name in &declaration.names {
-                    titles.push(Title {
-                        source,
-                        name,
-                        weight: Weight::of(slots_of(&declaration.sort)),
-                    })?;
-                }
-            }
+    for entry in entries {
+        if let Form::Program(pou) = &entry.form {
+            list.push((entry, counts.of_pou(pou)?))?;
         }
     }
-    Ok(titles)
+    Ok(list)
 }
 
 /// A count as it is written; of one that is beyond what is counted that it is.
@@ -88,184 +50,99 @@ fn written(alloc: Global, count: u64) -> Result<String, AllocError> {
     count.to_string(alloc)
 }
 
-/// What is said of a program, by what the plant counts in all and what the program does.
-fn said_of(
-    alloc: Global,
-    measure: Measure,
-    title: &Title<'_>,
-    total: u64,
-) -> Result<String, AllocError> {
-    let (own, total) = (written(alloc, title.weight.total)?, written(alloc, total)?);
-    let (name, own, total) = (title.name.as_str(), own.as_str(), total.as_str());
-    let own = joined(
-        alloc,
-        &[
-            "the program '",
-            name,
-            "', which has ",
-            own,
-            ", they are too ",
-        ],
-    )?;
-    let own = own.as_str();
-    match measure {
-        Measure::Slots => joined(alloc, &["there are ", total, SLOTS, own, "many"]),
-        Measure::Size => {
-            let before = "the programs together have the size ";
-            let words = [
-                before,
-                total,
-                ", and at most 1000000 is allowed: with ",
-                own,
-                "large",
-            ];
-            joined(alloc, &words)
-        }
-        Measure::Cost => {
-            let most = ", and at most 2000000 is allowed";
-            joined(
-                alloc,
-                &["a scan of the program '", name, "' costs ", total, most],
-            )
-        }
-    }
-}
-
-/// What is said before and behind the number of a part of a program.
-fn around_part(measure: Measure) -> (&'static str, &'static str) {
-    match measure {
-        Measure::Slots => ("; this instance has ", " of them"),
-        Measure::Size => ("; this call has ", " of it"),
-        Measure::Cost => ("; this call costs ", ""),
-    }
-}
-
-/// Where the part of a program that counts most stands, and what is said of it; the program's name and nothing where no part stands out.
+/// Where the part of a program that counts most stands, what is said of it, and its number; the program's name and nothing where no part stands out.
 fn told_part(
-    alloc: Global,
     measure: Measure,
     source: &Source<'_>,
-    title: &Title<'_>,
-) -> Result<((usize, usize), String), AllocError> {
-    match (title.weight.around, title.weight.part) {
-        (Some((at, times)), _) if measure == Measure::Cost => {
-            let times = written(alloc, times)?;
-            let before = ": the body of this FOR runs ";
-            let words = [before, times.as_str(), " times, with all that it calls"];
-            Ok((for_mark(source, at), joined(alloc, &words)?))
+    (entry, weight): Counted<'_, '_>,
+) -> ((usize, usize), &'static str, u64) {
+    match (measure, weight.around, weight.part) {
+        (Measure::Cost, Some((at, times)), _) => {
+            let said = ": the body of this FOR runs % times, with all that it calls";
+            (for_mark(source, at), said, times)
         }
-        (_, Some((mark, count))) if count > 1 => {
-            let (before, behind) = around_part(measure);
-            let count = written(alloc, count)?;
-            Ok((mark, joined(alloc, &[before, count.as_str(), behind])?))
+        (_, _, Some((mark, count))) if count > 1 => {
+            let said = match measure {
+                Measure::Slots => "; this instance has % of them",
+                Measure::Size => "; this call has % of it",
+                _ => "; this call costs %",
+            };
+            (mark, said, count)
         }
-        _ => Ok((mark_of(title.name), String::new(alloc))),
+        _ => (mark_of(entry.name), "", 0),
     }
 }
 
-/// The first program that is past a limit, alone by its cost, or with all before it and a number of globals.
-fn first_past<'a, 't>(
-    measure: Measure,
-    titles: &'a [Title<'t>],
-    globals: u64,
-) -> Option<&'a Title<'t>> {
-    let mut total = globals;
-    for title in titles {
-        total = match measure {
-            Measure::Cost => title.weight.total,
-            _ => total.saturating_add(title.weight.total),
-        };
-        if total > measure.most() {
-            return Some(title);
-        }
-    }
-    None
-}
-
-/// What programs or globals count together.
-fn total_of(titles: &[Title<'_>]) -> u64 {
-    let mut total = 0u64;
-    for title in titles {
-        total = total.saturating_add(title.weight.total);
-    }
-    total
-}
-
-/// What is said of a program that is past a limit, where most of what it counts stands.
+/// What is said of a program, or a global, that is past a limit, by what there is in all, and where most of what it counts stands.
 fn told(
     alloc: Global,
-    sources: &[Source<'_>],
+    source: &Source<'_>,
     measure: Measure,
-    (title, total): (&Title<'_>, u64),
-) -> Result<Option<Found>, AllocError> {
-    let Some(source) = sources.get(title.source) else {
-        return Ok(None);
+    (entry, weight): Counted<'_, '_>,
+    total: u64,
+) -> Result<Found, AllocError> {
+    let (mark, part, count) = told_part(measure, source, (entry, weight));
+    let (text, more) = match measure {
+        Measure::Programs => (
+            "there are % programs, and at most 512 are allowed: with ",
+            "this one they are too many",
+        ),
+        Measure::Slots if entry.is_global(None) => (SLOTS, "this global they are too many"),
+        Measure::Slots => (SLOTS, "the program '%', which has %, they are too many"),
+        Measure::Size => (
+            "the programs together have the size %, and at most 1000000 is allowed: with ",
+            "the program '%', which has %, they are too large",
+        ),
+        _ => (
+            "a scan of the program '%' costs %",
+            ", and at most 2000000 is allowed",
+        ),
     };
-    let (total, page) = match measure {
-        Measure::Cost => (title.weight.total, COSTS),
-        _ => (total, LIMITS),
+    let total = written(alloc, total)?;
+    let own = written(alloc, weight.total)?;
+    let count = written(alloc, count)?;
+    let words = [
+        total.as_str(),
+        entry.name.as_str(),
+        own.as_str(),
+        count.as_str(),
+    ];
+    let words = words
+        .get(usize::from(measure == Measure::Cost)..)
+        .unwrap_or(&[]);
+    let said = filled(alloc, &[text, more, part], "", words)?;
+    let page = if measure == Measure::Cost {
+        COSTS
+    } else {
+        LIMITS
     };
-    let (mark, behind) = told_part(alloc, measure, source, title)?;
-    let mut said = said_of(alloc, measure, title, total)?;
-    said.push_str(behind.as_str())?;
-    Ok(Some(Found {
-        source: title.source,
-        cause: cause_at(mark, said, page),
-    }))
+    Ok((entry.source, cause_at(mark, said, page)))
 }
 
-/// What is said at a name with which there are too many; nothing where there is none.
-fn too_many_with(
-    alloc: Global,
-    title: Option<&Title<'_>>,
-    words: &[&str],
-) -> Result<Option<Found>, AllocError> {
-    let Some(title) = title else {
-        return Ok(None);
-    };
-    Ok(Some(Found {
-        source: title.source,
-        cause: cause_at(mark_of(title.name), joined(alloc, words)?, LIMITS),
-    }))
-}
-
-/// The program that is one too many; `None` where none is.
-pub fn program_too_many(alloc: Global, units: &[Unit]) -> Result<Option<Found>, AllocError> {
-    let titles = programs_of(alloc, units, None)?;
-    let count = titles.len().to_string(alloc)?;
-    let behind = " programs, and at most 512 are allowed: with this one they are too many";
-    let words = ["there are ", count.as_str(), behind];
-    too_many_with(alloc, titles.get(MOST_PROGRAMS), &words)
-}
-
-/// The program with which the sources are past a limit, or where the globals alone have too many slots, the global; `None` where there is none.
+/// The program with which the sources are past a limit, alone by its cost, or with all before it; where the globals alone have too many slots, the global. None
+/// where there is none.
 pub fn too_much(
     alloc: Global,
     sources: &[Source<'_>],
-    units: &[Unit],
+    entries: &[Entry<'_>],
     measure: Measure,
 ) -> Result<Option<Found>, AllocError> {
-    let counts = Counts::of(alloc, units, measure)?;
-    let titles = programs_of(alloc, units, Some(&counts))?;
-    let globals = match measure {
-        Measure::Slots => globals_of(alloc, units)?,
-        _ => Vec::new(alloc),
-    };
-    let before = total_of(globals.as_slice());
-    let total = before.saturating_add(total_of(titles.as_slice()));
-    let past = first_past(measure, globals.as_slice(), 0);
-    if past.is_some() {
-        let count = written(alloc, total)?;
-        let words = [
-            "there are ",
-            count.as_str(),
-            SLOTS,
-            "this global they are too many",
-        ];
-        return too_many_with(alloc, past, &words);
+    let (mut total, mut past) = (0u64, None);
+    for counted in counted(alloc, entries, measure)? {
+        total = total.saturating_add(counted.1.total);
+        let reached = match measure {
+            Measure::Cost => counted.1.total,
+            _ => total,
+        };
+        if past.is_none() && reached > measure.most() {
+            past = Some(counted);
+        }
     }
-    match first_past(measure, titles.as_slice(), before) {
-        Some(title) => told(alloc, sources, measure, (title, total)),
+    let Some(past) = past else {
+        return Ok(None);
+    };
+    match sources.get(past.0.source) {
+        Some(source) => Ok(Some(told(alloc, source, measure, past, total)?)),
         None => Ok(None),
     }
 }

@@ -6,18 +6,12 @@ use source_trees::mark_of;
 use st_tree::{Argument, Branch, Choice, Expr, Stmt};
 use word_index::Names;
 
-/// The instances of a block or a program, and what each counts.
+/// By what a body is weighed: the names of its instances, and what each counts.
 #[derive(Drop)]
-pub struct Instances {
+pub struct Scale {
+    pub measure: Measure,
     pub names: Names,
     pub counts: Vec<u64>,
-}
-
-/// By what a body is weighed.
-#[derive(Drop)]
-pub struct Scale<'s> {
-    pub measure: Measure,
-    pub instances: &'s Instances,
 }
 
 /// What a body weighs, and which part of it weighs most.
@@ -45,10 +39,7 @@ impl Weight {
 
     /// What weighs so much more.
     fn plus(self, more: u64) -> Weight {
-        Weight {
-            total: self.total.saturating_add(more),
-            ..self
-        }
+        self.beside(Weight::of(0), self.total.saturating_add(more))
     }
 
     /// Two that weigh so much together.
@@ -91,13 +82,11 @@ fn of_arguments(arguments: &[Argument<Text>]) -> u64 {
     total
 }
 
-impl Scale<'_> {
+impl Scale {
     /// What a call weighs.
     fn of_call(&self, name: &Text, arguments: &[Argument<Text>]) -> Weight {
-        let called = match self.instances.names.find(name.as_str()) {
-            Some(number) => self.instances.counts.get(number).copied().unwrap_or(0),
-            None => 0,
-        };
+        let number = self.names.find(name.as_str());
+        let called = number.map_or(0, |number| self.counts.get(number).copied().unwrap_or(0));
         let given = of_arguments(arguments).saturating_add(1);
         Weight {
             total: called.saturating_add(given),
@@ -143,20 +132,14 @@ impl Scale<'_> {
             Stmt::Empty(_) => Weight::of(1),
             Stmt::Assign(_, _, expr) => Weight::of(of_expr(expr).saturating_add(1)),
             Stmt::Store { index, value, .. } => {
-                Weight::of(
-                    of_expr(index)
-                        .saturating_add(of_expr(value))
-                        .saturating_add(2),
-                )
+                let both = of_expr(index).saturating_add(of_expr(value));
+                Weight::of(both.saturating_add(2))
             }
             Stmt::Call(_, name, arguments) => self.of_call(name, arguments),
-            Stmt::If(_, branches, last) => {
-                let last = self.of_stmts(last);
-                self.of_branches(branches, last)
-            }
+            Stmt::If(_, branches, last) => self.of_branches(branches, self.of_stmts(last)),
             Stmt::Case(_, selector, choices, last) => {
-                let last = self.of_stmts(last);
-                self.of_choices(choices, last).plus(of_expr(selector))
+                let inside = self.of_choices(choices, self.of_stmts(last));
+                inside.plus(of_expr(selector))
             }
             Stmt::For {
                 variable,

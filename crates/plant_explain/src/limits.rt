@@ -1,21 +1,21 @@
 //! Where a limit isn't kept (C10).
 
-use limit_causes::{Measure, Past, where_past};
+use limit_causes::{Measure, where_past};
 use plant_config::Limit;
 use plant_folder::PlantTexts;
 use plant_places::{FileOf, Spot, over_limit};
 use std::alloc::{AllocError, Global};
 
 /// A limit of the sources, as their trees tell it; `None` for another.
-fn past_of(limit: Limit) -> Option<Past> {
+fn measure_of(limit: Limit) -> Option<Measure> {
     match limit {
-        Limit::Turns => Some(Past::Turns),
-        Limit::BlockDepth => Some(Past::BlockDepth),
-        Limit::Programs => Some(Past::Programs),
-        Limit::Elements => Some(Past::Elements),
-        Limit::Slots => Some(Past::Counted(Measure::Slots)),
-        Limit::Size => Some(Past::Counted(Measure::Size)),
-        Limit::Cost => Some(Past::Counted(Measure::Cost)),
+        Limit::Turns => Some(Measure::Turns),
+        Limit::BlockDepth => Some(Measure::Depth),
+        Limit::Programs => Some(Measure::Programs),
+        Limit::Elements => Some(Measure::Elements),
+        Limit::Slots => Some(Measure::Slots),
+        Limit::Size => Some(Measure::Size),
+        Limit::Cost => Some(Measure::Cost),
         _ => None,
     }
 }
@@ -27,12 +27,10 @@ pub fn spots_past(
     limit: Limit,
 ) -> Result<Vec<Spot>, AllocError> {
     let mut spots = Vec::new(alloc);
-    if let Some(told) = past_of(limit) {
-        for found in where_past(alloc, texts.sources, told)? {
-            spots.push(Spot {
-                file: FileOf::Source(found.source),
-                cause: found.cause,
-            })?;
+    if let Some(measure) = measure_of(limit) {
+        for (source, cause) in where_past(alloc, texts.sources, measure)? {
+            let file = FileOf::Source(source);
+            spots.push(Spot { file, cause })?;
         }
     }
     if spots.is_empty() {

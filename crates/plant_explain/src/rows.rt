@@ -69,10 +69,8 @@ pub fn spots_in_rows(
     mistakes: &[RowMistake],
 ) -> Result<Vec<Spot>, AllocError> {
     let sources = sources_of(alloc, texts.sources)?;
-    match units_of(alloc, sources.as_slice())? {
-        Some(units) => spots_of(alloc, texts, units.as_slice(), mistakes),
-        None => spots_of(alloc, texts, &[], mistakes),
-    }
+    let units = units_of(alloc, sources.as_slice())?;
+    spots_of(alloc, texts, units.as_slice(), mistakes)
 }
 
 /// The globals of a source, of which a block or a program may be at fault; `None` where it isn't certain that they are all.

@@ -1,10 +1,10 @@
 //! What is likely to be wrong in a plant that is accepted.
 
-use body_uses::{File, Looking, Warning, look};
+use body_uses::{Looking, Warning, look};
 use plant_config::{AlarmRow, Plant};
 use plant_folder::PlantTexts;
 use plant_places::{Field, FileOf, Spot, first_field, next_field};
-use plant_types::Region;
+use source_trees::{entries_of, sources_of, units_of};
 use std::alloc::{AllocError, Global};
 use word_index::Names;
 
@@ -41,15 +41,6 @@ struct Alarms<'p> {
     tags: Names,
 }
 
-/// The names of a plant's globals.
-fn globals_of(alloc: Global, plant: &Plant) -> Result<Names, AllocError> {
-    let mut names = Names::new(alloc);
-    for global in plant.globals() {
-        names.add(alloc, global.name.as_str())?;
-    }
-    Ok(names)
-}
-
 /// Whether no console of a plant has an area.
 fn is_lone(plant: &Plant, area: u32) -> bool {
     for console in plant.consoles() {
@@ -70,85 +61,58 @@ fn lone_areas(alloc: Global, plant: &Plant) -> Result<Vec<bool>, AllocError> {
 }
 
 impl<'p> Alarms<'p> {
-    /// Keeps a warning at the field of a column of an alarm, by its number from 0.
+    /// Keeps a warning at the field of a column of an alarm, by its number from 0: a text with a name in the place of its `@`.
     fn warn(
         &self,
         looking: &mut Looking<'_>,
         (alarm, column): (usize, usize),
-        said: String,
-    ) -> Result<(), AllocError> {
-        match field_at(self.text, alarm, column) {
-            Some(field) => looking.warn_in(File::Alarms, (field.from, field.until), said),
-            None => Ok(()),
+        text: &str,
+        name: &str,
+    ) {
+        if let Some(field) = field_at(self.text, alarm, column) {
+            looking.warn_in(None, (field.from, field.until), text, (name, &[]));
+        }
+    }
+
+    /// The name of a global, by its number.
+    fn global(&self, number: u32) -> &str {
+        match self.plant.globals().get(number as usize) {
+            Some(global) => global.name.as_str(),
+            None => "",
         }
     }
 
     /// Notes that the condition of an alarm is read, and tells where nothing assigns it.
-    fn condition(
-        &self,
-        looking: &mut Looking<'_>,
-        alarm: usize,
-        row: &AlarmRow,
-    ) -> Result<(), AllocError> {
-        let number = row.condition as usize;
-        let Some(known) = looking.globals.known.get_mut(number) else {
-            return Ok(());
-        };
-        known.is_read = true;
-        let is_idle = !known.is_assigned && !matches!(known.region, Some(Region::Input));
-        if !is_idle {
-            return Ok(());
+    fn condition(&self, looking: &mut Looking<'_>, alarm: usize, row: &AlarmRow) {
+        let name = self.global(row.condition);
+        if looking.is_idle_condition(name) {
+            let text = "nothing assigns @, the condition of this alarm, and it is no input";
+            self.warn(looking, (alarm, CONDITION), text, name);
         }
-        known.is_told = true;
-        let word = looking.globals.names.get(number).unwrap_or("");
-        let said = format!(in self.alloc;
-            "warning: nothing assigns '{word}', the condition of this alarm, and it is no input"
-        )?;
-        self.warn(looking, (alarm, CONDITION), said)
     }
 
     /// Notes that what suppresses an alarm is read, and tells where that is its condition.
-    fn suppression(
-        &self,
-        looking: &mut Looking<'_>,
-        alarm: usize,
-        row: &AlarmRow,
-    ) -> Result<(), AllocError> {
+    fn suppression(&self, looking: &mut Looking<'_>, alarm: usize, row: &AlarmRow) {
         let Some(number) = row.suppress else {
-            return Ok(());
+            return;
         };
-        if let Some(known) = looking.globals.known.get_mut(number as usize) {
-            known.is_read = true;
+        looking.note_read(self.global(number));
+        if number == row.condition {
+            let text = "this alarm is suppressed by its own condition, so nobody ever hears of it";
+            self.warn(looking, (alarm, SUPPRESS), text, "");
         }
-        if number != row.condition {
-            return Ok(());
-        }
-        let said = String::from_str(
-            self.alloc,
-            "warning: this alarm is suppressed by its own condition, so nobody ever hears of it",
-        )?;
-        self.warn(looking, (alarm, SUPPRESS), said)
     }
 
     /// Tells of an area that no console has, once.
-    fn area(
-        &mut self,
-        looking: &mut Looking<'_>,
-        alarm: usize,
-        row: &AlarmRow,
-    ) -> Result<(), AllocError> {
+    fn area(&mut self, looking: &mut Looking<'_>, alarm: usize, row: &AlarmRow) {
         let Some(is_lone) = self.lone.get_mut(row.area as usize) else {
-            return Ok(());
+            return;
         };
-        if !*is_lone {
-            return Ok(());
+        if *is_lone {
+            *is_lone = false;
+            let text = "no console has this area, so nobody may acknowledge its alarms";
+            self.warn(looking, (alarm, AREA), text, "");
         }
-        *is_lone = false;
-        let said = String::from_str(
-            self.alloc,
-            "warning: no console has this area, so nobody may acknowledge its alarms",
-        )?;
-        self.warn(looking, (alarm, AREA), said)
     }
 
     /// Tells of a tag that differs from an earlier one by letter case alone.
@@ -163,10 +127,9 @@ impl<'p> Alarms<'p> {
         }
         let number = self.tags.find(tag).unwrap_or(0);
         let other = self.tags.get(number).unwrap_or("");
-        let said = format!(in self.alloc;
-            "warning: this tag differs from '{other}' by letter case alone, and they are two alarms"
-        )?;
-        self.warn(looking, (alarm, TAG), said)
+        let text = "this tag differs from @ by letter case alone, and they are two alarms";
+        self.warn(looking, (alarm, TAG), text, other);
+        Ok(())
     }
 
     /// Goes through the alarms.
@@ -177,9 +140,9 @@ impl<'p> Alarms<'p> {
                 return Ok(());
             }
             self.tag(looking, alarm, plant.tag(alarm as u32))?;
-            self.area(looking, alarm, row)?;
-            self.condition(looking, alarm, row)?;
-            self.suppression(looking, alarm, row)?;
+            self.area(looking, alarm, row);
+            self.condition(looking, alarm, row);
+            self.suppression(looking, alarm, row);
         }
         Ok(())
     }
@@ -188,35 +151,11 @@ impl<'p> Alarms<'p> {
 /// Where warnings are shown.
 fn spots_of(alloc: Global, warnings: Vec<Warning>) -> Result<Vec<Spot>, AllocError> {
     let mut spots = Vec::new(alloc);
-    for warning in warnings {
-        let Warning { file, cause } = warning;
-        let file = match file {
-            File::Source(number) => FileOf::Source(number),
-            File::Alarms => FileOf::Alarms,
-        };
+    for (source, cause) in warnings {
+        let file = source.map_or(FileOf::Alarms, FileOf::Source);
         spots.push(Spot { file, cause })?;
     }
     Ok(spots)
-}
-
-/// Goes through the alarms of a plant, and then through what its sources left.
-fn look_on<'p>(
-    alloc: Global,
-    text: &'p [u8],
-    plant: &'p Plant,
-    looking: &mut Looking<'_>,
-) -> Result<(), AllocError> {
-    let mut alarms = Alarms {
-        alloc,
-        plant,
-        text,
-        lone: lone_areas(alloc, plant)?,
-        tags: Names::new(alloc),
-    };
-    let gone = alarms.go_through(looking);
-    drop(alarms);
-    gone?;
-    looking.end()
 }
 
 /// What is likely to be wrong in an accepted plant of texts, each with its place; twenty at most.
@@ -225,13 +164,23 @@ pub fn find_warnings(
     texts: &PlantTexts<'_>,
     plant: &Plant,
 ) -> Result<Vec<Spot>, AllocError> {
-    let globals = globals_of(alloc, plant)?;
-    let mut looking = look(alloc, texts.sources, globals)?;
-    match look_on(alloc, texts.alarms, plant, &mut looking) {
-        Ok(()) => spots_of(alloc, looking.into_warnings()),
-        Err(refused) => {
-            drop(looking);
-            Err(refused)
-        }
-    }
+    let sources = sources_of(alloc, texts.sources)?;
+    let units = units_of(alloc, sources.as_slice())?;
+    let entries = entries_of(alloc, units.as_slice())?;
+    let mut looking = look(
+        alloc,
+        sources.as_slice(),
+        units.as_slice(),
+        entries.as_slice(),
+    )?;
+    let mut alarms = Alarms {
+        alloc,
+        plant,
+        text: texts.alarms,
+        lone: lone_areas(alloc, plant)?,
+        tags: Names::new(alloc),
+    };
+    alarms.go_through(&mut looking)?;
+    looking.end();
+    spots_of(alloc, looking.into_warnings()?)
 }

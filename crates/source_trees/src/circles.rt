@@ -2,8 +2,9 @@
 
 use crate::trees::Trees;
 use plant_types::{Text, same_word};
+use st_names::declared_in;
 use st_parser::{Pou, Sort};
-use std::alloc::{AllocError, Global};
+use std::alloc::AllocError;
 use word_index::Names;
 
 /// Blocks behind so many aren't looked at.
@@ -11,58 +12,37 @@ const MOST_BLOCKS: usize = 4_096;
 
 /// Adds the words of the blocks of which a block declares an instance, but for those that are there.
 fn add_held<'t>(
-    alloc: Global,
+    plant: &Trees<'t>,
     pou: &'t Pou,
     names: &mut Names,
     words: &mut Vec<&'t Text>,
 ) -> Result<(), AllocError> {
-    for section in &pou.sections {
-        for declaration in &section.declarations {
-            if let Sort::Block(word) = &declaration.sort {
-                if names.add(alloc, word.as_str())? {
-                    words.push(word)?;
-                }
+    let list = declared_in(plant.alloc, &pou.sections)?;
+    for declared in &list {
+        if let Sort::Block(word) = declared.sort() {
+            if names.add(plant.alloc, word.as_str())? {
+                words.push(word)?;
             }
         }
     }
     Ok(())
 }
 
-/// Whether one of the blocks of words, or one behind it, is the block of a name; the words of those behind are added.
-fn finds<'t>(
-    alloc: Global,
-    plant: &Trees<'t>,
-    name: &str,
-    names: &mut Names,
-    words: &mut Vec<&'t Text>,
-) -> Result<bool, AllocError> {
+/// Whether instances of a block lead to the block of a name.
+pub fn leads_back<'t>(plant: &Trees<'t>, word: &'t Text, name: &str) -> Result<bool, AllocError> {
+    let mut names = Names::new(plant.alloc);
+    let mut words = Vec::new(plant.alloc);
+    words.push(word)?;
     for number in 0..MOST_BLOCKS {
-        let Some(word) = words.get(number) else {
+        let Some(word) = words.get(number).copied() else {
             return Ok(false);
         };
-        let word: &Text = *word;
         if same_word(word.as_bytes(), name.as_bytes()) {
             return Ok(true);
         }
         if let Some(pou) = plant.block(word) {
-            add_held(alloc, pou, names, words)?;
+            add_held(plant, pou, &mut names, &mut words)?;
         }
     }
     Ok(false)
-}
-
-/// Whether instances of a block lead to the block of a name.
-pub fn leads_back<'t>(
-    alloc: Global,
-    plant: &Trees<'t>,
-    word: &'t Text,
-    name: &str,
-) -> Result<bool, AllocError> {
-    let mut names = Names::new(alloc);
-    let mut words = Vec::new(alloc);
-    words.push(word)?;
-    let found = finds(alloc, plant, name, &mut names, &mut words);
-    drop(names);
-    drop(words);
-    found
 }

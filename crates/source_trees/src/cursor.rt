@@ -1,63 +1,36 @@
 //! Where the words, literals and operators of a tree stand: a walk of the tree in order of text goes along the tokens of its source.
 
 use plant_types::Text;
-use st_lexer::{Keyword, Symbol, Token, TokenKind};
-use std::alloc::{AllocError, Global};
-use token_causes::{kind_at, kind_before, span_of, word_at};
+use st_lexer::Token;
+use std::str;
+use token_causes::{part, sign_at, sign_before, sign_of, span_of, word_at};
 
-/// What has more bytes isn't quoted.
+/// Of several tokens what has more bytes isn't quoted.
 const LONGEST_QUOTE: usize = 48;
 
 /// What is sought among tokens.
 #[derive(Clone, Copy, Drop)]
 pub enum Sought {
+    /// What stands at a byte, or behind it.
+    At(usize),
     Literal,
-    Operator,
+    /// NOT, or a minus before its operand.
+    Prefix,
+    /// An operator, from the end of what stands before it on.
+    Infix,
     /// What closes an index.
     CloseBracket,
 }
 
-/// Whether a keyword is an operator.
-fn is_operator_word(keyword: Keyword) -> bool {
-    matches!(
-        keyword,
-        Keyword::And | Keyword::Or | Keyword::Xor | Keyword::Not | Keyword::Mod
-    )
-}
-
-/// Whether a symbol is an operator.
-fn is_operator_symbol(symbol: Symbol) -> bool {
-    matches!(
-        symbol,
-        Symbol::AtMost
-            | Symbol::AtLeast
-            | Symbol::Unequal
-            | Symbol::Equal
-            | Symbol::Less
-            | Symbol::Greater
-            | Symbol::Plus
-            | Symbol::Minus
-            | Symbol::Times
-            | Symbol::Divide
-            | Symbol::Ampersand
-    )
-}
-
 /// Whether a token is what is sought.
-fn is_sought(sought: Sought, kind: TokenKind) -> bool {
-    match (sought, kind) {
-        (Sought::Operator, TokenKind::Keyword(keyword)) => is_operator_word(keyword),
-        (Sought::Operator, TokenKind::Symbol(symbol)) => is_operator_symbol(symbol),
-        (Sought::CloseBracket, TokenKind::Symbol(symbol)) => symbol == Symbol::CloseBracket,
-        (Sought::Literal, TokenKind::Keyword(Keyword::True | Keyword::False)) => true,
-        (
-            Sought::Literal,
-            TokenKind::Integer(_)
-            | TokenKind::Dint(_)
-            | TokenKind::Truth(_)
-            | TokenKind::Duration(_),
-        ) => true,
-        _ => false,
+fn is_sought(sought: Sought, token: &Token) -> bool {
+    let sign = sign_of(token.kind);
+    match sought {
+        Sought::At(at) => token.from >= at,
+        Sought::Literal => matches!(sign, "TRUE" | "FALSE" | "int" | "literal"),
+        Sought::Prefix => matches!(sign, "NOT" | "-"),
+        Sought::Infix => sign != ")",
+        Sought::CloseBracket => sign == "]",
     }
 }
 
@@ -65,12 +38,10 @@ fn is_sought(sought: Sought, kind: TokenKind) -> bool {
 fn unmatched(tokens: &[Token], first: usize, behind: usize) -> (usize, usize) {
     let (mut closed, mut open) = (0usize, 0usize);
     for number in first..behind {
-        match kind_at(tokens, number) {
-            Some(TokenKind::Symbol(Symbol::Open)) => open = open.saturating_add(1),
-            Some(TokenKind::Symbol(Symbol::Close)) if open == 0 => {
-                closed = closed.saturating_add(1);
-            }
-            Some(TokenKind::Symbol(Symbol::Close)) => open = open.saturating_sub(1),
+        match sign_at(tokens, number) {
+            "(" => open = open.saturating_add(1),
+            ")" if open == 0 => closed = closed.saturating_add(1),
+            ")" => open = open.saturating_sub(1),
             _ => {}
         }
     }
@@ -78,7 +49,7 @@ fn unmatched(tokens: &[Token], first: usize, behind: usize) -> (usize, usize) {
 }
 
 /// The tokens of a source, and how far a walk of its tree has come.
-#[derive(Drop)]
+#[derive(Clone, Copy, Drop)]
 pub struct Cursor<'t> {
     text: &'t [u8],
     tokens: &'t [Token],
@@ -95,37 +66,26 @@ impl<'t> Cursor<'t> {
         }
     }
 
-    /// Goes past a name of the tree, and returns the number of its token.
-    pub fn pass_name(&mut self, name: &Text) -> usize {
-        let at = name.at() as usize;
-        for number in self.next..self.tokens.len() {
-            if let Some(token) = self.tokens.get(number) {
-                if token.from >= at {
-                    self.next = number.saturating_add(1);
-                    return number;
-                }
-            }
-        }
-        self.tokens.len()
+    /// Goes past the next token that is sought, and returns its number.
+    pub fn pass(&mut self, sought: Sought) -> usize {
+        let rest = self.tokens.get(self.next..).unwrap_or(&[]);
+        let Some(more) = rest.iter().position(|token| is_sought(sought, token)) else {
+            return self.tokens.len();
+        };
+        let number = self.next.saturating_add(more);
+        self.next = number.saturating_add(1);
+        number
     }
 
-    /// Goes past the next literal or operator, and returns its number.
-    pub fn pass(&mut self, sought: Sought) -> usize {
-        for number in self.next..self.tokens.len() {
-            if let Some(token) = self.tokens.get(number) {
-                if is_sought(sought, token.kind) {
-                    self.next = number.saturating_add(1);
-                    return number;
-                }
-            }
-        }
-        self.tokens.len()
+    /// Goes past a name of the tree, and returns the number of its token.
+    pub fn pass_name(&mut self, name: &Text) -> usize {
+        self.pass(Sought::At(name.at() as usize))
     }
 
     /// Goes past a label of a CASE, and returns the number of its first literal.
     pub fn pass_label(&mut self) -> usize {
         let number = self.pass(Sought::Literal);
-        if kind_at(self.tokens, self.next) == Some(TokenKind::Symbol(Symbol::Range)) {
+        if sign_at(self.tokens, self.next) == ".." {
             self.pass(Sought::Literal);
         }
         number
@@ -133,9 +93,8 @@ impl<'t> Cursor<'t> {
 
     /// The number of the first token of a literal that ends with the one of a number: its minus, where it has one.
     pub fn first_of(&self, number: usize, is_negative: bool) -> usize {
-        let is_plain = matches!(kind_at(self.tokens, number), Some(TokenKind::Integer(_)));
-        let before = kind_before(self.tokens, number, 1);
-        if is_negative && is_plain && before == Some(TokenKind::Symbol(Symbol::Minus)) {
+        let is_plain = sign_at(self.tokens, number) == "int";
+        if is_negative && is_plain && sign_before(self.tokens, number, 1) == "-" {
             number.saturating_sub(1)
         } else {
             number
@@ -153,24 +112,23 @@ impl<'t> Cursor<'t> {
     }
 
     /// The bytes of tokens, from the one of a number to before another, with the parentheses around them that belong to those among them.
-    pub fn marks(&self, first: usize, behind: usize) -> (usize, usize) {
+    pub fn marks(&self, (first, behind): (usize, usize)) -> (usize, usize) {
         let (closed, open) = unmatched(self.tokens, first, behind);
         let first = first.saturating_sub(closed);
         let behind = behind.saturating_add(open);
         span_of(self.text, self.tokens, first, behind)
     }
 
-    /// These tokens in quotes, as they are written; `this` where they are long or in several lines.
-    pub fn quoted(&self, alloc: Global, first: usize, behind: usize) -> Result<String, AllocError> {
-        let (from, until) = self.marks(first, behind);
-        let bytes = self.text.get(from..until).unwrap_or(b"");
+    /// These tokens as they are written; empty where several are long or in several lines.
+    pub fn quote(&self, (first, behind): (usize, usize)) -> &'t str {
+        let (from, until) = self.marks((first, behind));
+        let bytes = part(self.text, from, until);
         let is_short = bytes.len() <= LONGEST_QUOTE && !bytes.contains(&b'\n');
-        if !is_short || bytes.is_empty() {
-            return String::from_str(alloc, "this");
+        if is_short || behind == first.saturating_add(1) {
+            str::from_utf8(bytes).unwrap_or("")
+        } else {
+            ""
         }
-        let text = String::from_utf8_lossy(alloc, bytes)?;
-        let text = text.as_str();
-        format!(in alloc; "'{text}'")
     }
 
     /// The number of the line of a byte, from 1.

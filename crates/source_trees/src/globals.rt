@@ -1,76 +1,57 @@
 //! Why a name in the alarm database is no BOOL global's (C14).
 
 use crate::body::kind_text;
-use crate::near::Nearest;
-use crate::search::{global_named, owner_of};
+use crate::entries::{Entry, entries_of, owner_of};
+use crate::hints::nearest_global;
+use crate::texts::filled;
 use plant_types::{Kind, same_word};
-use st_names::sort_kind;
-use st_parser::{Declaration, Sort, Unit};
+use st_parser::{Sort, Unit};
 use std::alloc::{AllocError, Global};
 
-/// Offers the names of a declaration of BOOL globals.
-fn offer<'n>(nearest: &mut Nearest<'n>, declaration: &'n Declaration) {
-    if sort_kind(&declaration.sort) == Some(Kind::Bool) {
-        for name in &declaration.names {
-            nearest.offer(name.as_str());
-        }
-    }
-}
-
-/// The nearest name of a BOOL global.
-fn nearest_global<'n>(units: &'n [Unit], name: &'n str) -> Nearest<'n> {
-    let mut nearest = Nearest::to(name);
-    for unit in units {
-        for section in &unit.globals {
-            for declaration in &section.declarations {
-                offer(&mut nearest, declaration);
-            }
-        }
-    }
-    nearest
-}
-
-/// What is said of a name that isn't declared as a global.
-fn undeclared<'a>(alloc: Global, units: &'a [Unit], name: &'a str) -> Result<String, AllocError> {
-    let owner = owner_of(units, name);
+/// What is said of a name that no global has, in two texts with a hole, and the word in it.
+fn undeclared<'t>(entries: &[Entry<'t>], name: &'t str) -> (&'static str, &'static str, &'t str) {
+    let owner = owner_of(entries, name);
     if !owner.is_empty() {
-        return format!(in alloc;
-            "'{name}' is a variable of {owner} alone, and an alarm watches BOOL globals (VAR_GLOBAL)"
-        );
+        let said = "@ is a variable of % alone, and an alarm watches BOOL globals (VAR_GLOBAL)";
+        return (said, "", owner);
     }
+    let said = "no BOOL global is called @";
     if same_word(name.as_bytes(), b"FALSE") {
-        return format!(in alloc;
-            "no BOOL global is called '{name}'; where nothing suppresses the alarm the field is empty"
-        );
+        let more = "; where nothing suppresses the alarm the field is empty";
+        return (said, more, "");
     }
-    let hint = nearest_global(units, name).hint(alloc)?;
-    let hint = hint.as_str();
-    format!(in alloc; "no BOOL global is called '{name}'{hint}")
+    let hint = nearest_global(entries, name, Some(Kind::Bool)).hint();
+    (said, hint.0, hint.1)
 }
 
-/// What is said of a global that is no BOOL; empty where it may be one.
-fn other_sort(alloc: Global, name: &str, sort: &Sort) -> Result<String, AllocError> {
-    match sort {
-        Sort::Kind(kind) => {
-            let kind = kind_text(*kind);
-            format!(in alloc; "'{name}' is a {kind}, and an alarm watches BOOL globals")
+/// What the global of a name is declared as; `None` if there is none.
+fn sort_of<'t>(entries: &[Entry<'t>], name: &str) -> Option<&'t Sort> {
+    for entry in entries {
+        if entry.is_global(None) && entry.is_called(name) {
+            return entry.sort();
         }
-        Sort::Array(_, _) => format!(in alloc;
-            "'{name}' is an array, and an alarm watches BOOL globals: assign an element to one"
-        ),
-        Sort::Block(_) => Ok(String::new(alloc)),
     }
+    None
 }
 
 /// Why a name is no BOOL global's, in a plant of units.
-pub fn no_bool_global(alloc: Global, units: &[Unit], name: &str) -> Result<String, AllocError> {
-    let Some(declaration) = global_named(units, name) else {
-        return undeclared(alloc, units, name);
+pub fn no_bool_global<'t>(
+    alloc: Global,
+    units: &'t [Unit],
+    name: &'t str,
+) -> Result<String, AllocError> {
+    let entries = entries_of(alloc, units)?;
+    let (said, more, word) = match sort_of(entries.as_slice(), name) {
+        Some(Sort::Kind(kind)) => {
+            let said = "@ is a %, and an alarm watches BOOL globals";
+            (said, "", kind_text(*kind))
+        }
+        Some(Sort::Array(_, _)) => {
+            let said = "@ is an array, and an alarm watches BOOL globals";
+            (said, ": assign an element to one", "")
+        }
+        Some(Sort::Block(_)) => undeclared(entries.as_slice(), name),
+        None => undeclared(entries.as_slice(), name),
     };
-    let said = other_sort(alloc, name, &declaration.sort)?;
-    if said.is_empty() {
-        undeclared(alloc, units, name)
-    } else {
-        Ok(said)
-    }
+    filled(alloc, &[said, more], name, &[word])
 }

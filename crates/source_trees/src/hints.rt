@@ -1,13 +1,11 @@
 //! The names that may be meant by one that isn't there.
 
 use crate::body::{Body, kind_text};
-use crate::near::Nearest;
-use crate::search::owner_of;
-use crate::trees::Trees;
+use crate::entries::{Entry, Form, owner_of};
 use plant_types::{Kind, Text};
 use st_names::{Declared, Scope, sort_kind};
-use st_parser::{Section, Sort};
-use std::alloc::{AllocError, Global};
+use st_parser::Sort;
+use token_causes::{Hint, Nearest};
 
 /// What a name has to be.
 #[derive(Clone, Copy, Drop)]
@@ -31,10 +29,7 @@ pub enum Wanted {
 impl Wanted {
     /// What has to be of a kind, where that is known.
     pub fn of(kind: Option<Kind>) -> Wanted {
-        match kind {
-            Some(kind) => Wanted::Of(kind),
-            None => Wanted::Any,
-        }
+        kind.map_or(Wanted::Any, Wanted::Of)
     }
 }
 
@@ -52,137 +47,95 @@ fn fits(body: &Body<'_>, name: &Text, sort: &Sort, wanted: Wanted) -> bool {
     }
 }
 
-/// What is said of a near name that is there and isn't what is wanted.
-fn unfit(alloc: Global, name: &str, declared: &Declared<'_>) -> Result<String, AllocError> {
-    match declared.sort() {
-        Sort::Kind(kind) => {
-            let kind = kind_text(*kind);
-            format!(in alloc; "; '{name}' is there, and is a {kind}")
-        }
-        Sort::Block(word) => {
-            let word = word.as_str();
-            format!(in alloc; "; '{name}' is there, and is an instance of {word}")
-        }
-        Sort::Array(_, _) => format!(in alloc; "; '{name}' is there, and is an array"),
-    }
-}
-
 /// The nearest of the names that a unit may use, of those that are what is wanted, and of the others.
+#[derive(Drop)]
 struct Near<'n> {
     wanted: Wanted,
     fit: Nearest<'n>,
     other: Nearest<'n>,
-}
-
-impl Drop for Near<'_> {
-    fn drop(self) {
-        let Near {
-            wanted: _,
-            fit: _,
-            other: _,
-        } = self;
-    }
+    /// What the nearest of the others is declared as.
+    sort: Option<&'n Sort>,
 }
 
 impl<'n> Near<'n> {
     /// Takes a name that a unit may use.
-    fn offer(&mut self, body: &Body<'_>, name: &'n Text, sort: &Sort) {
-        let word = name.as_str();
-        if !self.fit.is_near(word) {
+    fn offer(&mut self, body: &Body<'_>, declared: &Declared<'n>) {
+        let (name, sort) = (declared.name(), declared.sort());
+        let (mut fit, mut other) = (self.fit, self.other);
+        let (is_near, is_nearer) = (fit.offer(name.as_str()), other.offer(name.as_str()));
+        if !is_near && !is_nearer {
             return;
         }
         if fits(body, name, sort, self.wanted) {
-            self.fit.offer(word);
-        } else {
-            self.other.offer(word);
+            self.fit = fit;
+        } else if is_nearer {
+            self.other = other;
+            self.sort = Some(sort);
         }
     }
 
-    /// Takes the names of a section of globals.
-    fn offer_section(&mut self, body: &Body<'_>, section: &'n Section) {
-        for declaration in &section.declarations {
-            for name in &declaration.names {
-                self.offer(body, name, &declaration.sort);
+    /// What is said of the nearest; `None` where none is near.
+    fn hint(&self) -> Option<Hint<'n>> {
+        let other = self.other.best;
+        match self.sort {
+            _ if !self.fit.best.is_empty() => Some(self.fit.hint()),
+            Some(Sort::Kind(kind)) => Some(("; '%' is there, and is a %", other, kind_text(*kind))),
+            Some(Sort::Block(word)) => {
+                let said = "; '%' is there, and is an instance of %";
+                Some((said, other, word.as_str()))
             }
+            Some(Sort::Array(_, _)) => Some(("; '%' is there, and is an array", other, "")),
+            None => None,
         }
     }
 }
 
 /// What is said of a name that is near no other: which block or program has it alone, or how an instance is declared.
-fn far(
-    alloc: Global,
-    plant: &Trees<'_>,
-    name: &Text,
-    wanted: Wanted,
-) -> Result<String, AllocError> {
-    let word = name.as_str();
-    let owner = owner_of(plant.units, word);
+fn far<'t>(entries: &[Entry<'t>], name: &'t str, wanted: Wanted) -> Hint<'t> {
+    let owner = owner_of(entries, name);
     if !owner.is_empty() {
-        return format!(in alloc;
-            "; {owner} has one of this name for itself, and what several read is a global (VAR_GLOBAL)"
-        );
+        let said =
+            "; % has one of this name for itself, and what several read is a global (VAR_GLOBAL)";
+        return (said, owner, "");
     }
     match wanted {
-        Wanted::Instance => format!(in alloc;
-            "; an instance is declared before it is called, as in VAR {word} : TON; END_VAR"
-        ),
-        _ => Ok(String::new(alloc)),
+        Wanted::Instance => {
+            let said = "; an instance is declared before it is called, as in VAR % : TON; END_VAR";
+            (said, name, "")
+        }
+        _ => ("", "", ""),
     }
 }
 
 /// A question for the nearest variable that is what is wanted; else what the nearest other one is, or who has one of this name for itself. Empty where there
 /// is none of these.
-pub fn variable_hint(
-    alloc: Global,
-    plant: &Trees<'_>,
-    body: &Body<'_>,
-    name: &Text,
-    wanted: Wanted,
-) -> Result<String, AllocError> {
+pub fn variable_hint<'t>(body: &Body<'t>, name: &'t Text, wanted: Wanted) -> Hint<'t> {
     let mut near = Near {
         wanted,
         fit: Nearest::to(name.as_str()),
         other: Nearest::to(name.as_str()),
+        sort: None,
     };
     for declared in body.scope.declared() {
-        near.offer(body, declared.name(), declared.sort());
+        near.offer(body, declared);
     }
-    for unit in plant.units {
-        for section in &unit.globals {
-            near.offer_section(body, section);
+    let entries = body.plant.entries.as_slice();
+    for entry in entries {
+        match &entry.form {
+            Form::Declared(declared) if entry.owner.is_empty() => near.offer(body, declared),
+            _ => {}
         }
     }
-    let hint = hinted(alloc, body, &near)?;
-    if hint.is_empty() {
-        return far(alloc, plant, name, wanted);
-    }
-    Ok(hint)
+    near.hint().unwrap_or(far(entries, name.as_str(), wanted))
 }
 
-/// What is said of the nearest names.
-fn hinted(alloc: Global, body: &Body<'_>, near: &Near<'_>) -> Result<String, AllocError> {
-    let other = near.other.best();
-    if !near.fit.best().is_empty() || other.is_empty() {
-        return near.fit.hint(alloc);
-    }
-    let name = Text::from_str(alloc, other)?;
-    match body.scope.find(&name) {
-        Some(declared) => unfit(alloc, other, declared),
-        None => Ok(String::new(alloc)),
-    }
-}
-
-/// A question for the nearest global; empty where none is near.
-pub fn global_hint(alloc: Global, plant: &Trees<'_>, name: &Text) -> Result<String, AllocError> {
-    let mut nearest = Nearest::to(name.as_str());
-    for unit in plant.units {
-        for section in &unit.globals {
-            for declaration in &section.declarations {
-                for global in &declaration.names {
-                    nearest.offer(global.as_str());
-                }
-            }
+/// The nearest global, of a kind or of any where none is given.
+pub fn nearest_global<'t>(entries: &[Entry<'t>], name: &'t str, kind: Option<Kind>) -> Nearest<'t> {
+    let mut nearest = Nearest::to(name);
+    for entry in entries {
+        if entry.is_global(kind) {
+            nearest.offer(entry.name.as_str());
         }
     }
-    nearest.hint(alloc)
+    nearest
 }

@@ -39,14 +39,15 @@ fn push_more(alloc: Global, mistake: &mut Mistake) -> Result<(), AllocError> {
     Ok(())
 }
 
-/// The mistakes that were found so far in order of text: the first that breaks the rule by which the plant is refused, and others, 20 in all at most.
+/// The mistakes that were found so far in order of text: the first that breaks the rule by which the plant is refused, and others, 20 in all at most. Where
+/// memory was refused, no more are told.
 #[derive(Drop)]
 pub struct Told {
     /// The rule by which the plant is refused.
     pub refused: Rule,
     list: Vec<Mistake>,
-    /// The number of the first that breaks this rule.
-    first: Option<usize>,
+    /// Whether memory was refused.
+    is_short: bool,
 }
 
 impl Told {
@@ -55,19 +56,33 @@ impl Told {
         Told {
             refused,
             list: Vec::new(alloc),
-            first: None,
+            is_short: false,
         }
     }
 
-    /// Whether a mistake is the first that breaks the rule by which the plant is refused.
-    fn is_first(&self, rule: Rule) -> bool {
-        rule == self.refused && self.first.is_none()
+    /// What was allocated; where memory was refused, that is noted.
+    pub fn got<T: Drop, E: Drop>(&mut self, outcome: Result<T, E>) -> Option<T> {
+        match outcome {
+            Ok(value) => Some(value),
+            Err(_) => {
+                self.is_short = true;
+                None
+            }
+        }
     }
 
-    /// Whether a mistake that breaks a rule would be told.
+    /// The number of the first mistake that breaks the rule by which the plant is refused.
+    fn first(&self) -> Option<usize> {
+        self.list
+            .iter()
+            .position(|mistake| mistake.rule == self.refused)
+    }
+
+    /// Whether a mistake that breaks a rule would be told: one place is kept for the first that breaks the rule by which the plant is refused.
     pub fn takes(&self, rule: Rule) -> bool {
-        let open = if self.first.is_none() { 1 } else { 0 };
-        self.is_first(rule) || self.list.len() < MOST_MISTAKES.saturating_sub(open)
+        let is_open = self.first().is_none();
+        let has_room = self.list.len() < MOST_MISTAKES.saturating_sub(usize::from(is_open));
+        !self.is_short && (has_room || (is_open && rule == self.refused))
     }
 
     /// Whether no more mistakes would be told.
@@ -75,17 +90,12 @@ impl Told {
         !self.takes(self.refused)
     }
 
-    /// Takes a mistake, where it is told, and returns its number then.
-    pub fn add(&mut self, mistake: Mistake) -> Result<Option<usize>, AllocError> {
-        if !self.takes(mistake.rule) {
-            return Ok(None);
-        }
+    /// Takes a mistake that is told, and returns its number.
+    pub fn add(&mut self, mistake: Mistake) -> usize {
         let number = self.list.len();
-        if self.is_first(mistake.rule) {
-            self.first = Some(number);
-        }
-        self.list.push(mistake)?;
-        Ok(Some(number))
+        let pushed = self.list.push(mistake);
+        self.got(pushed);
+        number
     }
 
     /// Notes one more word that is wrong by the mistake of a number.
@@ -95,15 +105,18 @@ impl Told {
         }
     }
 
-    /// All of them: the first that breaks the rule by which the plant is refused, and then the others in order of text. Behind each it is said how many more words
-    /// are wrong by it.
+    /// All of them: the first that breaks the rule by which the plant is refused, and then the others in order of text. Behind each it is said how many more
+    /// words are wrong by it.
     pub fn into_list(self, alloc: Global) -> Result<Vec<Mistake>, AllocError> {
+        let first = self.first();
         let Told {
-            refused: _,
-            list,
-            first,
+            mut list,
+            is_short,
+            ..
         } = self;
-        let mut list = list;
+        if is_short {
+            return Err(AllocError);
+        }
         for mistake in list.as_mut_slice() {
             push_more(alloc, mistake)?;
         }
