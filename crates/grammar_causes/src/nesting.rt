@@ -1,7 +1,7 @@
 //! Comments in which another one begins (C5): the first end of a comment ends it.
 
 use st_lexer::Token;
-use token_causes::{part, start_of};
+use token_causes::gap_before;
 
 /// Whether a comment stands between tokens in which another comment begins.
 pub fn has_nested(gap: &[u8]) -> bool {
@@ -21,32 +21,11 @@ pub fn has_nested(gap: &[u8]) -> bool {
     false
 }
 
-/// Where the tokens before that of a number end, or the text begins.
-fn end_before(tokens: &[Token], number: usize) -> usize {
-    match number.checked_sub(1) {
-        Some(last) => match tokens.get(last) {
-            Some(token) => token.until,
-            None => 0,
-        },
-        None => 0,
-    }
-}
-
 /// The first token, from the one of a number to another one, before which a comment stands in which another comment begins.
 pub fn first_behind_nested(
     text: &[u8],
     tokens: &[Token],
     (first, last): (usize, usize),
 ) -> Option<usize> {
-    for number in first..last.saturating_add(1) {
-        let gap = part(
-            text,
-            end_before(tokens, number),
-            start_of(text, tokens, number),
-        );
-        if has_nested(gap) {
-            return Some(number);
-        }
-    }
-    None
+    (first..last.saturating_add(1)).find(|number| has_nested(gap_before(text, tokens, *number)))
 }

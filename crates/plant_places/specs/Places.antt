@@ -3,8 +3,8 @@ use Rattle.std.specs.Prelude.{ℕ, ◌-◌, List, [], slice_index_or}
 use Rattle.st_lexer.specs.Lexes.{mark_len, unmarked}
 use Rattle.st_lexer.specs.Places.{line_at, column_at}
 use Rattle.plant_config.specs.Files.{Texts}
-use Rattle.plant_places.specs.declared.place.FileOf.{FileOf}
-use Rattle.plant_places.specs.declared.place.FileOf.TheVariants as f
+use Rattle.token_causes.specs.declared.spot.FileOf.{FileOf}
+use Rattle.token_causes.specs.declared.spot.FileOf.TheVariants as f
 use Rattle.plant_places.specs.declared.place.Place.{Place}
 
 -- the text of a file of a plant

@@ -1,7 +1,7 @@
 //! What is wrong in the alarm database (C11 to C14), as its reader found it.
 
-use crate::document::areas_of;
-use crate::fields::{Field, field_of_row, first_of_row, last_of_row, next_field, unquoted};
+use crate::document::strange_area;
+use crate::fields::{Field, field_of_row, fields_of_row, first_of_row, unquoted};
 use crate::place::place_at;
 use crate::texts::{WIDE, is_wide};
 use alarm_db::{Column, RowFault, RowMistake, Version};
@@ -13,9 +13,23 @@ use token_causes::{Cause, cause_at, cause_of, part};
 /// Where the table's rules stand.
 const ALARMS: &str = "docs/PLANT.md, \"alarms.csv\"";
 
+/// What is said of a header that goes on where it is to end, or ends too early.
+const HEADERS: &str =
+    "the header is tag,area,priority,condition,suppress,latch,max_shelve_ms,text, or the same with on_delay_ms before text, and nothing more or less";
+
+/// The cause that these bytes are, of which a sentence tells.
+fn told(alloc: Global, mark: (usize, usize), said: &str) -> Result<Cause, AllocError> {
+    Ok(cause_at(mark, String::from_str(alloc, said)?, ALARMS))
+}
+
 /// The bytes of a field.
 fn mark_of(field: Field) -> (usize, usize) {
     (field.from, field.until)
+}
+
+/// The bytes of the last of fields; those of the text's start where there is none.
+fn last_mark(fields: &[Field]) -> (usize, usize) {
+    fields.last().map_or((0, 0), |field| mark_of(*field))
 }
 
 /// Whether a field of the header has the name of a column.
@@ -29,30 +43,9 @@ fn is_of_second(text: &[u8], field: Field) -> bool {
         || (field.number == 8 && is_named(text, field, Column::Text))
 }
 
-/// The version that a header is meant to tell.
-fn version_meant(text: &[u8], header: Field) -> Version {
-    let mut field = header;
-    for _ in 0..text.len() {
-        if field.record > 0 {
-            return Version::First;
-        }
-        if is_of_second(text, field) {
-            return Version::Second;
-        }
-        match next_field(text, field) {
-            Some(next) => field = next,
-            None => return Version::First,
-        }
-    }
-    Version::First
-}
-
 /// A field as it stands in the text; empty where it isn't UTF-8.
 fn shown(text: &[u8], field: Field) -> &str {
-    match str::from_utf8(unquoted(text, field)) {
-        Ok(shown) => shown,
-        Err(_) => "",
-    }
+    str::from_utf8(unquoted(text, field)).unwrap_or("")
 }
 
 /// What parts the names of a header in the place of commas; empty where nothing is seen.
@@ -77,20 +70,32 @@ fn no_table(text: &[u8]) -> &'static str {
     ""
 }
 
-/// Whether a row has a field that is the name of a column, in any letter case and with blanks beside it.
-fn has_column(text: &[u8], at: usize) -> bool {
-    for number in 0..Version::Second.columns().len() {
-        let Some(field) = field_of_row(text, at, number) else {
-            return false;
-        };
-        let name = part(text, field.from, field.until).trim_ascii();
-        for column in Version::Second.columns() {
-            if name.eq_ignore_ascii_case(column.name().as_bytes()) {
-                return true;
-            }
+/// Whether a field is the name of a column, in any letter case and with blanks beside it.
+fn is_column(text: &[u8], field: Field) -> bool {
+    let name = part(text, field.from, field.until).trim_ascii();
+    Version::Second.columns().iter().any(|column| name.eq_ignore_ascii_case(
+        column.name().as_bytes(),
+    ))
+}
+
+/// What is wrong with a header of fields that has commas: a field that isn't the column's that is wanted there, or how many there are.
+fn misnamed(alloc: Global, text: &[u8], fields: &[Field]) -> Result<Cause, AllocError> {
+    let is_second = fields.iter().any(|field| is_of_second(text, *field));
+    let version = if is_second {
+        Version::Second
+    } else {
+        Version::First
+    };
+    for (column, field) in version.columns().iter().zip(fields) {
+        if !is_named(text, *field, *column) {
+            let name = column.name();
+            let said = format!(in alloc;
+                "the header has '{name}' in this place, in small letters, and commas without blanks between its names"
+            )?;
+            return Ok(cause_at(mark_of(*field), said, ALARMS));
         }
     }
-    false
+    told(alloc, last_mark(fields), HEADERS)
 }
 
 /// What is wrong with the header, which begins at a byte.
@@ -99,35 +104,21 @@ fn misheaded(alloc: Global, text: &[u8], at: usize) -> Result<Cause, AllocError>
     if !whole.is_empty() {
         return Ok(cause_of(String::from_str(alloc, whole)?, ALARMS));
     }
-    let first = first_of_row(text, at);
-    let parts = other_parts(part(text, first.from, first.until));
+    let fields = fields_of_row(alloc, text, at)?;
+    let first = mark_of(first_of_row(text, at));
+    let parts = other_parts(part(text, first.0, first.1));
     if !parts.is_empty() {
         let said = format!(in alloc;
             "the header has {parts} between its names, and commas are wanted: a spreadsheet may write either"
         )?;
-        return Ok(cause_at(mark_of(first), said, ALARMS));
+        return Ok(cause_at(first, said, ALARMS));
     }
-    if !has_column(text, at) {
+    if fields.iter().any(|field| is_column(text, *field)) {
+        misnamed(alloc, text, fields.as_slice())
+    } else {
         let said = "the first line is the header, and the table has none: tag,area,priority,..";
-        return Ok(cause_at(mark_of(first), String::from_str(alloc, said)?, ALARMS));
+        told(alloc, first, said)
     }
-    for (number, column) in version_meant(text, first).columns().iter().enumerate() {
-        let Some(field) = field_of_row(text, at, number) else {
-            break;
-        };
-        if !is_named(text, field, *column) {
-            let name = column.name();
-            let said = format!(in alloc;
-                "the header has '{name}' in this place, in small letters, and commas without blanks between its names"
-            )?;
-            return Ok(cause_at(mark_of(field), said, ALARMS));
-        }
-    }
-    let said = String::from_str(
-        alloc,
-        "the header is tag,area,priority,condition,suppress,latch,max_shelve_ms,text, or the same with on_delay_ms before text, and nothing more or less",
-    )?;
-    Ok(cause_at(mark_of(last_of_row(text, at)), said, ALARMS))
 }
 
 /// What is said of a line that isn't meant as a row; empty of another.
@@ -142,15 +133,14 @@ fn no_row(line: &[u8]) -> &'static str {
 /// What is said of a row of another number of fields than is wanted, by its last field.
 fn uneven_row(
     alloc: Global,
-    text: &[u8],
-    last: Field,
+    last: &[u8],
     (count, wanted): (usize, usize),
 ) -> Result<String, AllocError> {
-    let unmeant = no_row(part(text, last.from, last.until));
+    let unmeant = no_row(last);
     if count == 1 && !unmeant.is_empty() {
         return String::from_str(alloc, unmeant);
     }
-    if count > wanted && last.from == last.until {
+    if count > wanted && last.is_empty() {
         return format!(in alloc;
             "this row has {count} fields, and {wanted} are wanted: its line ends with a comma too many"
         );
@@ -177,21 +167,6 @@ fn first_line(text: &[u8], field: Field) -> Option<(usize, usize)> {
 const GOES_ON: &str =
     "here double quotes open a field that isn't closed in its line, and so the lines behind it belong to it";
 
-/// The first field of a row that goes on in the next line, by the bytes of its first line.
-fn open_field(text: &[u8], at: usize) -> Option<(usize, usize)> {
-    let mut field = first_of_row(text, at);
-    for _ in 0..text.len() {
-        if field.record > 0 {
-            return None;
-        }
-        if let Some(mark) = first_line(text, field) {
-            return Some(mark);
-        }
-        field = next_field(text, field)?;
-    }
-    None
-}
-
 /// The cause of a row that has another number of fields than the header.
 fn uneven(
     alloc: Global,
@@ -199,12 +174,15 @@ fn uneven(
     at: usize,
     counts: (usize, usize),
 ) -> Result<Cause, AllocError> {
-    if let Some(mark) = open_field(text, at) {
-        return Ok(cause_at(mark, String::from_str(alloc, GOES_ON)?, ALARMS));
+    let fields = fields_of_row(alloc, text, at)?;
+    for field in &fields {
+        if let Some(mark) = first_line(text, *field) {
+            return told(alloc, mark, GOES_ON);
+        }
     }
-    let last = last_of_row(text, at);
-    let said = uneven_row(alloc, text, last, counts)?;
-    Ok(cause_at(mark_of(last), said, ALARMS))
+    let last = last_mark(fields.as_slice());
+    let said = uneven_row(alloc, part(text, last.0, last.1), counts)?;
+    Ok(cause_at(last, said, ALARMS))
 }
 
 /// The form of a column's fields.
@@ -248,15 +226,14 @@ fn malformed(
     column: Column,
 ) -> Result<Cause, AllocError> {
     if let Some(mark) = first_line(text, field) {
-        return Ok(cause_at(mark, String::from_str(alloc, GOES_ON)?, ALARMS));
+        return told(alloc, mark, GOES_ON);
     }
     if let Some(mark) = no_utf8(text, field) {
-        let said = String::from_str(alloc, "here the table isn't UTF-8: save it as UTF-8")?;
-        return Ok(cause_at(mark, said, ALARMS));
+        return told(alloc, mark, "here the table isn't UTF-8: save it as UTF-8");
     }
     if is_of_commas(text, field) {
         let said = "this line has commas alone, and so it is a row: leave it out";
-        return Ok(cause_at(mark_of(field), String::from_str(alloc, said)?, ALARMS));
+        return told(alloc, mark_of(field), said);
     }
     let (name, form) = (column.name(), form_of(column));
     let bytes = unquoted(text, field);
@@ -279,22 +256,10 @@ fn doubled(alloc: Global, text: &[u8], tag: Field, first: usize) -> Result<Cause
     Ok(cause_at(mark_of(tag), said, ALARMS))
 }
 
-/// The cause of an area that the plant hasn't.
-fn no_area(alloc: Global, refused: &PlantTexts<'_>, field: Field) -> Result<Cause, AllocError> {
-    let name = shown(refused.alarms, field);
-    let areas = areas_of(alloc, refused.plant)?;
-    let areas = areas.as_str();
-    let said = format!(in alloc; "the plant has no area '{name}'; its areas are:{areas}")?;
-    Ok(cause_at(mark_of(field), said, ALARMS))
-}
-
 /// The field of a mistake.
 pub fn wrong_field(text: &[u8], wrong: &RowMistake) -> Field {
     let number = wrong.field.unwrap_or(0);
-    match field_of_row(text, wrong.at, number) {
-        Some(field) => field,
-        None => first_of_row(text, wrong.at),
-    }
+    field_of_row(text, wrong.at, number).unwrap_or(first_of_row(text, wrong.at))
 }
 
 /// The cause of a mistake in a row; `None` for a variable that the plant hasn't, for which its sources have to be looked through.
@@ -310,7 +275,10 @@ pub fn row_cause(
         RowFault::Uneven { fields, wanted } => uneven(alloc, text, wrong.at, (fields, wanted))?,
         RowFault::Form(column) => malformed(alloc, text, field, column)?,
         RowFault::Again { first } => doubled(alloc, text, field, first)?,
-        RowFault::Unknown(Column::Area) => no_area(alloc, refused, field)?,
+        RowFault::Unknown(Column::Area) => {
+            let said = strange_area(alloc, refused.plant, shown(text, field))?;
+            cause_at(mark_of(field), said, ALARMS)
+        }
         RowFault::Unknown(_) => return Ok(None),
     };
     Ok(Some(cause))

@@ -1,12 +1,11 @@
 //! What is wrong in the plant file (C1 to C3), as its reader found it.
 
 use crate::keys::{Entry, Keys, NOBODY, keys_of};
-use crate::place::mark_len;
 use crate::texts::{WIDE, is_wide};
 use plant_file::{Mistake, Unread, Why};
 use std::alloc::{AllocError, Global};
 use std::str;
-use token_causes::{Cause, cause_at, cause_of, part};
+use token_causes::{Cause, cause_at, cause_of, part, within_one};
 
 /// Where the keys are described.
 pub const KEYS: &str = "docs/PLANT.md, \"plant.toml\"";
@@ -15,65 +14,30 @@ pub const KEYS: &str = "docs/PLANT.md, \"plant.toml\"";
 const ONE_CONSOLE: &str =
     "consoles stand below lines [[console]] alone: there is no line [console], and no key 'console' beside them";
 
-/// What is said of a text that is no TOML document, by what the reader of documents says.
-const REASONS: &[(&str, &str)] = &[
-    (
-        "invalid string",
-        "a text isn't closed in its line, or has a character that may not stand in one",
-    ),
-    (
-        "invalid escape sequence",
-        "a '\\' in double quotes begins a sign of its own: in the path of a file write '/'",
-    ),
-    ("duplicate key", "this stands here a second time"),
-    (
-        "missing comma between array elements, expected `,` or `]`",
-        "in this list a comma is missing before this, or the list's ']'",
-    ),
-    (
-        "missing comma between key-value pairs, expected `,` or `}`",
-        "a comma is missing before this, or a '}'",
-    ),
-    (
-        "key with no value, expected `=`",
-        "a '=' is missing behind the key",
-    ),
-    (
-        "unexpected key or value, expected newline, `#`",
-        "behind a value its line ends: what is this? (a text stands in quotes, items of a list in brackets)",
-    ),
-    (
-        "invalid value, expected a string, number, boolean, date-time, array or inline table",
-        "no value begins so: a text stands in quotes, a list in brackets",
-    ),
-    (
-        "invalid key, expected letters, numbers, `-`, `_` or a quoted key",
-        "no key begins so: a line is a key, '=' and a value, a header in brackets, or a remark behind '#'",
-    ),
-    (
-        "unclosed table, expected `]`",
-        "this header isn't closed with ']'",
-    ),
-    (
-        "unclosed array table, expected `]]`",
-        "this header isn't closed with ']]'",
-    ),
-    (
-        "invalid date-time",
-        "this is no date or time: the epoch stands in quotes, \"YYYY-MM-DDTHH:MM:SSZ\"",
-    ),
-    ("number out of range", "this number is out of range"),
-    (
-        "cannot extend a value with a dotted key",
-        "this key has a value already, to which nothing can be added",
-    ),
-];
+/// What is said of a text that is no TOML document: each line has what the reader of documents says, and behind `| ` how that is told.
+const REASONS: &str = "\
+invalid string| a text isn't closed in its line, or has a character that may not stand in one
+invalid escape sequence| a '\\' in double quotes begins a sign of its own: in the path of a file write '/'
+duplicate key| this stands here a second time
+missing comma between array elements, expected `,` or `]`| in this list a comma is missing before this, or the list's ']'
+missing comma between key-value pairs, expected `,` or `}`| a comma is missing before this, or a '}'
+key with no value, expected `=`| a '=' is missing behind the key
+unexpected key or value, expected newline, `#`| behind a value its line ends: what is this? (a text stands in quotes, items of a list in brackets)
+invalid value, expected a string, number, boolean, date-time, array or inline table| no value begins so: a text stands in quotes, a list in brackets
+invalid key, expected letters, numbers, `-`, `_` or a quoted key| no key begins so: a line is a key, '=' and a value, a header in brackets, or a remark behind '#'
+unclosed table, expected `]`| this header isn't closed with ']'
+unclosed array table, expected `]]`| this header isn't closed with ']]'
+invalid date-time| this is no date or time: the epoch stands in quotes, \"YYYY-MM-DDTHH:MM:SSZ\"
+number out of range| this number is out of range
+cannot extend a value with a dotted key| this key has a value already, to which nothing can be added
+";
 
 /// What is said of a text that is no TOML document, by what the reader of documents says; nothing where that has no other words here.
 fn why_unread(message: &str) -> &'static str {
-    for (told, said) in REASONS {
-        if *told == message {
-            return *said;
+    for line in REASONS.lines() {
+        match line.split_once("| ") {
+            Some((told, said)) if told == message => return said,
+            _ => {}
         }
     }
     ""
@@ -143,20 +107,10 @@ fn known_keys(console: usize) -> &'static [&'static str] {
     }
 }
 
-/// Whether a key is nearly another: the same but for letter case, or for an `s` at its end.
-fn is_near(key: &str, other: &str) -> bool {
-    let (key, other) = (key.as_bytes(), other.as_bytes());
-    let short = key.len().min(other.len());
-    let same = part(key, 0, short).eq_ignore_ascii_case(part(other, 0, short));
-    let (more, less) = (part(key, short, key.len()), part(other, short, other.len()));
-    same && (more.is_empty() || more == b"s".as_slice())
-        && (less.is_empty() || less == b"s".as_slice())
-}
-
 /// The known key that another nearly is; empty where none is.
 fn near_key(key: &str, console: usize) -> &'static str {
     for other in known_keys(console) {
-        if is_near(key, *other) {
+        if within_one(key.as_bytes(), other.as_bytes()) {
             return *other;
         }
     }
@@ -225,67 +179,40 @@ fn wrong_length(
     format!(in alloc; "'{key}' is a text of 1 to {most} bytes, and this one has {len}")
 }
 
-/// The plant's areas as they stand in their list, each behind a blank.
-fn areas_in(alloc: Global, bytes: &[u8], keys: &Keys) -> Result<String, AllocError> {
-    let mut list = String::new(alloc);
+/// What is said of an area that the plant hasn't, whose areas its file lists.
+pub fn strange_area(alloc: Global, bytes: &[u8], area: &str) -> Result<String, AllocError> {
+    let keys = keys_of(alloc, bytes)?;
+    let mut said = format!(in alloc; "the plant has no area '{area}'; its areas are:")?;
     if let Some(entry) = keys.find(bytes, 0, "areas") {
         for item in entry.items.as_slice() {
             let text = part(bytes, item.0.saturating_add(1), item.1.saturating_sub(1));
-            list.push_str(" ")?;
-            list.push_str(str::from_utf8(text).unwrap_or(""))?;
+            said.push_str(" ")?;
+            said.push_str(str::from_utf8(text).unwrap_or(""))?;
         }
     }
-    Ok(list)
+    Ok(said)
 }
 
-/// The plant's areas as its file lists them, each behind a blank.
-pub fn areas_of(alloc: Global, bytes: &[u8]) -> Result<String, AllocError> {
-    let keys = keys_of(alloc, bytes)?;
-    areas_in(alloc, bytes, &keys)
-}
-
-/// What is said of an area of a console that the plant hasn't.
-fn strange_area(
-    alloc: Global,
-    bytes: &[u8],
-    keys: &Keys,
-    area: &str,
-) -> Result<String, AllocError> {
-    let areas = areas_in(alloc, bytes, keys)?;
-    let areas = areas.as_str();
-    format!(in alloc; "the plant has no area '{area}'; its areas are:{areas}")
-}
-
-/// What is said of a text that should stand under a key, or in its list.
-fn no_text(alloc: Global, wrong: &Mistake) -> Result<String, AllocError> {
-    let key = wrong.key.as_str();
-    if wrong.item.is_some() {
-        return String::from_str(
-            alloc,
+/// What is said of a mistake that its key tells, which stands in the place of a `%`.
+fn told_of(wrong: &Mistake) -> &'static str {
+    match wrong.why {
+        Why::MissingKey if wrong.console > 0 =>
+            "each console has 'number' and 'areas', and this one has no '%'",
+        Why::MissingKey => "the key '%' is missing",
+        Why::NoText if wrong.item.is_some() =>
             "each item of this list is a text, and stands in quotes",
-        );
+        Why::NoText => "'%' is a text, and stands in quotes",
+        Why::NoList if wrong.key.as_str() == "console" => ONE_CONSOLE,
+        Why::NoList => "'%' is a list in brackets, [..]",
+        Why::NoNumber | Why::OutOfRange =>
+            "the number of a console is a whole number, 1 to 999999999, without quotes",
+        Why::NoConsole =>
+            "a console is a table with 'number' and 'areas', below a line [[console]]",
+        Why::NoAreaName =>
+            "an area has 1 to 32 letters of ASCII, digits, '_', '-' and '.', and no blanks",
+        Why::NumberAgain => "an earlier console has this number",
+        _ => "this stands in the list already",
     }
-    format!(in alloc; "'{key}' is a text, and stands in quotes")
-}
-
-/// What is said of a list that should stand under a key.
-fn no_list(alloc: Global, wrong: &Mistake) -> Result<String, AllocError> {
-    let key = wrong.key.as_str();
-    if key == "console" {
-        return String::from_str(alloc, ONE_CONSOLE);
-    }
-    format!(in alloc; "'{key}' is a list in brackets, [..]")
-}
-
-/// What is said of a key that isn't there.
-fn missing_key(alloc: Global, wrong: &Mistake) -> Result<String, AllocError> {
-    let key = wrong.key.as_str();
-    if wrong.console > 0 {
-        return format!(in alloc;
-            "each console has 'number' and 'areas', and this one has no '{key}'"
-        );
-    }
-    format!(in alloc; "the key '{key}' is missing")
 }
 
 /// What is said of a mistake in a document.
@@ -297,26 +224,15 @@ fn said_of(
     wrong: &Mistake,
 ) -> Result<String, AllocError> {
     match wrong.why {
-        Why::UnknownKey => unknown_key(alloc, bytes, keys, mistakes, wrong),
-        Why::MissingKey => missing_key(alloc, wrong),
-        Why::NoText => no_text(alloc, wrong),
-        Why::NoList => no_list(alloc, wrong),
-        Why::Length { bytes: len, most } => wrong_length(alloc, wrong, len, most),
-        Why::StrangeArea => strange_area(alloc, bytes, keys, wrong.text.as_str()),
-        Why::NoNumber | Why::OutOfRange => String::from_str(
-            alloc,
-            "the number of a console is a whole number, 1 to 999999999, without quotes",
-        ),
-        Why::NoConsole => String::from_str(
-            alloc,
-            "a console is a table with 'number' and 'areas', below a line [[console]]",
-        ),
-        Why::NoAreaName => String::from_str(
-            alloc,
-            "an area has 1 to 32 letters of ASCII, digits, '_', '-' and '.', and no blanks",
-        ),
-        Why::Again => String::from_str(alloc, "this stands in the list already"),
-        Why::NumberAgain => String::from_str(alloc, "an earlier console has this number"),
+        Why::UnknownKey => return unknown_key(alloc, bytes, keys, mistakes, wrong),
+        Why::Length { bytes: len, most } => return wrong_length(alloc, wrong, len, most),
+        Why::StrangeArea => return strange_area(alloc, bytes, wrong.text.as_str()),
+        _ => {}
+    }
+    let (told, key) = (told_of(wrong), wrong.key.as_str());
+    match told.split_once("%") {
+        Some((before, behind)) => format!(in alloc; "{before}{key}{behind}"),
+        None => String::from_str(alloc, told),
     }
 }
 
@@ -347,7 +263,8 @@ fn mark_of(bytes: &[u8], keys: &Keys, wrong: &Mistake) -> Option<(usize, usize)>
     }
 }
 
-/// Whether a missing key is told already by one that stands in its place: nearly the same one, the same one below a console, or the header of a table that there isn't.
+/// Whether a missing key is told already by one that stands in its place: nearly the same one, the same one below a console, or the header of a table that
+/// there isn't.
 fn is_told_by_other(bytes: &[u8], keys: &Keys, mistakes: &[Mistake], missing: &Mistake) -> bool {
     let key = missing.key.as_str();
     let is_elsewhere = missing.console == 0 && keys.find(bytes, NOBODY, key).is_some();

@@ -1,6 +1,7 @@
 //! The fields of a table of comma-separated values, by their bytes.
 
 use crate::place::mark_len;
+use std::alloc::{AllocError, Global};
 use token_causes::part;
 
 /// A field: its record, from 0, its number in it, from 0, and its bytes, from one number to before another.
@@ -32,12 +33,13 @@ fn field_end(text: &[u8], from: usize) -> usize {
 
 /// The number of the first byte, from one on, that is no line end.
 fn after_line_ends(text: &[u8], from: usize) -> usize {
-    for (i, byte) in part(text, from, text.len()).iter().enumerate() {
-        if *byte != b'\n' && *byte != b'\r' {
-            return from.saturating_add(i);
-        }
+    match part(text, from, text.len())
+        .iter()
+        .position(|byte| *byte != b'\n' && *byte != b'\r')
+    {
+        Some(len) => from.saturating_add(len),
+        None => text.len(),
     }
-    text.len()
 }
 
 /// The first field of a text; in one without records it is empty.
@@ -88,16 +90,18 @@ pub fn field_of_row(text: &[u8], at: usize, number: usize) -> Option<Field> {
     if field.record == 0 { Some(field) } else { None }
 }
 
-/// The last field of the row that begins at a byte.
-pub fn last_of_row(text: &[u8], at: usize) -> Field {
+/// The fields of the row that begins at a byte, or behind the line ends there.
+pub fn fields_of_row(alloc: Global, text: &[u8], at: usize) -> Result<Vec<Field>, AllocError> {
+    let mut fields = Vec::new(alloc);
     let mut field = first_of_row(text, at);
     for _ in 0..text.len() {
+        fields.push(field)?;
         match next_field(text, field) {
             Some(next) if next.record == 0 => field = next,
             _ => break,
         }
     }
-    field
+    Ok(fields)
 }
 
 /// The bytes of a field, without the quotes around them.

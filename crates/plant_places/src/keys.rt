@@ -33,10 +33,7 @@ pub struct Keys {
 
 /// The byte of a number; 0 behind the last.
 fn byte(text: &[u8], at: usize) -> u8 {
-    match text.get(at) {
-        Some(byte) => *byte,
-        None => 0,
-    }
+    text.get(at).copied().unwrap_or(0)
 }
 
 /// The number behind another.
@@ -189,13 +186,10 @@ fn key_at(text: &[u8], from: usize) -> ((usize, usize), usize) {
         let end = string_end(text, from);
         return ((behind(from), end.saturating_sub(1)), end);
     }
-    for (i, byte) in part(text, from, text.len()).iter().enumerate() {
-        if !(byte.is_ascii_alphanumeric() || matches!(*byte, b'_' | b'-')) {
-            let end = from.saturating_add(i);
-            return ((from, end), end);
-        }
-    }
-    ((from, text.len()), text.len())
+    let is_end = |byte: &u8| !(byte.is_ascii_alphanumeric() || matches!(*byte, b'_' | b'-'));
+    let rest = part(text, from, text.len());
+    let end = from.saturating_add(rest.iter().position(is_end).unwrap_or(rest.len()));
+    ((from, end), end)
 }
 
 /// Where the value behind a key begins, which ends at a byte: behind its `=`, and behind the other parts of a key with dots.
@@ -216,13 +210,10 @@ fn value_start(text: &[u8], from: usize) -> usize {
 
 /// Where a header ends that begins at a byte: behind its last bracket.
 fn header_end(text: &[u8], from: usize) -> usize {
-    for (i, byte) in part(text, from, text.len()).iter().enumerate() {
-        if *byte == b'\n' || *byte == b'\r' || *byte == b'#' {
-            let line = part(text, from, from.saturating_add(i));
-            return from.saturating_add(line.trim_ascii_end().len().max(1));
-        }
-    }
-    text.len()
+    let is_end = |byte: &u8| matches!(*byte, b'\n' | b'\r' | b'#');
+    let rest = part(text, from, text.len());
+    let line = part(rest, 0, rest.iter().position(is_end).unwrap_or(rest.len()));
+    from.saturating_add(line.trim_ascii_end().len().max(1))
 }
 
 impl Keys {

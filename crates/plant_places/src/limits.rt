@@ -2,12 +2,10 @@
 
 use crate::fields::first_of_row;
 use crate::keys::keys_of;
-use crate::place::FileOf;
-use crate::texts::Spot;
 use plant_config::Limit;
 use plant_folder::PlantTexts;
 use std::alloc::{AllocError, Global};
-use token_causes::{Cause, cause_at, cause_of};
+use token_causes::{Cause, FileOf, Spot, cause_at, cause_of};
 
 /// Where limits stand.
 const LIMITS: &str = "docs/PLANT.md, \"Limits (this profile)\"";
@@ -24,41 +22,40 @@ const MOST_SOURCE_BYTES: usize = 4_194_304;
 /// The most bytes of a plant file.
 const MOST_PLANT_BYTES: usize = 1_048_576;
 
+/// Where the limits of the language stand.
+const OF_LANGUAGE: &str = "docs/LANGUAGE.md, \"Limits (this profile)\"";
+
+/// What is said of a text that is too long.
+const TEXTS: &str =
+    "a text is too long: the sources may have 4194304 bytes together, the plant file 1048576 and the alarms 16777216";
+
+/// What is said of slots.
+const SLOTS: &str =
+    "there are more than 65536 variables, elements of arrays and standard blocks, in each instance anew";
+
+/// What is said of costs, and where to read on.
+const COSTS: (&str, &str) = (
+    "a scan of some program costs more than 2000000: most often by a FOR inside a FOR",
+    "docs/LANGUAGE.md, \"To read C10 COST\"",
+);
+
 /// What is said of a limit, and where to read on.
 fn told(limit: Limit) -> (&'static str, &'static str) {
     match limit {
         Limit::Sources => ("there are more than 64 sources", LIMITS),
-        Limit::Text => (
-            "a text is too long: the sources may have 4194304 bytes together, the plant file 1048576 and the alarms 16777216",
-            LIMITS,
-        ),
+        Limit::Text => (TEXTS, LIMITS),
         Limit::Areas => ("there are more than 64 areas", LIMITS),
         Limit::Consoles => ("there are more than 32 consoles", LIMITS),
-        Limit::Turns => (
-            "some FOR has more than 10000 turns",
-            "docs/LANGUAGE.md, \"Limits (this profile)\"",
-        ),
+        Limit::Turns => ("some FOR has more than 10000 turns", OF_LANGUAGE),
         Limit::BlockDepth => (
             "function blocks hold one another more than 16 deep",
-            "docs/LANGUAGE.md, \"Limits (this profile)\"",
+            OF_LANGUAGE,
         ),
         Limit::Programs => ("there are more than 512 programs", LIMITS),
-        Limit::Elements => (
-            "some array has more than 4096 elements",
-            "docs/LANGUAGE.md, \"Limits (this profile)\"",
-        ),
-        Limit::Slots => (
-            "there are more than 65536 variables, elements of arrays and standard blocks, in each instance anew",
-            "docs/LANGUAGE.md, \"Limits (this profile)\"",
-        ),
-        Limit::Size => (
-            "the programs together are larger than 1000000",
-            "docs/LANGUAGE.md, \"Limits (this profile)\"",
-        ),
-        Limit::Cost => (
-            "a scan of some program costs more than 2000000: most often by a FOR inside a FOR",
-            "docs/LANGUAGE.md, \"To read C10 COST\"",
-        ),
+        Limit::Elements => ("some array has more than 4096 elements", OF_LANGUAGE),
+        Limit::Slots => (SLOTS, OF_LANGUAGE),
+        Limit::Size => ("the programs together are larger than 1000000", OF_LANGUAGE),
+        Limit::Cost => COSTS,
         Limit::Alarms => ("there are more than 20000 alarms", LIMITS),
     }
 }

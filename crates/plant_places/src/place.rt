@@ -5,16 +5,7 @@ ghost use Rattle.std.specs.List.{suffix_len};
 ghost use Rattle.st_lexer.specs.Lexes.{mark_len};
 ghost use Rattle.plant_places.specs.Places.{place_in};
 
-/// A file of a plant.
-#[derive(Clone, Copy, PartialEq, Eq, Drop)]
-pub enum FileOf {
-    /// The plant file.
-    Plant,
-    /// A source, by its number in the plant file, from 0.
-    Source(usize),
-    /// The alarm database.
-    Alarms,
-}
+use token_causes::part;
 
 /// A place in a text. Lines count from 1, and so do the bytes of a line; a byte order mark at the text's start isn't counted.
 #[derive(Clone, Copy, Drop)]
@@ -62,38 +53,16 @@ pub fn place_at(text: &[u8], at: usize) -> Place
     place_after(&body[..number])
 }
 
-/// The number of the byte at a line and a column of a text; that of its end if it has no such line.
-pub fn byte_at(text: &[u8], line: usize, column: usize) -> usize {
-    let mut lines = 1usize;
-    let mut start = mark_len(text);
-    for (i, byte) in text.iter().enumerate() {
-        if lines >= line {
-            break;
-        }
-        if *byte == b'\n' {
-            lines = lines.saturating_add(1);
-            start = i.saturating_add(1);
-        }
-    }
-    if lines < line {
-        return text.len();
-    }
-    start
-        .saturating_add(column)
-        .saturating_sub(1)
-        .min(text.len())
-}
-
 /// Where the line of a byte begins, and where it ends, without its line end.
 pub fn line_around(text: &[u8], at: usize) -> (usize, usize) {
-    let mut start = mark_len(text);
-    for (i, byte) in text.iter().enumerate() {
-        if *byte == b'\n' || *byte == b'\r' {
-            if i >= at {
-                return (start, i);
-            }
-            start = i.saturating_add(1);
-        }
+    let at = at.min(text.len());
+    let is_end = |byte: &u8| matches!(*byte, b'\n' | b'\r');
+    let start = match part(text, 0, at).iter().rposition(is_end) {
+        Some(last) => last.saturating_add(1),
+        None => mark_len(text),
+    };
+    match part(text, at, text.len()).iter().position(is_end) {
+        Some(len) => (start, at.saturating_add(len)),
+        None => (start, text.len()),
     }
-    (start, text.len())
 }

@@ -3,13 +3,13 @@
 ghost use Rattle.std.specs.Prelude.{◌≡◌, option_map};
 ghost use Rattle.plant_places.specs.Places.{place_in, text_of};
 
-use crate::place::{FileOf, Place, line_around, place_at};
-use crate::texts::{Spot, text_of};
+use crate::place::{Place, line_around, place_at};
+use crate::texts::text_of;
 use plant_config::Plant;
 use plant_folder::PlantTexts;
 use plant_types::Text;
 use std::alloc::{AllocError, Global};
-use token_causes::part;
+use token_causes::{FileOf, Spot, part};
 
 /// A line with more bytes isn't shown.
 const LONGEST_LINE: usize = 200;

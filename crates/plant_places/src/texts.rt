@@ -3,16 +3,8 @@
 ghost use Rattle.std.specs.Prelude.{◌≡◌};
 ghost use Rattle.plant_places.specs.Places.{text_of};
 
-use crate::place::FileOf;
 use plant_folder::PlantTexts;
-use token_causes::Cause;
-
-/// What is wrong in a file of a plant.
-#[derive(Drop)]
-pub struct Spot {
-    pub file: FileOf,
-    pub cause: Cause,
-}
+use token_causes::FileOf;
 
 /// What is said of a text that looks like UTF-16.
 pub const WIDE: &str = "this file is no UTF-8, but looks like UTF-16: save it as UTF-8";

@@ -1,83 +1,23 @@
-//! Where statements and declarations begin and end.
+//! Where statements, declarations and heads begin and end.
 
-use st_lexer::{Keyword, Symbol, Token, TokenKind};
-use token_causes::kind_at;
-
-/// Whether a keyword stands inside of expressions and declarations alone, so that no statement begins, parts or ends with it.
-pub fn is_inner(keyword: Keyword) -> bool {
-    matches!(
-        keyword,
-        Keyword::True
-            | Keyword::False
-            | Keyword::Not
-            | Keyword::And
-            | Keyword::Or
-            | Keyword::Xor
-            | Keyword::Mod
-            | Keyword::Bool
-            | Keyword::Dint
-            | Keyword::Time
-            | Keyword::At
-            | Keyword::Array
-    )
-}
+use st_lexer::Token;
+use token_causes::{head_of, is_behind_array, is_outer, section_of, sign_at};
 
 /// Whether the token of a number is the OF behind the bounds of an array.
 fn is_of_array(tokens: &[Token], number: usize) -> bool {
-    if kind_at(tokens, number) != Some(TokenKind::Keyword(Keyword::Of)) {
-        return false;
-    }
-    for i in (0..number).rev() {
-        match kind_at(tokens, i) {
-            Some(TokenKind::Keyword(Keyword::Array)) => return true,
-            Some(TokenKind::Keyword(keyword)) if !is_inner(keyword) => return false,
-            Some(TokenKind::Symbol(Symbol::Semicolon)) => return false,
-            _ => {}
-        }
-    }
-    false
+    sign_at(tokens, number) == "OF" && is_behind_array(tokens, number)
 }
 
-/// Whether a statement, a declaration or the head of a statement begins right behind a token.
-fn is_before_statement(kind: TokenKind) -> bool {
-    match kind {
-        TokenKind::Symbol(symbol) => symbol == Symbol::Semicolon,
-        TokenKind::Keyword(keyword) => !is_inner(keyword)
-            && !matches!(
-                keyword,
-                Keyword::If
-                    | Keyword::Elsif
-                    | Keyword::Case
-                    | Keyword::For
-                    | Keyword::To
-                    | Keyword::By
-            ),
-        _ => false,
-    }
-}
-
-/// The number of the first token of the declaration in which the token of a number stands.
-pub fn start_of_declaration(tokens: &[Token], number: usize) -> usize {
+/// The number of the first token of the declaration, or behind the labels before it of the statement, in which the token of a number stands.
+pub fn statement_start(tokens: &[Token], number: usize) -> usize {
+    let is_declared = section_of(tokens, number).is_some();
     for i in (0..number).rev() {
-        match kind_at(tokens, i) {
-            Some(kind) if is_before_statement(kind) && !is_of_array(tokens, i) => {
-                return i.saturating_add(1);
-            }
-            _ => {}
-        }
-    }
-    0
-}
-
-/// The number of the first token of the statement in which the token of a number stands, behind the labels before it.
-pub fn start_of_statement(tokens: &[Token], number: usize) -> usize {
-    for i in (0..number).rev() {
-        match kind_at(tokens, i) {
-            Some(TokenKind::Symbol(Symbol::Colon)) => return i.saturating_add(1),
-            Some(TokenKind::Keyword(Keyword::Program | Keyword::FunctionBlock)) => {
-                return i.saturating_add(2).min(number);
-            }
-            Some(kind) if is_before_statement(kind) => return i.saturating_add(1),
+        match sign_at(tokens, i) {
+            ":" if is_declared => {}
+            ";" | ":" => return i.saturating_add(1),
+            "PROGRAM" | "FUNCTION_BLOCK" => return i.saturating_add(2).min(number),
+            "IF" | "ELSIF" | "CASE" | "FOR" | "TO" | "BY" => {}
+            sign if is_outer(sign) && !is_of_array(tokens, i) => return i.saturating_add(1),
             _ => {}
         }
     }
@@ -85,43 +25,35 @@ pub fn start_of_statement(tokens: &[Token], number: usize) -> usize {
 }
 
 /// The number of the first keyword from a number on with which something else begins or ends, or of the first `;`; else how many tokens there are.
-pub fn next_end(tokens: &[Token], number: usize) -> usize {
-    for i in number..tokens.len() {
-        match kind_at(tokens, i) {
-            Some(TokenKind::Symbol(Symbol::Semicolon)) => return i,
-            Some(TokenKind::Keyword(keyword)) if !is_inner(keyword) && !is_of_array(tokens, i) => {
-                return i;
-            }
-            _ => {}
-        }
-    }
-    tokens.len()
+fn next_end(tokens: &[Token], number: usize) -> usize {
+    (number..tokens.len())
+        .find(|i| {
+            let sign = sign_at(tokens, *i);
+            sign == ";" || is_outer(sign) && !is_of_array(tokens, *i)
+        })
+        .unwrap_or(tokens.len())
 }
 
 /// Whether more parentheses are closed than opened, from the token of a number to before another.
 fn closes_more(tokens: &[Token], first: usize, last: usize) -> bool {
     let mut open = 0usize;
     for i in first..last {
-        match kind_at(tokens, i) {
-            Some(TokenKind::Symbol(Symbol::Open)) => open = open.saturating_add(1),
-            Some(TokenKind::Symbol(Symbol::Close)) => {
-                if open == 0 {
-                    return true;
-                }
-                open = open.saturating_sub(1);
-            }
+        match sign_at(tokens, i) {
+            "(" => open = open.saturating_add(1),
+            ")" if open == 0 => return true,
+            ")" => open = open.saturating_sub(1),
             _ => {}
         }
     }
     false
 }
 
-/// The number of the token behind the statement or the declaration in which the token of a number stands: behind its `;`, or at what ends the statements around it.
-/// `None` where it isn't certain.
-pub fn end_of_statement(tokens: &[Token], number: usize) -> Option<usize> {
+/// The number of the token behind the statement or the declaration in which the token of a number stands: behind its `;`, or at what ends the statements around
+/// it. `None` where it isn't certain.
+pub fn statement_end(tokens: &[Token], number: usize) -> Option<usize> {
     let mut end = next_end(tokens, number);
     for _ in 0..8 {
-        if kind_at(tokens, end) != Some(TokenKind::Symbol(Symbol::Semicolon)) {
+        if sign_at(tokens, end) != ";" {
             break;
         }
         let behind = end.saturating_add(1);
@@ -131,9 +63,35 @@ pub fn end_of_statement(tokens: &[Token], number: usize) -> Option<usize> {
         }
         end = next;
     }
-    match kind_at(tokens, end)? {
-        TokenKind::Keyword(Keyword::Then | Keyword::Do | Keyword::Of | Keyword::To | Keyword::By) =>
-            None,
+    match sign_at(tokens, end) {
+        "" | "THEN" | "DO" | "OF" | "TO" | "BY" => None,
         _ => Some(end),
     }
+}
+
+/// The number of the IF, ELSIF, CASE or FOR in whose head the token of a number stands; `None` where it stands in none.
+pub fn head_start(tokens: &[Token], number: usize) -> Option<usize> {
+    let mut head = head_of(tokens, number)?;
+    for _ in 0..2 {
+        if matches!(sign_at(tokens, head), "TO" | "BY") {
+            head = head_of(tokens, head)?;
+        }
+    }
+    Some(head)
+}
+
+/// The number of the keyword that ends a head, from a number on: THEN, OF or DO, whichever stands there; `None` where none does before the next statement.
+pub fn head_end(tokens: &[Token], number: usize) -> Option<usize> {
+    let mut at = number;
+    for _ in 0..8 {
+        let end = next_end(tokens, at);
+        let behind = end.saturating_add(1);
+        match sign_at(tokens, end) {
+            "THEN" | "DO" | "OF" => return Some(end),
+            "TO" | "BY" => at = behind,
+            ";" if matches!(sign_at(tokens, behind), "THEN" | "DO" | "OF") => return Some(behind),
+            _ => return None,
+        }
+    }
+    None
 }

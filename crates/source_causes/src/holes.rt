@@ -1,10 +1,9 @@
 //! The tokens of a text in which some bytes begin none.
 
 use crate::marks::misspelled_at;
-use plant_types::Region;
-use st_lexer::{Keyword, LexFault, Symbol, Token, TokenKind, lex};
+use st_lexer::{LexFault, Token, lex};
 use std::alloc::{AllocError, Global};
-use token_causes::{Cause, part};
+use token_causes::{Cause, byte_at, part, tokens_of};
 
 /// The most places of a text that are passed over.
 const MOST_HOLES: usize = 20;
@@ -19,49 +18,18 @@ pub struct Lexed {
     pub is_cut: bool,
 }
 
-/// How many bytes of a byte order mark a text begins with.
-fn mark_len(text: &[u8]) -> usize {
-    match text {
-        [0xEF, 0xBB, 0xBF, ..] => 3,
-        _ => 0,
+/// Adds the tokens of what is written, which stand in the place of the bytes from one number to before another.
+pub fn push_put(
+    alloc: Global,
+    tokens: &mut Vec<Token>,
+    put: &str,
+    (from, until): (usize, usize),
+) -> Result<(), AllocError> {
+    for token in tokens_of(alloc, put.as_bytes())?.as_slice() {
+        let kind = token.kind;
+        tokens.push(Token { kind, from, until })?;
     }
-}
-
-/// The byte of a text at a line and a column.
-fn byte_of(text: &[u8], line: usize, column: usize) -> usize {
-    let mut left = line.saturating_sub(1);
-    let mut start = mark_len(text);
-    for (number, byte) in text.iter().enumerate() {
-        if left == 0 {
-            break;
-        }
-        if *byte == b'\n' {
-            left = left.saturating_sub(1);
-            start = number.saturating_add(1);
-        }
-    }
-    start.saturating_add(column.saturating_sub(1))
-}
-
-/// How many bytes of a line stand before a byte and with it; `None` where the line hasn't it.
-fn len_with(line: &[u8], wanted: u8) -> Option<usize> {
-    for (number, byte) in line.iter().enumerate() {
-        if *byte == wanted {
-            return Some(number.saturating_add(1));
-        }
-        if *byte == b'\n' {
-            return None;
-        }
-    }
-    None
-}
-
-/// How many bytes stand before the end of a line.
-fn line_len(text: &[u8]) -> usize {
-    match text.iter().position(|byte| *byte == b'\n') {
-        Some(len) => len,
-        None => text.len(),
-    }
+    Ok(())
 }
 
 /// How many letters, digits and points bytes begin with.
@@ -84,65 +52,57 @@ fn character_len(first: u8) -> usize {
 
 /// How many bytes stand up to a mark that closes what the first byte opens, with both; 1 where the line hasn't it.
 fn closed_len(bytes: &[u8], mark: u8) -> usize {
-    len_with(part(bytes, 1, bytes.len()), mark)
-        .unwrap_or(0)
-        .saturating_add(1)
+    let inside = part(bytes, 1, bytes.len());
+    match inside
+        .iter()
+        .position(|byte| *byte == mark || *byte == b'\n')
+    {
+        Some(len) if inside.get(len) == Some(&mark) => len.saturating_add(2),
+        _ => 1,
+    }
 }
 
-/// How many bytes belong together that begin no token, and the token in their place; `None` where what follows can't be told.
-fn hole_of(bytes: &[u8]) -> Option<(usize, Option<TokenKind>)> {
+/// How many bytes belong together that begin no token, and what is put in their place; `None` where what follows can't be told.
+fn hole_of(bytes: &[u8]) -> Option<(usize, &'static str)> {
     match bytes {
         [b'(' | b'/', b'*', ..] | [0xFF, 0xFE, ..] | [0xFE, 0xFF, ..] | [0, ..] => None,
-        [b'\'', ..] => Some((closed_len(bytes, b'\''), Some(TokenKind::Integer(0)))),
-        [b'"', ..] => Some((closed_len(bytes, b'"'), Some(TokenKind::Integer(0)))),
-        [b'{', ..] => Some((closed_len(bytes, b'}'), None)),
-        [b'#', b'a'..=b'z' | b'A'..=b'Z' | b'_', ..] => Some((1, None)),
-        [b'#', ..] => Some((line_len(bytes), None)),
-        [b'|', b'|', ..] => Some((2, Some(TokenKind::Keyword(Keyword::Or)))),
-        [b'!' | b'~', b'=', ..] => Some((2, Some(TokenKind::Symbol(Symbol::Unequal)))),
-        [b'!' | b'~', ..] => Some((1, Some(TokenKind::Keyword(Keyword::Not)))),
-        [first, ..] => Some((character_len(*first), None)),
+        [mark @ (b'\'' | b'"'), ..] => Some((closed_len(bytes, *mark), "0")),
+        [b'{', ..] => Some((closed_len(bytes, b'}'), "")),
+        [b'#', b'a'..=b'z' | b'A'..=b'Z' | b'_', ..] => Some((1, "")),
+        [b'#', ..] => {
+            let len = bytes.iter().position(|byte| *byte == b'\n');
+            Some((len.unwrap_or(bytes.len()), ""))
+        }
+        [b'|', b'|', ..] => Some((2, "OR")),
+        [b'!' | b'~', b'=', ..] => Some((2, "<>")),
+        [b'!' | b'~', ..] => Some((1, "NOT")),
+        [first, ..] => Some((character_len(*first), "")),
         [] => None,
     }
 }
 
-/// Adds the tokens of a part of a text that begins at a byte.
-fn add_tokens(lexed: &mut Lexed, tokens: Vec<Token>, at: usize) -> Result<(), AllocError> {
-    for token in tokens.as_slice() {
-        lexed.tokens.push(Token {
-            kind: token.kind,
-            from: token.from.saturating_add(at),
-            until: token.until.saturating_add(at),
-        })?;
-    }
-    Ok(())
-}
-
-/// The byte behind what is wrong at a byte, and the token in its place; `None` where what follows can't be told.
-fn passed(text: &[u8], at: usize, cause: &Cause) -> Option<(usize, Option<TokenKind>)> {
+/// The byte behind what is wrong at a byte, and what is put in its place; `None` where what follows can't be told.
+fn passed(text: &[u8], at: usize, cause: &Cause) -> Option<(usize, &'static str)> {
     let bytes = part(text, at, text.len());
-    let until = match cause.mark {
-        Some(mark) => mark.1,
-        None => at,
-    };
     match bytes {
         [b'0'..=b'9' | b'a'..=b'z' | b'A'..=b'Z' | b'_', ..] => {
-            let until = match part(text, until, text.len()) {
-                [b',', decimals @ ..] if matches!(bytes, [b't' | b'T', b'#', ..]) => {
-                    until.saturating_add(1).saturating_add(run_len(decimals))
-                }
-                _ => until,
+            let until = cause.mark.map_or(at, |mark| mark.1);
+            let decimals = match part(text, until, text.len()) {
+                [b',', decimals @ ..] if matches!(bytes, [b't' | b'T', b'#', ..]) => run_len(
+                    decimals,
+                ).saturating_add(1),
+                _ => 0,
             };
-            Some((until, Some(TokenKind::Integer(0))))
+            Some((until.saturating_add(decimals), "0"))
         }
         [b'%', b'a'..=b'z' | b'A'..=b'Z', ..] => {
-            let behind = part(text, at.saturating_add(1), text.len());
-            let until = at.saturating_add(1).saturating_add(run_len(behind));
-            Some((until, Some(TokenKind::Address(Region::Plain))))
+            let behind = at.saturating_add(1);
+            let len = run_len(part(text, behind, text.len()));
+            Some((behind.saturating_add(len), "%M0"))
         }
         _ => {
-            let (len, kind) = hole_of(bytes)?;
-            Some((at.saturating_add(len), kind))
+            let (len, put) = hole_of(bytes)?;
+            Some((at.saturating_add(len), put))
         }
     }
 }
@@ -155,19 +115,12 @@ fn take_hole(
     at: usize,
 ) -> Result<Option<usize>, AllocError> {
     let cause = misspelled_at(alloc, text, at)?;
-    let found = passed(text, at, &cause);
-    let Some((until, kind)) = found else {
+    let Some((until, put)) = passed(text, at, &cause) else {
         lexed.holes.push((at, text.len()))?;
         return Ok(None);
     };
     lexed.holes.push((at, until))?;
-    if let Some(kind) = kind {
-        lexed.tokens.push(Token {
-            kind,
-            from: at,
-            until,
-        })?;
-    }
+    push_put(alloc, &mut lexed.tokens, put, (at, until))?;
     Ok(Some(until))
 }
 
@@ -179,24 +132,24 @@ fn take(
     at: usize,
 ) -> Result<Option<usize>, AllocError> {
     let rest = part(text, at, text.len());
-    match lex(alloc, rest) {
-        Ok(tokens) => {
-            add_tokens(lexed, tokens, at)?;
-            Ok(None)
-        }
-        Err(LexFault::Memory) => Err(AllocError),
-        Err(LexFault::Bad { line, column }) => {
-            let bad = at.saturating_add(byte_of(rest, line, column));
-            match lex(alloc, part(text, at, bad)) {
-                Ok(tokens) => add_tokens(lexed, tokens, at)?,
-                Err(LexFault::Memory) => return Err(AllocError),
-                Err(_) => {}
-            }
-            let next = take_hole(alloc, text, lexed, bad)?;
-            lexed.is_cut = next.is_none();
-            Ok(next)
-        }
+    let end = match lex(alloc, rest) {
+        Ok(_) => rest.len(),
+        Err(LexFault::Memory) => return Err(AllocError),
+        Err(LexFault::Bad { line, column }) => byte_at(rest, line, column),
+    };
+    for token in tokens_of(alloc, part(rest, 0, end))?.as_slice() {
+        lexed.tokens.push(Token {
+            kind: token.kind,
+            from: token.from.saturating_add(at),
+            until: token.until.saturating_add(at),
+        })?;
     }
+    if end == rest.len() {
+        return Ok(None);
+    }
+    let next = take_hole(alloc, text, lexed, at.saturating_add(end))?;
+    lexed.is_cut = next.is_none();
+    Ok(next)
 }
 
 /// The tokens of a text, and what stands between them. Fails if memory was refused.

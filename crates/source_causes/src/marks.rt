@@ -49,7 +49,7 @@ fn quotes_name(bytes: &[u8], before: &[u8]) -> bool {
     is_name(part(inside, 0, len)) && (goes_on || is_before_name(last_word(before)))
 }
 
-/// What is said of a mark by what stands before it; empty where that says nothing.
+/// What is said of a mark by what stands beside it; empty where that says nothing.
 fn said_beside(before: &[u8], bytes: &[u8]) -> &'static str {
     match (before, bytes) {
         ([.., b'0'..=b'9'], [b'\'', b'0'..=b'9', ..]) => {
@@ -57,6 +57,8 @@ fn said_beside(before: &[u8], bytes: &[u8]) -> &'static str {
         }
         (_, [b'"', ..]) if quotes_name(bytes, before) => "a name stands without quotes here",
         ([.., b'.'], [b'%', ..]) => "a bit of a number has no name",
+        (_, [b'%', next, ..]) if *next != b' ' =>
+            "this is no address: one is written as %IX0.0, %QD4 or %M*",
         (_, [b'$', b'0'..=b'9' | b'a'..=b'f' | b'A'..=b'F', ..]) => {
             "a number to the base 16 is written 16#FF"
         }

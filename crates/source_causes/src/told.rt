@@ -1,16 +1,15 @@
 //! All causes of a source.
 
-use crate::ends::{start_of_declaration, start_of_statement};
-use crate::heads::head_of;
-use crate::holes::{Lexed, tokens_with_holes};
+use crate::ends::{head_start, statement_start};
+use crate::holes::{Lexed, push_put, tokens_with_holes};
 use crate::marks::misspelled_at;
 use crate::mend::{Mend, way_on};
-use crate::pieces::{are_globals, end_of_piece, is_unit};
+use crate::pieces::{are_globals, end_of_piece, is_unit, units_start};
 use grammar_causes::{cause_at_end, cause_at_token};
 use st_lexer::Token;
 use st_parser::{ParseFault, parse};
 use std::alloc::{AllocError, Global};
-use token_causes::{Cause, Stand, section_of, stand_of};
+use token_causes::{Cause, section_of, stand_of};
 
 /// A unit is read at most so often.
 const MOST_READINGS: usize = 40;
@@ -58,55 +57,30 @@ impl Piece {
     }
 
     /// Goes on by a mend.
-    fn take(&mut self, alloc: Global, mend: &Mend) -> Result<(), AllocError> {
+    fn take(&mut self, alloc: Global, mend: Mend) -> Result<(), AllocError> {
         let all = self.tokens.as_slice();
-        let before = all.get(..mend.from).unwrap_or(all);
-        let behind = all.get(mend.until..).unwrap_or(&[]);
-        let at = match all.get(mend.from) {
-            Some(token) => token.from,
-            None => 0,
-        };
-        let mut tokens = Vec::from_slice(alloc, before)?;
-        for kind in mend.put.as_slice() {
-            tokens.push(Token {
-                kind: *kind,
-                from: at,
-                until: at,
-            })?;
-        }
-        tokens.extend_from_slice(behind)?;
+        let at = all.get(mend.from).map_or(0, |token| token.from);
+        let mut tokens = Vec::from_slice(alloc, all.get(..mend.from).unwrap_or(all))?;
+        push_put(alloc, &mut tokens, mend.put, (at, at))?;
+        tokens.extend_from_slice(all.get(mend.until..).unwrap_or(&[]))?;
         self.tokens = tokens;
         Ok(())
     }
 }
 
-/// The number of the first token of the statement, the declaration or the head in which the token of a number stands.
-fn start_around(tokens: &[Token], number: usize) -> usize {
-    if section_of(tokens, number).is_some() {
-        return start_of_declaration(tokens, number);
-    }
-    match head_of(tokens, number) {
-        Some(head) => head.first,
-        None => start_of_statement(tokens, number),
-    }
-}
-
 /// The bytes around the token of a number at which a unit stops: from where its statement, its declaration or its head begins to where that is left out.
-fn around(tokens: &[Token], number: usize, mend: &Option<Mend>) -> (usize, usize) {
-    let mut first = start_around(tokens, number).min(number);
-    let mut last = number;
+fn around(tokens: &[Token], number: usize, mend: Option<Mend>) -> (usize, usize) {
+    let start = match head_start(tokens, number) {
+        Some(head) if section_of(tokens, number).is_none() => head,
+        _ => statement_start(tokens, number),
+    };
+    let (mut first, mut last) = (start.min(number), number);
     if let Some(mend) = mend {
         first = first.min(mend.from);
         last = last.max(mend.until.saturating_sub(1));
     }
-    let from = match tokens.get(first) {
-        Some(token) => token.from,
-        None => 0,
-    };
-    match tokens.get(last) {
-        Some(token) => (from, token.until),
-        None => (from, from),
-    }
+    let from = tokens.get(first).map_or(0, |token| token.from);
+    (from, tokens.get(last).map_or(from, |token| token.until))
 }
 
 /// Whether bytes that begin no token stand in a part of a text.
@@ -147,11 +121,7 @@ impl<'a> Source<'a> {
 
     /// Tells a cause, behind what begins no token before it.
     fn tell(&mut self, alloc: Global, cause: Cause) -> Result<(), AllocError> {
-        let at = match cause.mark {
-            Some(mark) => mark.0,
-            None => 0,
-        };
-        self.tell_holes(alloc, at)?;
+        self.tell_holes(alloc, cause.mark.map_or(0, |mark| mark.0))?;
         self.found.push(cause)?;
         self.left.causes = self.left.causes.saturating_sub(1);
         Ok(())
@@ -183,15 +153,12 @@ impl<'a> Source<'a> {
             return Ok(false);
         };
         let at = token.from;
-        if !piece.is_apart && stand_of(tokens, number) == Stand::Behind {
+        if !piece.is_apart && stand_of(tokens, number) == "behind" {
             return Ok(false);
         }
-        let mend = way_on(alloc, self.text, tokens, number)?;
-        let is_further = match piece.last {
-            Some(last) => last < at,
-            None => true,
-        };
-        let (from, until) = around(tokens, number, &mend);
+        let mend = way_on(self.text, tokens, number);
+        let is_further = piece.last.is_none_or(|last| last < at);
+        let (from, until) = around(tokens, number, mend);
         if is_further && !has_hole(&self.lexed, from, until) {
             let cause = cause_at_token(alloc, self.text, tokens, number)?;
             self.tell(alloc, cause)?;
@@ -199,7 +166,7 @@ impl<'a> Source<'a> {
         piece.last = Some(at);
         match mend {
             Some(mend) => {
-                piece.take(alloc, &mend)?;
+                piece.take(alloc, mend)?;
                 Ok(self.left.causes > 0)
             }
             None => Ok(false),
@@ -261,16 +228,27 @@ impl<'a> Source<'a> {
     }
 }
 
-/// What is wrong in the spelling and the grammar of a source, in order of text, as far as that is left to be told and to be read, and what is left then. Fails if
-/// memory was refused.
-pub fn causes(
-    alloc: Global,
-    text: &[u8],
-    left: Reading,
-) -> Result<(Vec<Cause>, Reading), AllocError> {
+/// What is told of a source.
+#[derive(Drop)]
+pub struct Told {
+    /// What is wrong in its spelling and its grammar, in order of text.
+    pub causes: Vec<Cause>,
+    /// What is left to be told and to be read.
+    pub left: Reading,
+    /// The byte at which its blocks and programs begin, above which all its globals stand, spelled rightly; `None` where that isn't certain.
+    pub units: Option<usize>,
+}
+
+/// What is wrong in the spelling and the grammar of a source, as far as that is left to be told and to be read. Fails if memory was refused.
+pub fn tell(alloc: Global, text: &[u8], left: Reading) -> Result<Told, AllocError> {
+    let lexed = tokens_with_holes(alloc, text)?;
+    let units = match units_start(text, lexed.tokens.as_slice()) {
+        Some(start) if !lexed.is_cut && !has_hole(&lexed, 0, start) => Some(start),
+        _ => None,
+    };
     let mut source = Source {
         text,
-        lexed: tokens_with_holes(alloc, text)?,
+        lexed,
         holes: 0,
         found: Vec::new(alloc),
         left,
@@ -278,11 +256,13 @@ pub fn causes(
     source.read_pieces(alloc)?;
     source.tell_holes(alloc, text.len())?;
     let Source {
-        text: _,
-        lexed: _,
-        holes: _,
-        found,
+        found: causes,
         left,
+        ..
     } = source;
-    Ok((found, left))
+    Ok(Told {
+        causes,
+        left,
+        units,
+    })
 }

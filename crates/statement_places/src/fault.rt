@@ -3,10 +3,10 @@
 use crate::routines::statements_of;
 use crate::sources::{Found, Source, routine_at, sources_of};
 use plant_folder::PlantTexts;
-use plant_places::{FileOf, Spot, shown_alone};
-use st_lexer::{Keyword, Symbol, Token, TokenKind};
+use plant_places::shown_alone;
+use st_lexer::Token;
 use std::alloc::{AllocError, Global};
-use token_causes::{Cause, cause_at, kind_at, span_of, word_at};
+use token_causes::{FileOf, Spot, cause_at, sign_at, span_of, word_at};
 
 /// Where it stands how statements trap.
 const TRAPS: &str = "docs/LANGUAGE.md, \"Traps\"";
@@ -39,25 +39,16 @@ fn read(line: &str) -> Option<Told<'_>> {
 
 /// The number of the token behind what a trap of a statement may be in: its `;`, or the keyword that ends its head.
 fn end_of(tokens: &[Token], first: usize) -> usize {
-    for number in first..tokens.len() {
-        if matches!(
-            kind_at(tokens, number),
-            Some(
-                TokenKind::Symbol(Symbol::Semicolon)
-                    | TokenKind::Keyword(Keyword::Then | Keyword::Of | Keyword::Do)
-            )
-        ) {
-            return number;
-        }
-    }
-    tokens.len()
+    (first..tokens.len())
+        .find(|number| matches!(sign_at(tokens, *number), ";" | "THEN" | "OF" | "DO"))
+        .unwrap_or(tokens.len())
 }
 
-/// Where in a statement a trap is, by its first token.
-fn place_in(kind: Option<TokenKind>) -> &'static str {
-    match kind {
-        Some(TokenKind::Keyword(Keyword::If)) => " in a condition of this IF or of its ELSIF",
-        Some(TokenKind::Keyword(Keyword::Case)) => " in what this CASE asks",
+/// Where in a statement a trap is, by the sign of its first token.
+fn place_in(sign: &str) -> &'static str {
+    match sign {
+        "IF" => " in a condition of this IF or of its ELSIF",
+        "CASE" => " in what this CASE asks",
         _ => "",
     }
 }
@@ -82,16 +73,16 @@ fn said(
     let tokens = source.tokens.as_slice();
     let unit = word_at(source.text, tokens, found.routine.name);
     let (number, reason) = (told.statement, reason(told.trap));
-    let place = place_in(kind_at(tokens, first));
+    let place = place_in(sign_at(tokens, first));
     format!(in alloc; "statement {number} of {unit} {reason}{place}")
 }
 
 /// The statement of a line FAULT; `None` where the sources have none.
-fn cause_of_fault(
+fn spot_of_fault(
     alloc: Global,
     sources: &[Source<'_>],
     told: Told<'_>,
-) -> Result<Option<(usize, Cause)>, AllocError> {
+) -> Result<Option<Spot>, AllocError> {
     let Some(found) = routine_at(sources, told.path) else {
         return Ok(None);
     };
@@ -105,11 +96,14 @@ fn cause_of_fault(
     };
     let said = said(alloc, source, found, told, first)?;
     let mark = span_of(source.text, tokens, first, end_of(tokens, first));
-    Ok(Some((found.source, cause_at(mark, said, TRAPS))))
+    Ok(Some(Spot {
+        file: FileOf::Source(found.source),
+        cause: cause_at(mark, said, TRAPS),
+    }))
 }
 
-/// What a person is told of a line `FAULT MOMENT PATH STATEMENT KIND` by the texts of a plant: the file, line and column of the statement, and the line that stands there. Nothing of
-/// another line, or where the texts have no such statement. Fails if allocation fails.
+/// What a person is told of a line `FAULT MOMENT PATH STATEMENT KIND` by the texts of a plant: the file, line and column of the statement, and the line that
+/// stands there. Nothing of another line, or where the texts have no such statement. Fails if allocation fails.
 pub fn told_of_fault(
     alloc: Global,
     texts: &PlantTexts<'_>,
@@ -119,14 +113,8 @@ pub fn told_of_fault(
         return Ok(String::new(alloc));
     };
     let sources = sources_of(alloc, texts.sources)?;
-    match cause_of_fault(alloc, sources.as_slice(), told)? {
-        Some((source, cause)) => {
-            let spot = Spot {
-                file: FileOf::Source(source),
-                cause,
-            };
-            shown_alone(alloc, texts, &spot)
-        }
+    match spot_of_fault(alloc, sources.as_slice(), told)? {
+        Some(spot) => shown_alone(alloc, texts, &spot),
         None => Ok(String::new(alloc)),
     }
 }
