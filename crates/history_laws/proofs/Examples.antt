@@ -1,10 +1,12 @@
 -- Worked examples: what rows tell, and where a record ends.
-use Rattle.std.proofs.Common.{◌≡◌, ℕ, true, false, List, [], ◌∷◌, ◌++◌, map, refl, Some, None}
+use Rattle.std.proofs.Common.{◌≡◌, ℕ, true, false, List, [], ◌∷◌, ◌++◌, map, refl, ap, sym, Some, None}
 use Rattle.std.specs.Prelude.{codes}
 use Rattle.alarm_machine.specs.declared.states.Code.TheVariants.{Norm, Unack, Acked, Oos}
 use Rattle.alarm_machine.specs.declared.states.Verb.TheVariants as verb
 use Rattle.engine.specs.Journal.{NamedRow, ChangeOf, OrderBy, rows_from}
+use Rattle.serving.proofs.BodyLaws.{no_body}
 use Rattle.serving.specs.Requests.{Request, requests_of}
+use Rattle.serving.proofs.Beginnings.{requests_end}
 use Rattle.history_laws.specs.Told.{last_code}
 use Rattle.history_laws.specs.Records.{ends_at_line}
 
@@ -29,11 +31,11 @@ torn : ends_at_line (codes "list") ≡ false
 torn = refl
 
 -- so what follows a torn line belongs to it
-abbrev asked : List ℕ → List (List ℕ)
-asked input = map (λ (r : Request). r.line) (requests_of input)
+abbrev lines : List Request → List (List ℕ)
+lines requests = map (λ (r : Request). r.line) requests
 
-cut_at_line : asked ((codes "list" ++ 10 ∷ []) ++ codes "ack") ≡ codes "list" ∷ codes "ack" ∷ []
-cut_at_line = refl
+cut_at_line : lines (requests_of ((codes "list" ++ 10 ∷ []) ++ codes "ack")) ≡ codes "list" ∷ codes "ack" ∷ []
+cut_at_line = ap lines (requests_end (codes "list") [] (codes "ack") refl (sym (no_body (codes "list"))))
 
-cut_within : asked (codes "li" ++ (codes "st" ++ 10 ∷ [])) ≡ codes "list" ∷ []
-cut_within = refl
+cut_within : lines (requests_of (codes "li" ++ (codes "st" ++ 10 ∷ []))) ≡ codes "list" ∷ []
+cut_within = ap lines (requests_end (codes "list") [] [] refl (sym (no_body (codes "list"))))

@@ -4,4 +4,5 @@ pub mod Telling
 pub mod Following
 pub mod Listing
 pub mod Playing
+pub mod Lines
 mod Examples

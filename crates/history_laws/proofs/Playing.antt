@@ -8,37 +8,14 @@ use Rattle.plant_system.proofs.Systems.{system_next}
 use Rattle.engine.specs.Journal.{NamedRow, added_rows}
 use Rattle.history_laws.proofs.Journals.{journal_next}
 use Rattle.command_text.specs.Commands.{PlainCommand, Nothing, Unknown, Scan, Order, Listing, Journal}
+use Rattle.serving.specs.Bodies.{body_size}
 use Rattle.command_answers.specs.Listings.{list_text, journal_text, named_line, with_end}
 use Rattle.command_answers.specs.Answers.{after_command, answer_after, command_answer, command_events, event_text, scan_text, order_answer, order_for}
-use Rattle.serving.specs.Requests.{Request, is_lf, has_lf, asked_by, last_request, ended_from, begun_from, requests_of}
+use Rattle.serving.specs.Requests.{Request, has_lf, without_cr, asked_by, begun_request, requests_of}
 use Rattle.serving.specs.Answers.{after_requests, answers}
-use Rattle.serving.proofs.RequestLaws.{ended_from-more, begun_from-more, requests_end}
-use Rattle.history_laws.specs.Records.{ends_at_line, history_after, text_after, GoesOn, LeaveAlike, only_asks, asked_in, AddsNothing, CanBeLeftOut}
-
--- ---- where an input may be cut
-
-both_none : (v : Bool) (xs ys : List ℕ) → xs ≡ [] → ys ≡ [] → cond v xs ys ≡ []
-both_none true xs ys p q = p
-both_none false xs ys p q = q
-
-none_begun : (begun : List ℕ) (b : ℕ) (bs : List ℕ) → ends_at_line (b ∷ bs) ≡ true → begun_from begun (b ∷ bs) ≡ []
-none_begun begun b [] e = ap (λ (v : Bool). cond v [] (begun ++ b ∷ [])) e
-none_begun begun b (c ∷ bs) e = both_none (is_lf b) (begun_from [] (c ∷ bs)) (begun_from (begun ++ b ∷ []) (c ∷ bs)) (none_begun [] c bs e) (none_begun (begun ++ b ∷ []) c bs e)
-
--- no request has begun where a line has just ended
-at_line : (past : List ℕ) → ends_at_line past ≡ true → begun_from [] past ≡ []
-at_line [] e = refl
-at_line (b ∷ bs) e = none_begun [] b bs e
-
-requests_cut : (past more : List ℕ) → ends_at_line past ≡ true → requests_of (past ++ more) ≡ requests_of past ++ requests_of more
-requests_cut past more e =
-    let none = at_line past e in
-    let ended = ended_from [] past in
-    let whole : ended ++ last_request (begun_from [] past) ≡ ended = ap (λ (bs : List ℕ). ended ++ last_request bs) none ∙ append-nil ended in
-    (λ i. ended_from-more [] past more i ++ last_request (begun_from-more [] past more i))
-    ∙ ap (λ (bs : List ℕ). (ended ++ ended_from bs more) ++ last_request (begun_from bs more)) none
-    ∙ append_assoc ended (ended_from [] more) (last_request (begun_from [] more))
-    ∙ ap (λ (rs : List Request). rs ++ requests_of more) (sym whole)
+use Rattle.serving.proofs.RequestLaws.{cut}
+use Rattle.serving.proofs.Beginnings.{requests_end}
+use Rattle.history_laws.specs.Records.{history_after, text_after, GoesOn, LeaveAlike, only_asks, asked_in, AddsNothing, CanBeLeftOut}
 
 -- ---- requests one after another
 
@@ -51,12 +28,12 @@ answers_more plant h (x ∷ xs) ys =
     ap (λ (t : List ℕ). answer_after plant h (asked_by x) ++ t) (answers_more plant (after_command plant h (asked_by x)) xs ys) ∙ sym (append_assoc (answer_after plant h (asked_by x)) _ _)
 
 -- an input and more after it
-pub goes_on : (plant : PlainPlant) (history : List Event) (past more : List ℕ) → ends_at_line past ≡ true → GoesOn plant history past more
+pub goes_on : (plant : PlainPlant) (history : List Event) (past more : List ℕ) → begun_request past ≡ [] → GoesOn plant history past more
 goes_on plant history past more e =
-    let cut = requests_cut past more e in
+    let parts = cut past more e in
     record {
-      text_is = ap (answers plant history) cut ∙ answers_more plant history (requests_of past) (requests_of more);
-      history_is = ap (after_requests plant history) cut ∙ after_more plant history (requests_of past) (requests_of more);
+      text_is = ap (answers plant history) parts ∙ answers_more plant history (requests_of past) (requests_of more);
+      history_is = ap (after_requests plant history) parts ∙ after_more plant history (requests_of past) (requests_of more);
     }
 
 -- ---- histories that leave a plant alike
@@ -122,16 +99,16 @@ asking_adds_nothing plant history (Order verb console word) e = cc
 asking_adds_nothing plant history Listing e = append-nil history
 asking_adds_nothing plant history Journal e = append-nil history
 
-pub line_left_out : (plant : PlainPlant) (history : List Event) (past line more : List ℕ) → ends_at_line past ≡ true → has_lf line ≡ false → AddsNothing plant (history_after plant history past) line
-    → CanBeLeftOut plant history past line more
-line_left_out plant history past line more e n none =
+pub line_left_out : (plant : PlainPlant) (history : List Event) (past line body more : List ℕ) → begun_request past ≡ [] → has_lf line ≡ false → length body ≡ body_size (without_cr line)
+    → AddsNothing plant (history_after plant history past) line → CanBeLeftOut plant history past line body more
+line_left_out plant history past line body more e n size none =
     let now = history_after plant history past in
-    let with_line = goes_on plant history past (line ++ 10 ∷ more) e in
+    let with_line = goes_on plant history past (line ++ 10 ∷ (body ++ more)) e in
     let without = goes_on plant history past more e in
-    let cut = (requests_end line more n).0 in
+    let parts = requests_end line body more n size in
     record {
       text_is = with_line.text_is ∙ ap (λ (t : List ℕ). text_after plant history past ++ t)
-          (ap (answers plant now) cut ∙ ap (λ (h : List Event). answer_after plant now (asked_in line) ++ answers plant h (requests_of more)) none);
+          (ap (answers plant now) parts ∙ ap (λ (h : List Event). answer_after plant now (asked_in line) ++ answers plant h (requests_of more)) none);
       others_are = without.text_is;
-      history_is = with_line.history_is ∙ ap (after_requests plant now) cut ∙ ap (λ (h : List Event). after_requests plant h (requests_of more)) none ∙ sym without.history_is;
+      history_is = with_line.history_is ∙ ap (after_requests plant now) parts ∙ ap (λ (h : List Event). after_requests plant h (requests_of more)) none ∙ sym without.history_is;
     }

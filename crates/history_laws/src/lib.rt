@@ -2,12 +2,12 @@
 //!
 //! The journal tells the code of each alarm, and makes the list of alarms (`specs/Told.antt`), where no two alarms have one tag: so in each plant
 //! that keeps its rules (`IsPlant`), as that of every engine does, by the type of `Engine`. A record is an input of the server; where it ends
-//! at the end of a line, more may follow in the same session or in a new one, with the same answers and the same states (`specs/Records.antt`).
+//! at the end of a request, more may follow in the same session or in a new one, with the same answers and the same states (`specs/Records.antt`).
 //!
 //! These functions do nothing: each has laws as its contract.
 #![tactic(auto)]
 
-ghost use Rattle.std.specs.Prelude.{◌≡◌, ℕ, true, false, List, [], ◌∷◌, ◌++◌, Some, slice_get};
+ghost use Rattle.std.specs.Prelude.{◌≡◌, ℕ, true, false, List, [], ◌∷◌, ◌++◌, length, Some, slice_get};
 ghost use Rattle.alarm_machine.specs.Codes.{PlainChange, code_of};
 ghost use Rattle.alarm_machine.specs.Alarms.{PlainAlarm};
 ghost use Rattle.event_history.specs.declared.event.Event.{Event};
@@ -16,10 +16,11 @@ ghost use Rattle.plant_config.specs.Names.{tag_of};
 ghost use Rattle.plant_system.specs.System.{system};
 ghost use Rattle.engine.specs.Journal.{NamedRow, ChangeOf, journal_of};
 ghost use Rattle.command_answers.specs.Listings.{state_lines, list_text};
-ghost use Rattle.serving.specs.Requests.{has_lf};
+ghost use Rattle.serving.specs.Bodies.{body_size};
+ghost use Rattle.serving.specs.Requests.{has_lf, without_cr, begun_request};
 ghost use Rattle.serving.specs.Session.{out_text};
 ghost use Rattle.history_laws.specs.Told.{last_code, told_lines, told_list};
-ghost use Rattle.history_laws.specs.Records.{ends_at_line, history_after, text_after, GoesOn, LeaveAlike, AddsNothing, only_asks, asked_in, CanBeLeftOut};
+ghost use Rattle.history_laws.specs.Records.{ends_at_line, has_no_body, history_after, text_after, GoesOn, LeaveAlike, AddsNothing, only_asks, asked_in, CanBeLeftOut};
 
 /// The code of each alarm is the one to which the last change of its tag in the journal leads, and NORM where the journal has no change of it.
 /// And each change goes from the code that the rows before it tell, so none is missing between two.
@@ -37,13 +38,20 @@ pub fn journal_makes_list()
     ensures text { (plant : PlainPlant) (history : List Event) → IsPlant plant → list_text (system plant history) ≡ told_list plant (journal_of plant history) }
 {}
 
-/// A record that ends at the end of a line, and more after it: both are answered as the record is, and then the rest from the history that the
+/// A record that ends at the end of a request, and more after it: both are answered as the record is, and then the rest from the history that the
 /// record leaves, which with the rest leaves the history of both. States and journal are those of a history, so who plays a record again has the
 /// states in which it ended, and goes on as if there had been no end.
 pub fn record_plays_again()
-    ensures start { (plant : PlainPlant) (past more : List ℕ) → ends_at_line past ≡ true
+    ensures start { (plant : PlainPlant) (past more : List ℕ) → begun_request past ≡ []
         → out_text plant (past ++ more) ≡ out_text plant past ++ text_after plant (history_after plant [] past) more }
-    ensures anywhere { (plant : PlainPlant) (history : List Event) (past more : List ℕ) → ends_at_line past ≡ true → GoesOn plant history past more }
+    ensures anywhere { (plant : PlainPlant) (history : List Event) (past more : List ℕ) → begun_request past ≡ [] → GoesOn plant history past more }
+{}
+
+/// A record that ends at the end of a line, and of which no line tells of bytes after it, ends at the end of a request. No line of today tells of
+/// any, so every record that ends at the end of a line does.
+pub fn lines_end_requests()
+    ensures ends { (past : List ℕ) → ends_at_line past ≡ true → has_no_body past ≡ true → begun_request past ≡ [] }
+    ensures none { (past : List ℕ) → has_no_body past ≡ true }
 {}
 
 /// What comes of an input depends on the state and the journal alone: where two histories leave a plant alike, every input is answered alike
@@ -53,10 +61,10 @@ pub fn state_decides_answers()
     ensures after { (plant : PlainPlant) (h k : List Event) → LeaveAlike plant h k → (input : List ℕ) → LeaveAlike plant (history_after plant h input) (history_after plant k input) }
 {}
 
-/// A line of a record that added no event may be left out of it: all other lines are answered as with it, and leave the same history. Lines that
-/// only ask, as `list` does, never add one.
+/// A line of a record that added no event may be left out of it, with the bytes that it tells of: all other requests are answered as with it, and
+/// leave the same history. Lines that only ask, as `list` does, never add one.
 pub fn lines_without_event_can_be_left_out()
-    ensures left_out { (plant : PlainPlant) (history : List Event) (past line more : List ℕ) → ends_at_line past ≡ true → has_lf line ≡ false
-        → AddsNothing plant (history_after plant history past) line → CanBeLeftOut plant history past line more }
+    ensures left_out { (plant : PlainPlant) (history : List Event) (past line body more : List ℕ) → begun_request past ≡ [] → has_lf line ≡ false → length body ≡ body_size (without_cr line)
+        → AddsNothing plant (history_after plant history past) line → CanBeLeftOut plant history past line body more }
     ensures asks { (plant : PlainPlant) (history : List Event) (line : List ℕ) → only_asks (asked_in line) ≡ true → AddsNothing plant history line }
 {}

@@ -1,4 +1,6 @@
+pub mod BodyLaws
 pub mod RequestLaws
 pub mod LfLaws
+pub mod Beginnings
 pub mod SessionLaws
 pub mod HeldLaws

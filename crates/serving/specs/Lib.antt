@@ -1,4 +1,6 @@
+pub mod Bodies
 pub mod Requests
 pub mod Answers
 pub mod Session
 pub mod Laws
+pub mod Missing

@@ -1,17 +1,19 @@
--- How the bytes of an input become requests, one after another: each begins where the one before it has ended. Today each request is a line.
-use Rattle.std.specs.Prelude.{ℕ, ◌==◌, Bool, if◌then◌else◌, List, [], ◌∷◌, ◌++◌}
+-- How the bytes of an input become requests, one after another: each begins where the one before it has ended. It is a line, and after its LF as many bytes as the line tells.
+use Rattle.std.specs.Prelude.{ℕ, ◌==◌, ◌&&◌, Bool, if◌then◌else◌, List, [], ◌∷◌, ◌++◌, length}
 use Rattle.std.specs.List.{list_any}
 use Rattle.command_text.specs.Commands.{PlainCommand, command_of}
+use Rattle.serving.specs.Bodies.{body_size}
 
--- a request: the line that asks, as it is read
+-- a request: the line that asks, as it is read, and the bytes after it
 pub record Request : Type 0 where
   pub line : List ℕ
+  pub body : List ℕ
 
 -- what a request asks for
 abbrev pub asked_by : Request → PlainCommand
 asked_by request = command_of request.line
 
--- ---- where a request ends
+-- ---- a line and what follows it
 
 -- whether a byte is LF
 abbrev pub is_lf : ℕ → Bool
@@ -21,36 +23,48 @@ is_lf b = b == 10
 abbrev pub has_lf : List ℕ → Bool
 has_lf bytes = list_any is_lf bytes
 
+-- the bytes before the first LF
+abbrev pub line_in : List ℕ → List ℕ
+line_in [] = []
+line_in (b ∷ bs) = if is_lf b then [] else b ∷ line_in bs
+
+-- the bytes after the first LF
+abbrev pub after_lf : List ℕ → List ℕ
+after_lf [] = []
+after_lf (b ∷ bs) = if is_lf b then bs else after_lf bs
+
 -- a line without the CR at its end, if it has one
 abbrev pub without_cr : List ℕ → List ℕ
 without_cr [] = []
 without_cr (b ∷ []) = if b == 13 then [] else b ∷ []
 without_cr (b ∷ c ∷ bs) = b ∷ without_cr (c ∷ bs)
 
--- whether a byte ends the request that has begun with these bytes: LF does
-abbrev pub is_end : List ℕ → ℕ → Bool
-is_end begun b = is_lf b
+-- ---- where a request ends
 
--- the request that has begun with these bytes and then ended: a CR right before its LF isn't part of it
-abbrev pub ended_by : List ℕ → Request
-ended_by begun = record { line = without_cr begun }
+-- the request that bytes with an LF are: a CR right before the LF isn't part of its line
+abbrev pub request_in : List ℕ → Request
+request_in bytes = record { line = without_cr (line_in bytes); body = after_lf bytes }
 
--- the request that the end of the input ends: the bytes that have begun it, with their CR, if there are any
+-- whether bytes are a whole request: a line with its LF, and after it as many bytes as the line tells
+abbrev pub is_whole : List ℕ → Bool
+is_whole bytes = has_lf bytes && (length (after_lf bytes) == body_size (without_cr (line_in bytes)))
+
+-- the request that the end of the input ends: the bytes that have begun it, if there are any. A line without LF keeps its CR, and a body may be too short
 abbrev pub last_request : List ℕ → List Request
 last_request [] = []
-last_request (b ∷ bs) = record { line = b ∷ bs } ∷ []
+last_request (b ∷ bs) = (if has_lf (b ∷ bs) then request_in (b ∷ bs) else record { line = b ∷ bs; body = [] }) ∷ []
 
 -- ---- all requests of an input
 
 -- the requests that end in bytes, where one has begun before them
 abbrev pub ended_from : List ℕ → List ℕ → List Request
 ended_from begun [] = []
-ended_from begun (b ∷ bs) = if is_end begun b then ended_by begun ∷ ended_from [] bs else ended_from (begun ++ b ∷ []) bs
+ended_from begun (b ∷ bs) = if is_whole (begun ++ b ∷ []) then request_in (begun ++ b ∷ []) ∷ ended_from [] bs else ended_from (begun ++ b ∷ []) bs
 
 -- the bytes that have begun a request after the last of these that ended
 abbrev pub begun_from : List ℕ → List ℕ → List ℕ
 begun_from begun [] = begun
-begun_from begun (b ∷ bs) = if is_end begun b then begun_from [] bs else begun_from (begun ++ b ∷ []) bs
+begun_from begun (b ∷ bs) = if is_whole (begun ++ b ∷ []) then begun_from [] bs else begun_from (begun ++ b ∷ []) bs
 
 -- the requests that end in an input
 abbrev pub ended_requests : List ℕ → List Request

@@ -1,5 +1,5 @@
 -- How far a session has come.
-use Rattle.std.specs.Prelude.{◌≡◌, ℕ, ◌≤◌, ◌⊎◌, ◌||◌, Bool, false, List, [], ◌++◌, length, take, Option, OnOk, OnErr}
+use Rattle.std.specs.Prelude.{◌≡◌, ℕ, ◌≤◌, ◌⊎◌, ◌||◌, Bool, false, if◌then◌else◌, List, [], ◌++◌, length, take, Option, OnOk, OnErr}
 use Rattle.std.specs.declared.result.Result.{Result}
 use Rattle.std.specs.Io.KnownBytes.{Appends, IsAtEnd}
 use Rattle.event_history.specs.declared.event.Event.{Event}
@@ -8,7 +8,7 @@ use Rattle.plant_config.specs.Plants.{PlainPlant}
 use Rattle.serve_faults.specs.declared.fault.ServeFault.{ServeFault}
 use Rattle.serve_faults.specs.declared.fault.ServeFault.TheVariants as fault
 use Rattle.serve_faults.specs.Faults.{is_read, is_write}
-use Rattle.serving.specs.Requests.{Request, ended_from, begun_from, ended_requests, requests_of}
+use Rattle.serving.specs.Requests.{Request, has_lf, ended_from, begun_from, ended_requests, requests_of}
 use Rattle.serving.specs.Answers.{after_requests, answers}
 
 -- all that the server writes for an input, where no event came before it
@@ -45,9 +45,9 @@ StoppedBy fault.Write plant remaining input h₀ h₁ w₀ w₁ = (requests : Li
 StoppedBy fault.Memory plant remaining input h₀ h₁ w₀ w₁ = (requests : List Request) × AreRead remaining input requests × Stopped plant requests h₀ h₁ w₀ w₁
 StoppedBy fault.Crew plant remaining input h₀ h₁ w₀ w₁ = (requests : List Request) × AreRead remaining input requests × Stopped plant requests h₀ h₁ w₀ w₁
 
--- of the bytes that have begun a request the first 1,048,578 are held: enough to see that a line is too long (over 1,048,576 bytes), even with a CR at its end
+-- of a line that has begun the first 1,048,578 bytes are held: enough to see that it is too long (over 1,048,576 bytes), even with a CR at its end; from its LF on all bytes of the request are
 abbrev pub IsHeld : (begun held : List ℕ) → Type 0
-IsHeld begun held = held ≡ take 1048578 begun
+IsHeld begun held = held ≡ (if has_lf begun then begun else take 1048578 begun)
 
 -- bytes were taken after those that had begun a request: the requests that ended in them took effect and were answered, and what has begun the next one is held
 pub record HasGone (plant : PlainPlant) (begun bytes held : List ℕ) (h₀ h₁ : List Event) (w₀ w₁ : Option (List ℕ)) : Type 0 where
@@ -77,6 +77,11 @@ Stops plant piece remaining old h₁ h₂ w₁ w₂ =
 -- these requests were answered where the result is Ok, and where it is Err the session stopped within them
 abbrev pub Serves : {T : Type 0} → Result T ServeFault → List Request → PlainEngine → PlainEngine → Option (List ℕ) → Option (List ℕ) → Type 0
 Serves result requests e₀ e₁ w₀ w₁ = OnOk result (Answered e₀.plant requests e₀.history e₁.history w₀ w₁) × OnErr result (Stopped e₀.plant requests e₀.history e₁.history w₀ w₁)
+
+-- bytes were taken where the result is Ok, and where it is Err the session stopped within the requests that end in them
+abbrev pub Takes : {T : Type 0} → Result T ServeFault → (begun bytes held : List ℕ) → PlainEngine → PlainEngine → Option (List ℕ) → Option (List ℕ) → Type 0
+Takes result begun bytes held e₀ e₁ w₀ w₁ =
+    OnOk result (HasGone e₀.plant begun bytes held e₀.history e₁.history w₀ w₁) × OnErr result (Stopped e₀.plant (ended_from begun bytes) e₀.history e₁.history w₀ w₁)
 
 -- the plant stays, nothing is read, and a write failed just where the result is Write
 abbrev pub Continues : {T : Type 0} → Result T ServeFault → PlainEngine → PlainEngine → Bool → Bool → Type 0

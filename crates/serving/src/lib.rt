@@ -1,10 +1,11 @@
-//! The sessions of a server: it reads requests, each a line, and answers each before it looks at the next.
+//! The sessions of a server: it reads requests, and answers each before it looks at the next.
 //!
 //! What it writes for an input is a definition on bytes (`out_text`): how they become requests, and what is answered to each. `serve` is
 //! proved to write exactly that, for every crew that runs the programs, every feed and every sink; `Session::step` is one read of it. A session
 //! is lent its engine; `plant_service`, above it, reads a plant and serves it to the end of the input.
 #![tactic(auto)]
 
+mod body;
 mod laws;
 mod session;
 

@@ -1,10 +1,12 @@
-ghost use Rattle.std.specs.Prelude.{◌≡◌, ◌≤◌, ◌++◌, [], ◌∷◌, IfOk, IfErr, OnOk, OnErr, IsErrOf, MatchOption, IfSome, List, ℕ, length, take, false, ◌<◌};
+ghost use Rattle.std.specs.Prelude.{◌≡◌, ◌≤◌, ◌-◌, ◌++◌, [], ◌∷◌, IfOk, IfErr, OnOk, OnErr, IsErrOf, MatchOption, IfSome, List, ℕ, length, take, false, ◌<◌};
 ghost use Rattle.std.specs.Io.KnownBytes.{Appends, Consumes, IsAtEnd};
 ghost use Rattle.command_text.specs.Commands.{command_of};
-ghost use Rattle.serving.specs.Requests.{Request, asked_by, has_lf, without_cr, ended_by, last_request, ended_from, begun_from, requests_of};
+ghost use Rattle.serving.specs.Requests.{Request, asked_by, has_lf, line_in, without_cr, last_request, ended_from, begun_from, requests_of};
 ghost use Rattle.serve_faults.specs.Faults.{crew_faults, is_read, is_write};
-ghost use Rattle.serving.specs.Session.{Answered, Stopped, Serves, Continues, IsHeld, HasGone, StoppedBy, Goes, Ends, Stops, out_text};
+ghost use Rattle.serving.specs.Missing.{AreMissing};
+ghost use Rattle.serving.specs.Session.{Answered, Stopped, Serves, Takes, Continues, IsHeld, HasGone, StoppedBy, Goes, Ends, Stops, out_text};
 
+use crate::body::body_size;
 use byte_streams::{Feed, Sink, empty_piece, fill};
 use command_answers::{Said, answer_line, write_journal, write_list};
 use command_text::Pool;
@@ -15,7 +17,7 @@ use std::alloc::{AllocError, Global};
 use std::marker::Model;
 use std::sync::Wait;
 
-/// How many bytes of a request are held at most: those of the longest line, one that shows that it is too long, and a CR.
+/// How many bytes of a line are held at most: those of the longest line, one that shows that it is too long, and a CR.
 const HELD: usize = 1_048_578;
 
 /// Answers one line. Of a line that is too long its first bytes may stand for it.
@@ -68,9 +70,19 @@ fn split_at_lf(bytes: &[u8]) -> Option<(&[u8], &[u8])>
     Some((line, after))
 }
 
-/// Holds more bytes of a line, up to `HELD` of them.
+/// Returns the bytes before the first LF; all of them where there is none.
+fn line_of(bytes: &[u8]) -> &[u8]
+    ensures { result.now ≡ line_in bytes.now }
+{
+    match split_at_lf(bytes) {
+        Some((line, _)) => line,
+        None => bytes,
+    }
+}
+
+/// Holds more bytes of a line, as many as there is room for up to `HELD`.
 fn hold(held: &mut Vec<u8>, bytes: &[u8]) -> Result<(), AllocError>
-    ensures ok { OnOk result (length held.old.items ≤ 1048578 → held.new.items ≡ take 1048578 (held.old.items ++ bytes.now)) }
+    ensures ok { OnOk result (held.new.items ≡ held.old.items ++ take (1048578 - length held.old.items) bytes.now) }
     ensures err { OnErr result (held.new.items ≡ held.old.items) }
 {
     let room = HELD.saturating_sub(held.len());
@@ -81,18 +93,50 @@ fn hold(held: &mut Vec<u8>, bytes: &[u8]) -> Result<(), AllocError>
     held.extend_from_slice(kept)
 }
 
-/// What is kept between two pieces of an input: the bytes of a request that hasn't ended yet, and room for an answer and for the pairs of
-/// a scan.
+/// What is kept between two pieces of an input: the bytes of a request that hasn't ended yet, how many bytes are missing of what its line tells,
+/// and room for an answer and for the pairs of a scan. In a line none is known to be missing.
 #[derive(Drop)]
 struct Lines {
     alloc: Global,
     held: Vec<u8>,
+    missing: usize,
     text: Vec<u8>,
     pool: Pool,
 }
 
 impl Lines {
-    /// Takes the bytes of the input up to an LF, and answers the request that ends there.
+    /// Answers the request that is held, and holds nothing then.
+    fn answer_held<H, C: Crew<Job, Start, Done, H>, S: Sink>(
+        &mut self,
+        rt: &H,
+        engine: &mut Engine,
+        crew: &mut C,
+        sink: &mut S,
+    ) -> Result<(), ServeFault>
+        requires asked { C.asks }
+        ensures continues { Continues result engine.old engine.new (S.broken sink.old) (S.broken sink.new) }
+        ensures crew { C.faulted crew.new ≡ crew_faults (C.faulted crew.old) result }
+        ensures held { (self.new.held.items ≡ []) × (self.new.missing ≡ 0) }
+        ensures serves { (request : Request) → asked_by request ≡ command_of (without_cr (line_in self.old.held.items))
+            → Serves result (request ∷ []) engine.old engine.new (S.written sink.old) (S.written sink.new) }
+    {
+        let line = without_cr(line_of(self.held.as_slice()));
+        let answered = answer(
+            rt,
+            self.alloc,
+            engine,
+            crew,
+            sink,
+            &mut self.pool,
+            &mut self.text,
+            line,
+        );
+        self.held.clear();
+        self.missing = 0;
+        answered
+    }
+
+    /// Takes the bytes of a line up to its LF, and the LF: answers the request, where nothing comes after its line.
     fn take_line<H, C: Crew<Job, Start, Done, H>, S: Sink>(
         &mut self,
         rt: &H,
@@ -102,38 +146,103 @@ impl Lines {
         line: &[u8],
     ) -> Result<(), ServeFault>
         requires asked { C.asks }
+        requires missing { AreMissing self.old.held.items self.old.missing }
+        requires in_line { self.old.missing ≡ 0 }
+        requires lf { has_lf line.now ≡ false }
         ensures continues { Continues result engine.old engine.new (S.broken sink.old) (S.broken sink.new) }
         ensures crew { C.faulted crew.new ≡ crew_faults (C.faulted crew.old) result }
-        ensures held { OnOk result (self.new.held.items ≡ []) }
-        ensures serves { (begun : List ℕ) → IsHeld begun self.old.held.items
-            → Serves result (ended_by (begun ++ line.now) ∷ []) engine.old engine.new (S.written sink.old) (S.written sink.new) }
+        ensures missing { AreMissing self.new.held.items self.new.missing }
+        ensures gone { (begun : List ℕ) → IsHeld begun self.old.held.items
+            → Takes result begun (line.now ++ 10 ∷ []) self.new.held.items engine.old engine.new (S.written sink.old) (S.written sink.new) }
     {
         if self.held.is_empty() {
-            return answer(
-                rt,
-                self.alloc,
-                engine,
-                crew,
-                sink,
-                &mut self.pool,
-                &mut self.text,
-                without_cr(line),
-            );
+            let bare = without_cr(line);
+            let after = body_size(bare);
+            if after == 0 {
+                return answer(
+                    rt,
+                    self.alloc,
+                    engine,
+                    crew,
+                    sink,
+                    &mut self.pool,
+                    &mut self.text,
+                    bare,
+                );
+            }
         }
         hold(&mut self.held, line)?;
-        let line = without_cr(self.held.as_slice());
-        answer(
-            rt,
-            self.alloc,
-            engine,
-            crew,
-            sink,
-            &mut self.pool,
-            &mut self.text,
-            line,
-        )?;
-        self.held.clear();
+        let whole = without_cr(self.held.as_slice());
+        let size = body_size(whole);
+        if size == 0 {
+            return self.answer_held(rt, engine, crew, sink);
+        }
+        self.held.extend_from_slice(b"\n")?;
+        self.missing = size;
         Ok(())
+    }
+
+    /// Takes bytes after a line, at most as many as are missing: answers the request that ends with them.
+    fn take_body<H, C: Crew<Job, Start, Done, H>, S: Sink>(
+        &mut self,
+        rt: &H,
+        engine: &mut Engine,
+        crew: &mut C,
+        sink: &mut S,
+        bytes: &[u8],
+    ) -> Result<(), ServeFault>
+        requires asked { C.asks }
+        requires missing { AreMissing self.old.held.items self.old.missing }
+        requires some { 0 < length bytes.now }
+        requires fit { length bytes.now ≤ self.old.missing }
+        ensures continues { Continues result engine.old engine.new (S.broken sink.old) (S.broken sink.new) }
+        ensures crew { C.faulted crew.new ≡ crew_faults (C.faulted crew.old) result }
+        ensures missing { AreMissing self.new.held.items self.new.missing }
+        ensures gone { (begun : List ℕ) → IsHeld begun self.old.held.items
+            → Takes result begun bytes.now self.new.held.items engine.old engine.new (S.written sink.old) (S.written sink.new) }
+    {
+        self.held.extend_from_slice(bytes)?;
+        self.missing -= bytes.len();
+        if self.missing == 0 {
+            return self.answer_held(rt, engine, crew, sink);
+        }
+        Ok(())
+    }
+
+    /// Takes a first part of bytes, and returns what is left of them: what is missing of a body, a line with its LF, or all bytes of a line that goes on.
+    fn take_some<'a, H, C: Crew<Job, Start, Done, H>, S: Sink>(
+        &mut self,
+        rt: &H,
+        engine: &mut Engine,
+        crew: &mut C,
+        sink: &mut S,
+        bytes: &'a [u8],
+    ) -> Result<&'a [u8], ServeFault>
+        requires asked { C.asks }
+        requires missing { AreMissing self.old.held.items self.old.missing }
+        requires some { 0 < length bytes.now }
+        ensures continues { Continues result engine.old engine.new (S.broken sink.old) (S.broken sink.new) }
+        ensures crew { C.faulted crew.new ≡ crew_faults (C.faulted crew.old) result }
+        ensures missing { AreMissing self.new.held.items self.new.missing }
+        ensures shorter { IfOk result (λ rest. length rest.now < length bytes.now) }
+        ensures ok { IfOk result (λ rest. (part : List ℕ) × (bytes.now ≡ part ++ rest.now) × ((begun : List ℕ) → IsHeld begun self.old.held.items
+            → HasGone engine.old.plant begun part self.new.held.items engine.old.history engine.new.history (S.written sink.old) (S.written sink.new))) }
+        ensures err { OnErr result ((begun : List ℕ) → IsHeld begun self.old.held.items
+            → Stopped engine.old.plant (ended_from begun bytes.now) engine.old.history engine.new.history (S.written sink.old) (S.written sink.new)) }
+    {
+        if self.missing > 0 {
+            let count = self.missing.min(bytes.len());
+            let (part, rest) = bytes.split_at(count);
+            self.take_body(rt, engine, crew, sink, part)?;
+            return Ok(rest);
+        }
+        if let Some((line, rest)) = split_at_lf(bytes) {
+            self.take_line(rt, engine, crew, sink, line)?;
+            return Ok(rest);
+        }
+        hold(&mut self.held, bytes)?;
+        let (_, rest) = bytes.split_at(bytes.len());
+        Ok(rest)
     }
 
     /// Takes a piece of the input: answers the requests that end in it, and holds what follows the last of them.
@@ -146,23 +255,21 @@ impl Lines {
         piece: &[u8],
     ) -> Result<(), ServeFault>
         requires asked { C.asks }
+        requires missing { AreMissing self.old.held.items self.old.missing }
         ensures continues { Continues result engine.old engine.new (S.broken sink.old) (S.broken sink.new) }
         ensures crew { C.faulted crew.new ≡ crew_faults (C.faulted crew.old) result }
-        ensures ok { OnOk result ((begun : List ℕ) → IsHeld begun self.old.held.items
-            → HasGone engine.old.plant begun piece.now self.new.held.items engine.old.history engine.new.history (S.written sink.old) (S.written sink.new)) }
-        ensures err { OnErr result ((begun : List ℕ) → IsHeld begun self.old.held.items
-            → Stopped engine.old.plant (ended_from begun piece.now) engine.old.history engine.new.history (S.written sink.old) (S.written sink.new)) }
+        ensures missing { AreMissing self.new.held.items self.new.missing }
+        ensures gone { (begun : List ℕ) → IsHeld begun self.old.held.items
+            → Takes result begun piece.now self.new.held.items engine.old engine.new (S.written sink.old) (S.written sink.new) }
     {
         let mut rest = piece;
-        while let Some((line, after)) = split_at_lf(rest) {
-            self.take_line(rt, engine, crew, sink, line)?;
-            rest = after;
+        while !rest.is_empty() {
+            rest = self.take_some(rt, engine, crew, sink, rest)?;
         }
-        hold(&mut self.held, rest)?;
         Ok(())
     }
 
-    /// Answers the last request of the input, which has no LF; there is none if nothing is held.
+    /// Answers the last request of the input, which hasn't ended; there is none if nothing is held.
     fn take_end<H, C: Crew<Job, Start, Done, H>, S: Sink>(
         &mut self,
         rt: &H,
@@ -171,16 +278,21 @@ impl Lines {
         sink: &mut S,
     ) -> Result<(), ServeFault>
         requires asked { C.asks }
+        requires missing { AreMissing self.old.held.items self.old.missing }
         ensures continues { Continues result engine.old engine.new (S.broken sink.old) (S.broken sink.new) }
         ensures crew { C.faulted crew.new ≡ crew_faults (C.faulted crew.old) result }
+        ensures missing { AreMissing self.new.held.items self.new.missing }
         ensures held { OnOk result (self.new.held.items ≡ []) }
         ensures serves { (begun : List ℕ) → IsHeld begun self.old.held.items
             → Serves result (last_request begun) engine.old engine.new (S.written sink.old) (S.written sink.new) }
     {
+        if self.missing > 0 {
+            return self.answer_held(rt, engine, crew, sink);
+        }
         if self.held.is_empty() {
             return Ok(());
         }
-        answer(
+        let answered = answer(
             rt,
             self.alloc,
             engine,
@@ -189,9 +301,9 @@ impl Lines {
             &mut self.pool,
             &mut self.text,
             self.held.as_slice(),
-        )?;
+        );
         self.held.clear();
-        Ok(())
+        answered
     }
 }
 
@@ -219,12 +331,13 @@ impl Drop for Session {
 
 impl Model for Session {
     ghost use Rattle.std.specs.Prelude.{◌≡◌, ℕ, List, vec_len};
+    ghost use Rattle.serving.specs.Missing.{AreMissing};
 
     ghost Value = { List ℕ };
 
     ghost view = { λ s. s.lines.held.items };
 
-    ghost invariant = { λ s. vec_len s.piece ≡ 65536 };
+    ghost invariant = { λ s. (vec_len s.piece ≡ 65536) × AreMissing s.lines.held.items s.lines.missing };
 }
 
 impl Session {
@@ -236,6 +349,7 @@ impl Session {
         let lines = Lines {
             alloc,
             held: Vec::new(alloc),
+            missing: 0,
             text: Vec::new(alloc),
             pool: Pool::new(alloc),
         };

@@ -17,7 +17,7 @@ returns-in_default-clause-cut g c = λ e. (Consumes-kept _ _ _ [] (Consumes-nil 
 -- the input has ended
 pub returns-in_err-take_end-clause-err : goal.returns-in_err-take_end-clause-err
 returns-in_err-take_end-clause-err g c =
-    let there : 0 < length c.fill.new.piece.items = omega (arith, c.fill.ensures.len, c.self.invariant, c.fill.new.piece.ok.0) in
+    let there : 0 < length c.fill.new.piece.items = omega (arith, c.fill.ensures.len, c.self.invariant.0, c.fill.new.piece.ok.0) in
     let p = err_from_is_err_and c.from_residual.result c.from_residual.ensures.1 in
     rw (p.1, ← c.self.view_is) (
       [],
@@ -31,7 +31,7 @@ returns-in_err-take_end-clause-err g c =
 
 pub returns-then-n-eq0-clause-ended : goal.returns-then-n-eq0-clause-ended
 returns-then-n-eq0-clause-ended g c = λ e.
-    let there : 0 < length c.fill.new.piece.items = omega (arith, c.fill.ensures.len, c.self.invariant, c.fill.new.piece.ok.0) in
+    let there : 0 < length c.fill.new.piece.items = omega (arith, c.fill.ensures.len, c.self.invariant.0, c.fill.new.piece.ok.0) in
     rw (← c.self.view_is) (
       consumed_nothing _ _ _ [] c.fill.new.piece.items c.in-Ok.n c.if-n-eq0.true (Consumes-nil _) c.in-Ok.ensures.bytes.0,
       c.in-Ok.ensures.bytes.1 c.if-n-eq0.true there,
@@ -47,7 +47,7 @@ returns-in_err-take_piece-clause-err g c =
       take c.in-Ok.n c.fill.new.piece.items,
       c.in-Ok.ensures.bytes.0,
       λ input h w before.
-          let stopped = rw (c.split_at.ensures.front, c.as_slice.ensures.value) at (c.in_err-take_piece.ensures.err (begun_request input) before.holds) in
+          let stopped = rw (c.split_at.ensures.front, c.as_slice.ensures.value) at ((c.in_err-take_piece.ensures.gone (begun_request input) before.holds).1) in
           (ended_requests (input ++ take c.in-Ok.n c.fill.new.piece.items), inl refl, gone-stopped _ _ [] input _ _ _ _ _ _ _ refl before _ stopped),
     )
 
@@ -58,6 +58,6 @@ returns-clause-more g c = λ e.
       some_taken c.in-Ok.n c.fill.new.piece.items c.if-n-eq0.false (omega (arith, c.in-Ok.ensures.bound, c.fill.new.piece.ok.0)),
       c.in-Ok.ensures.bytes.0,
       λ input h w before.
-          let went = rw (c.split_at.ensures.front, c.as_slice.ensures.value) at c.in_ok-take_piece.ensures.ok (begun_request input) before.holds in
+          let went = rw (c.split_at.ensures.front, c.as_slice.ensures.value) at ((c.in_ok-take_piece.ensures.gone (begun_request input) before.holds).0) in
           gone-more _ _ [] input _ _ _ _ _ _ _ refl before _ _ went,
     )
