@@ -47,7 +47,7 @@ pub fn record_plays_again()
     ensures anywhere { (plant : PlainPlant) (history : List Event) (past more : List ℕ) → begun_request past ≡ [] → GoesOn plant history past more }
 {}
 
-/// A record that ends at the end of a line, and of which no line tells of bytes after it, ends at the end of a request. No line of today tells of
+/// A record that ends at the end of a line, and of which no line tells of bytes after it, ends at the end of a request. No command tells of
 /// any, so every record that ends at the end of a line does.
 pub fn lines_end_requests()
     ensures ends { (past : List ℕ) → ends_at_line past ≡ true → has_no_body past ≡ true → begun_request past ≡ [] }
