@@ -2,7 +2,6 @@
 
 use crate::measures::{Measure, length_of, standard_slots};
 use crate::weights::{Scale, Weight};
-use plant_types::Text;
 use source_trees::{Entry, Form, mark_of};
 use st_names::{Declared, declared_in};
 use st_parser::{Pou, SectionKind, Sort};
