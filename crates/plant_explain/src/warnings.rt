@@ -3,9 +3,10 @@
 use body_uses::{Looking, Warning, look};
 use plant_config::{AlarmRow, Plant};
 use plant_folder::PlantTexts;
-use plant_places::{Field, FileOf, Spot, first_field, next_field};
+use plant_places::{Field, first_field, next_field};
 use source_trees::{entries_of, sources_of, units_of};
 use std::alloc::{AllocError, Global};
+use token_causes::{FileOf, Spot};
 use word_index::Names;
 
 /// The numbers of columns of the alarm database, from 0, which are the same in each version of it.
