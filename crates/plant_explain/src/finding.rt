@@ -3,14 +3,13 @@
 ghost use Rattle.std.specs.Prelude.{◌≤◌, length, IfOk};
 
 use crate::limits::spots_past;
-use crate::sources::{Place, spots_in_sources};
+use crate::sources::spots_in_sources;
 use crate::tables::{first_of, spots_in_tables};
 use crate::units::{rule_of, spots_in_units};
 use plant_config::ConfigFault;
 use plant_folder::PlantTexts;
-use plant_places::{FileOf, Spot};
 use std::alloc::{AllocError, Global};
-use token_causes::cause_of;
+use token_causes::{FileOf, Spot, cause_of};
 
 /// The most faults that are told.
 pub const MOST_FAULTS: usize = 20;
@@ -24,20 +23,10 @@ fn found(
     match fault {
         ConfigFault::Limit(limit) => spots_past(alloc, texts, *limit),
         ConfigFault::Spelling { file, line, column } => {
-            let place = Place {
-                file,
-                line: *line,
-                column: *column,
-            };
-            spots_in_sources(alloc, texts, &place, true)
+            spots_in_sources(alloc, texts, (file, *line, *column), true)
         }
         ConfigFault::Grammar { file, line, column } => {
-            let place = Place {
-                file,
-                line: *line,
-                column: *column,
-            };
-            spots_in_sources(alloc, texts, &place, false)
+            spots_in_sources(alloc, texts, (file, *line, *column), false)
         }
         _ => match rule_of(fault) {
             Some(broken) => spots_in_units(alloc, texts, &broken),
@@ -55,8 +44,8 @@ fn untold(alloc: Global) -> Result<Spot, AllocError> {
     })
 }
 
-/// The fault of a refused plant, and further ones that are found with it, 20 at most: of the plant file and of rows in order of text, of sources first the one for
-/// which it is refused, and then the others in order of text; where the spelling or the grammar of sources is at fault, behind these those of rows.
+/// The fault of a refused plant, and further ones that are found with it, 20 at most: of the plant file and of rows in order of text, of sources first the one
+/// for which it is refused, and then the others in order of text; where the spelling or the grammar of sources is at fault, behind these those of rows.
 pub fn find_all(
     alloc: Global,
     texts: &PlantTexts<'_>,

@@ -3,8 +3,9 @@
 use limit_causes::{Measure, where_past};
 use plant_config::Limit;
 use plant_folder::PlantTexts;
-use plant_places::{FileOf, Spot, over_limit};
+use plant_places::over_limit;
 use std::alloc::{AllocError, Global};
+use token_causes::{FileOf, Spot};
 
 /// A limit of the sources, as their trees tell it; `None` for another.
 fn measure_of(limit: Limit) -> Option<Measure> {

@@ -3,15 +3,13 @@
 use alarm_db::{Column, DatabaseRow, RowFault, RowMistake, Version, examine};
 use plant_file::{PlantFile, PlantFileFault, TextSet, read};
 use plant_folder::PlantTexts;
-use plant_places::{Field, FileOf, Spot, row_cause, unquoted, wrong_field};
+use plant_places::{row_cause, unquoted, wrong_field};
 use plant_types::Kind;
-use source_causes::units_start;
 use source_trees::{no_bool_global, sources_of, units_of};
-use st_lexer::{LexFault, lex};
-use st_parser::{ParseFault, Sort, Unit, parse};
+use st_parser::{Sort, Unit};
 use std::alloc::{AllocError, Global};
 use std::str;
-use token_causes::{Cause, cause_at, part};
+use token_causes::{Cause, FileOf, Spot, cause_at, part};
 use word_index::Names;
 
 /// Where alarms are described.
@@ -19,15 +17,6 @@ const ALARMS: &str = "docs/PLANT.md, \"alarms.csv\"";
 
 /// The most mistakes in rows that are told.
 const MOST_MISTAKES: usize = 20;
-
-/// The name that stands in a field; empty where it isn't UTF-8.
-fn name_in(alarms: &[u8], field: Field) -> &str {
-    let bytes = unquoted(alarms, field);
-    match str::from_utf8(bytes) {
-        Ok(name) => name,
-        Err(_) => "",
-    }
-}
 
 /// The cause of a field that names what is no BOOL global's.
 fn unknown(
@@ -37,7 +26,8 @@ fn unknown(
     wrong: &RowMistake,
 ) -> Result<Cause, AllocError> {
     let field = wrong_field(alarms, wrong);
-    let said = no_bool_global(alloc, units, name_in(alarms, field))?;
+    let name = str::from_utf8(unquoted(alarms, field)).unwrap_or("");
+    let said = no_bool_global(alloc, units, name)?;
     Ok(cause_at((field.from, field.until), said, ALARMS))
 }
 
@@ -73,34 +63,26 @@ pub fn spots_in_rows(
     spots_of(alloc, texts, units.as_slice(), mistakes)
 }
 
-/// The globals of a source, of which a block or a program may be at fault; `None` where it isn't certain that they are all.
-fn globals_in(alloc: Global, text: &[u8]) -> Result<Option<Unit>, AllocError> {
-    let Some(start) = units_start(alloc, text)? else {
-        return Ok(None);
-    };
-    let head = part(text, 0, start);
-    let tokens = match lex(alloc, head) {
-        Ok(tokens) => tokens,
-        Err(LexFault::Memory) => return Err(AllocError),
-        Err(_) => return Ok(None),
-    };
-    match parse(alloc, head, tokens.as_slice()) {
-        Ok(unit) => Ok(Some(unit)),
-        Err(ParseFault::Memory) => Err(AllocError),
-        Err(ParseFault::At { .. }) => Ok(None),
+/// The globals of sources, of each up to a byte at which its blocks and programs begin; `None` where they may be at fault themselves, or that isn't certain.
+fn globals_of(
+    alloc: Global,
+    texts: &PlantTexts<'_>,
+    starts: &[Option<usize>],
+) -> Result<Option<Vec<Unit>>, AllocError> {
+    let mut heads = Vec::new(alloc);
+    for (source, start) in texts.sources.iter().zip(starts) {
+        let Some(start) = *start else {
+            return Ok(None);
+        };
+        heads.push((source.0, part(source.1, 0, start)))?;
     }
-}
-
-/// The globals of all sources; `None` where it isn't certain that they are all.
-fn globals_of(alloc: Global, texts: &PlantTexts<'_>) -> Result<Option<Vec<Unit>>, AllocError> {
-    let mut units = Vec::new(alloc);
-    for source in texts.sources {
-        match globals_in(alloc, source.1)? {
-            Some(unit) => units.push(unit)?,
-            None => return Ok(None),
-        }
+    let sources = sources_of(alloc, heads.as_slice())?;
+    let units = units_of(alloc, sources.as_slice())?;
+    if units.len() == heads.len() {
+        Ok(Some(units))
+    } else {
+        Ok(None)
     }
-    Ok(Some(units))
 }
 
 /// The names of the globals that aren't certainly of another kind than BOOL.
@@ -185,12 +167,14 @@ fn spots_beside(
     spots_of(alloc, texts, units, mistakes.as_slice())
 }
 
-/// What is wrong in the rows of a plant whose sources are at fault, whatever their blocks and programs say: nothing where the globals may be at fault themselves.
+/// What is wrong in the rows of a plant whose sources are at fault, whatever their blocks and programs say: nothing where the globals may be at fault
+/// themselves.
 pub fn spots_behind_sources(
     alloc: Global,
     texts: &PlantTexts<'_>,
+    starts: &[Option<usize>],
 ) -> Result<Vec<Spot>, AllocError> {
-    let Some(units) = globals_of(alloc, texts)? else {
+    let Some(units) = globals_of(alloc, texts, starts)? else {
         return Ok(Vec::new(alloc));
     };
     match read(alloc, texts.plant) {

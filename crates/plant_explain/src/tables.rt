@@ -4,9 +4,9 @@ use crate::rows::spots_in_rows;
 use alarm_db::{RowFault, RowMistake};
 use plant_config::ConfigFault;
 use plant_folder::PlantTexts;
-use plant_places::{FileOf, Spot, no_epoch, not_toml, wrong_keys};
+use plant_places::{no_epoch, not_toml, wrong_keys};
 use std::alloc::{AllocError, Global};
-use token_causes::Cause;
+use token_causes::{Cause, FileOf, Spot};
 
 /// The mistakes in rows that a fault has found; none for a fault of anything else.
 fn rows_of(fault: &ConfigFault) -> &[RowMistake] {

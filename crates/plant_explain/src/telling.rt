@@ -9,8 +9,9 @@ use crate::finding::{MOST_FAULTS, find, find_all};
 use crate::warnings::find_warnings;
 use plant_config::{ConfigFault, Plant};
 use plant_folder::PlantTexts;
-use plant_places::{Spot, shown, shown_alone};
+use plant_places::{shown, shown_alone};
 use std::alloc::{AllocError, Global};
+use token_causes::Spot;
 
 /// A line with its line feed, and a text.
 pub fn under(alloc: Global, line: &str, text: &str) -> Result<String, AllocError>

@@ -4,10 +4,9 @@ use body_uses::swallower;
 use explain_bodies::{Mistake, Rule, mistakes};
 use plant_config::ConfigFault;
 use plant_folder::PlantTexts;
-use plant_places::{FileOf, Spot};
 use plant_types::Text;
 use std::alloc::{AllocError, Global};
-use token_causes::{cause_of, tokens_of};
+use token_causes::{FileOf, Spot, cause_of, tokens_of};
 
 /// The rule of units that a plant breaks, and the source and the unit that its refusal names.
 #[derive(Drop)]
@@ -75,18 +74,6 @@ fn in_whole(
     })
 }
 
-/// Adds mistakes.
-fn add_spots(spots: &mut Vec<Spot>, mistakes: Vec<Mistake>) -> Result<(), AllocError> {
-    for mistake in mistakes {
-        let Mistake { source, cause, .. } = mistake;
-        spots.push(Spot {
-            file: FileOf::Source(source),
-            cause,
-        })?;
-    }
-    Ok(())
-}
-
 /// Adds behind the first mistake the first comment of each source that swallows what follows, by which names may be missing.
 fn add_comments(
     alloc: Global,
@@ -121,7 +108,11 @@ pub fn spots_in_units(
     if !begin_with(found.as_slice(), broken.rule) {
         spots.push(in_whole(alloc, texts, broken)?)?;
     }
-    add_spots(&mut spots, found)?;
+    for mistake in found {
+        let Mistake { source, cause, .. } = mistake;
+        let file = FileOf::Source(source);
+        spots.push(Spot { file, cause })?;
+    }
     if broken.rule == Rule::Names {
         add_comments(alloc, texts, &mut spots)?;
     }
