@@ -61,20 +61,20 @@ fn lone_areas(alloc: Global, plant: &Plant) -> Result<Vec<bool>, AllocError> {
     Ok(lone)
 }
 
-impl<'p> Alarms<'p> {
-    /// Keeps a warning at the field of a column of an alarm, by its number from 0: a text with a name in the place of its `@`.
-    fn warn(
-        &self,
-        looking: &mut Looking<'_>,
-        (alarm, column): (usize, usize),
-        text: &str,
-        name: &str,
-    ) {
-        if let Some(field) = field_at(self.text, alarm, column) {
-            looking.warn_in(None, (field.from, field.until), text, (name, &[]));
-        }
+/// Keeps a warning at the field of a column of an alarm, by its number from 0, in a table: a text with a name in the place of its `@`.
+fn warn(
+    table: &[u8],
+    looking: &mut Looking<'_>,
+    (alarm, column): (usize, usize),
+    text: &str,
+    name: &str,
+) {
+    if let Some(field) = field_at(table, alarm, column) {
+        looking.warn_in(None, (field.from, field.until), text, (name, &[]));
     }
+}
 
+impl<'p> Alarms<'p> {
     /// The name of a global, by its number.
     fn global(&self, number: u32) -> &str {
         match self.plant.globals().get(number as usize) {
@@ -88,7 +88,7 @@ impl<'p> Alarms<'p> {
         let name = self.global(row.condition);
         if looking.is_idle_condition(name) {
             let text = "nothing assigns @, the condition of this alarm, and it is no input";
-            self.warn(looking, (alarm, CONDITION), text, name);
+            warn(self.text, looking, (alarm, CONDITION), text, name);
         }
     }
 
@@ -100,7 +100,7 @@ impl<'p> Alarms<'p> {
         looking.note_read(self.global(number));
         if number == row.condition {
             let text = "this alarm is suppressed by its own condition, so nobody ever hears of it";
-            self.warn(looking, (alarm, SUPPRESS), text, "");
+            warn(self.text, looking, (alarm, SUPPRESS), text, "");
         }
     }
 
@@ -112,7 +112,7 @@ impl<'p> Alarms<'p> {
         if *is_lone {
             *is_lone = false;
             let text = "no console has this area, so nobody may acknowledge its alarms";
-            self.warn(looking, (alarm, AREA), text, "");
+            warn(self.text, looking, (alarm, AREA), text, "");
         }
     }
 
@@ -126,10 +126,11 @@ impl<'p> Alarms<'p> {
         if self.tags.add(self.alloc, tag)? {
             return Ok(());
         }
+        let table = self.text;
         let number = self.tags.find(tag).unwrap_or(0);
         let other = self.tags.get(number).unwrap_or("");
         let text = "this tag differs from @ by letter case alone, and they are two alarms";
-        self.warn(looking, (alarm, TAG), text, other);
+        warn(table, looking, (alarm, TAG), text, other);
         Ok(())
     }
 
@@ -159,6 +160,23 @@ fn spots_of(alloc: Global, warnings: Vec<Warning>) -> Result<Vec<Spot>, AllocErr
     Ok(spots)
 }
 
+/// Goes through the alarms of a plant, which stand in a table.
+fn look_on<'p>(
+    alloc: Global,
+    text: &'p [u8],
+    plant: &'p Plant,
+    looking: &mut Looking<'_>,
+) -> Result<(), AllocError> {
+    let mut alarms = Alarms {
+        alloc,
+        plant,
+        text,
+        lone: lone_areas(alloc, plant)?,
+        tags: Names::new(alloc),
+    };
+    alarms.go_through(looking)
+}
+
 /// What is likely to be wrong in an accepted plant of texts, each with its place; twenty at most.
 pub fn find_warnings(
     alloc: Global,
@@ -174,14 +192,7 @@ pub fn find_warnings(
         units.as_slice(),
         entries.as_slice(),
     )?;
-    let mut alarms = Alarms {
-        alloc,
-        plant,
-        text: texts.alarms,
-        lone: lone_areas(alloc, plant)?,
-        tags: Names::new(alloc),
-    };
-    alarms.go_through(&mut looking)?;
+    look_on(alloc, texts.alarms, plant, &mut looking)?;
     looking.end();
     spots_of(alloc, looking.into_warnings()?)
 }

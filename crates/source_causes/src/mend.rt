@@ -5,9 +5,8 @@ use grammar_causes::{foreign_word, is_closed_wrongly, meant_end, meant_keyword};
 use plant_types::same_word;
 use st_lexer::Token;
 use token_causes::{
-    closing_of, is_closing, is_keyword, is_kind, is_outer, lacking, lacks_end, last_open,
-    opener_of, opens_section, said_in, section_of, sign_at, sign_before, sign_of, stand_of,
-    word_at,
+    closing_of, is_closing, is_keyword, is_kind, is_outer, lacking, lacks_end, opener_of,
+    opens_section, said_in, section_of, sign_at, sign_before, sign_of, stand_of, word_at,
 };
 
 /// What is left out of tokens, from the one of a number to before another, and what is put in its place, as it is written.
