@@ -127,6 +127,8 @@ struct Answers<'a> {
     events: u32,
     /// Whether of the last answer only a part has been taken.
     is_in_parts: bool,
+    /// What has been taken of a line FAULT that isn't taken whole, where somebody looks on.
+    fault: Option<Vec<u8>>,
     /// Who looks on, if anybody does.
     looker: Option<Looker<'a>>,
 }
@@ -196,6 +198,30 @@ impl<'a> Answers<'a> {
         }
     }
 
+    /// Keeps the bytes of a line FAULT that isn't taken whole yet, where somebody looks on and memory isn't refused; its first bytes where none has been taken
+    /// before.
+    fn keep(&mut self, bytes: &[u8]) {
+        let Some(looker) = self.looker else {
+            return;
+        };
+        let mut kept = match self.fault.take() {
+            Some(kept) => kept,
+            None if self.len == 0 && bytes.first() == Some(&b'F') => Vec::new(looker.alloc),
+            None => return,
+        };
+        if kept.extend_from_slice(bytes).is_ok() {
+            self.fault = Some(kept);
+        }
+    }
+
+    /// Tells whoever looks on where the statement of a line FAULT stands that was taken in parts, by its last bytes.
+    fn tell_kept(&mut self, rt: &impl Eprint, rest: &[u8]) {
+        self.keep(rest);
+        if let Some(line) = self.fault.take() {
+            self.tell_fault(rt, line.as_slice());
+        }
+    }
+
     /// Takes bytes line by line, and tells on standard error what there is to say of them.
     fn take(&mut self, rt: &impl Eprint, bytes: &[u8]) {
         let mut begun = 0usize;
@@ -207,14 +233,18 @@ impl<'a> Answers<'a> {
             self.tell(rt, said);
             if is_whole {
                 self.tell_fault(rt, line);
+            } else {
+                self.tell_kept(rt, line);
             }
         }
-        self.add(bytes.get(begun..).unwrap_or(b""));
+        let rest = bytes.get(begun..).unwrap_or(b"");
+        self.keep(rest);
+        self.add(rest);
     }
 }
 
-/// A sink whose answers are watched: on standard error it says when 90 and 99 of 100 events that a run may have are there, and where somebody looks
-/// on, what a refused command wanted, and where the statement of a fault stands.
+/// A sink whose answers are watched: on standard error it says when 90 and 99 of 100 events that a run may have are there, and where somebody looks on, what a
+/// refused command wanted, and where the statement of a fault stands.
 #[derive(Drop)]
 pub struct Watching<'a, R: Eprint, S: Sink + Drop> {
     rt: &'a R,
@@ -235,6 +265,7 @@ impl<'a, R: Eprint, S: Sink + Drop> Watching<'a, R, S> {
                 len: 0,
                 events: 0,
                 is_in_parts: false,
+                fault: None,
                 looker,
             },
         }
