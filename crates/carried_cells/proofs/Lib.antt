@@ -1,0 +1,9 @@
+pub mod Tables
+pub mod Added
+pub mod Numbering
+pub mod Naming
+pub mod Listing
+pub mod Keeping
+pub mod Stepping
+pub mod Placing
+pub mod Carried

@@ -1,0 +1,4 @@
+pub mod Paths
+pub mod Shapes
+pub mod Lists
+pub mod Keeping
