@@ -18,6 +18,9 @@ const CONDITION: usize = 3;
 
 const SUPPRESS: usize = 4;
 
+/// A first source of less than one in so many of all bytes of sources is looked at before the others are read.
+const SMALL_PART: usize = 8;
+
 /// The field of an alarm, by its number from 0, and a column; `None` if there is none.
 fn field_at(text: &[u8], alarm: usize, column: usize) -> Option<Field> {
     let mut field = first_field(text);
@@ -177,12 +180,50 @@ fn look_on<'p>(
     alarms.go_through(looking)
 }
 
-/// What is likely to be wrong in an accepted plant of texts, each with its place; twenty at most.
+/// Whether the first of sources is a small part of them.
+fn begins_small(sources: &[(&str, &[u8])]) -> bool {
+    let mut size = 0usize;
+    for source in sources {
+        size = size.saturating_add(source.1.len());
+    }
+    match sources.first() {
+        Some(first) => first.1.len() < size / SMALL_PART,
+        None => false,
+    }
+}
+
+/// What is likely to be wrong in the first source of a plant, where that is as much as is told of a plant; nothing where it is less.
+fn early_warnings(alloc: Global, texts: &PlantTexts<'_>) -> Result<Vec<Spot>, AllocError> {
+    let first = texts.sources.get(..1).unwrap_or(&[]);
+    let sources = sources_of(alloc, first)?;
+    let units = units_of(alloc, sources.as_slice())?;
+    let entries = entries_of(alloc, units.as_slice())?;
+    let looking = look(
+        alloc,
+        sources.as_slice(),
+        units.as_slice(),
+        entries.as_slice(),
+    )?;
+    if looking.is_full() {
+        spots_of(alloc, looking.into_warnings()?)
+    } else {
+        Ok(Vec::new(alloc))
+    }
+}
+
+/// What is likely to be wrong in an accepted plant of texts, each with its place; twenty at most. A plant whose first source has twenty is read no
+/// further.
 pub fn find_warnings(
     alloc: Global,
     texts: &PlantTexts<'_>,
     plant: &Plant,
 ) -> Result<Vec<Spot>, AllocError> {
+    if begins_small(texts.sources) {
+        let early = early_warnings(alloc, texts)?;
+        if !early.is_empty() {
+            return Ok(early);
+        }
+    }
     let sources = sources_of(alloc, texts.sources)?;
     let units = units_of(alloc, sources.as_slice())?;
     let entries = entries_of(alloc, units.as_slice())?;
