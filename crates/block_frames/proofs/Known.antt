@@ -1,5 +1,5 @@
 -- Each name in the source of well-formed units has a number.
-use Rattle.std.proofs.Common.{◌≡◌, ◌∙◌, ap, sym, refl, ℕ, suc, Bool, true, false, not, List, [], ◌∷◌, ◌++◌, map, length, Option, Some, None}
+use Rattle.std.proofs.Common.{◌≡◌, ◌∙◌, ap, sym, refl, ℕ, suc, Bool, true, false, not, List, [], ◌∷◌, ◌++◌, map, Option, Some, None}
 use Rattle.std.specs.Prelude.{◌&&◌, is_some, flat_map}
 use Rattle.std.specs.List.{list_all, All}
 use Rattle.std.specs.Str.{bytes_eq}
@@ -19,7 +19,7 @@ use Rattle.st_parser.specs.declared.unit.Sort.{Sort}
 use Rattle.st_parser.specs.declared.unit.Sort.TheVariants as sort
 use Rattle.st_parser.specs.Units.{PlainDeclaration, PlainSection, PlainPou, PlainUnit}
 use Rattle.st_names.specs.First.{first_that}
-use Rattle.st_names.specs.DeclaredNames.{PlainDeclared, declared_as, declared_together, declared_by, declared_in, declared_words, sort_kind, is_instance_sort}
+use Rattle.st_names.specs.DeclaredNames.{PlainDeclared, declared_as, declared_together, declared_by, declared_in, declared_words, is_instance_sort}
 use Rattle.st_names.specs.Shared.{Shared, global, pou, shared_name, shared_in, is_block, as_global, global_named}
 use Rattle.st_names.specs.Scopes.{variable_kind, region_named, is_input, is_assignable, is_control}
 use Rattle.st_names.specs.Taken.{or_place, repeats}

@@ -32,7 +32,7 @@ use Rattle.block_frames.specs.declared.names.Laid.{Laid}
 use Rattle.block_frames.specs.declared.names.Variables.{Variables}
 use Rattle.block_frames.specs.declared.scope.Scope.{Scope}
 use Rattle.block_frames.specs.Numbers.{shown_number, numbers}
-use Rattle.block_frames.specs.Scoped.{kind_among, array_among, first_among, block_among, laid, laid_from, scope_globals, scope_array, scope_element_kind, scope_bounds, AreArrays, AreVariables, AreMembers, IsScope, local_names, local_kinds, own_variables, global_variables, scope_variable, scope_kind, scope_instance, own_number, own_kind_of, input_among, output_among, output_kind_by, scope_input, scope_output, scope_output_kind, scope_kinds, flat_body}
+use Rattle.block_frames.specs.Scoped.{kind_among, array_among, block_among, laid, laid_from, scope_globals, scope_array, scope_element_kind, scope_bounds, AreArrays, AreVariables, AreMembers, IsScope, local_names, local_kinds, own_variables, global_variables, scope_variable, scope_kind, scope_instance, own_number, own_kind_of, input_among, output_among, output_kind_by, scope_input, scope_output, scope_output_kind, scope_kinds, flat_body}
 
 prefix-map : {X Y : Type 0} (p : Y → Bool) (f : X → Y) (xs : List X) → prefix_len (λ x. p (f x)) xs ≡ prefix_len p (map f xs)
 prefix-map p f [] = refl

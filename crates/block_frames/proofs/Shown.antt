@@ -28,7 +28,7 @@ use Rattle.plant_logic.specs.Source.{PlainRoutine}
 use Rattle.plant_logic.specs.Pous.{pous_of, block_pous, block_names}
 use Rattle.plant_logic.specs.Units.{local_of, block_ref, instance_by, instance_of, routine_of, source_in}
 use Rattle.plant_logic.specs.Names as names
-use Rattle.plant_logic.specs.Names.{own_words, instance_words, find_word, instance_named}
+use Rattle.plant_logic.specs.Names.{own_words, find_word}
 use Rattle.plant_logic.specs.Seats.{timer_number, member_number}
 use Rattle.plant_logic.proofs.Apart.{pick_block, blocks_picked}
 use Rattle.block_frames.specs.Numbers.{timer_shows, shown_number, input_number, output_number}

@@ -1,5 +1,5 @@
 -- What the numbers of a routine's frame mean in cells is what the names mean in worlds.
-use Rattle.std.proofs.Common.{◌≡◌, ◌∙◌, ap, sym, subst, refl, arith, ℕ, ℤ, pos, ◌+◌, Bool, true, false, List, ◌∷◌, length, Some, None, slice_get}
+use Rattle.std.proofs.Common.{◌≡◌, ◌∙◌, ap, sym, subst, refl, arith, ℕ, ℤ, pos, ◌+◌, Bool, true, false, List, ◌∷◌, Some, None, slice_get}
 use Rattle.std.specs.Prelude.{if◌then◌else◌, is_some, option_and_then, unwrap_or, codes}
 use Rattle.std.proofs.lemmas.Bool.{and_parts}
 use Rattle.plant_types.specs.Words.{folded, same_word}

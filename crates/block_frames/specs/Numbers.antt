@@ -1,5 +1,5 @@
 -- The numbers that stand for names in a routine's body, and which names are known.
-use Rattle.std.specs.Prelude.{◌≡◌, ℕ, true, false, if◌then◌else◌, List, length, Option, Some, None, is_some, option_and_then, unwrap_or, codes}
+use Rattle.std.specs.Prelude.{◌≡◌, ℕ, true, false, if◌then◌else◌, List, Option, Some, None, is_some, option_and_then, unwrap_or, codes}
 use Rattle.std.specs.List.{All}
 use Rattle.plant_types.specs.Words.{same_word}
 use Rattle.plant_types.specs.declared.values.Bounds.{Bounds}

@@ -1,5 +1,5 @@
 -- What the programs count together.
-use Rattle.std.proofs.Common.{◌≡◌, ◌∙◌, ap, sym, refl, ℕ, suc, ◌+◌, ◌<◌, ◌≤◌, min, Bool, true, false, List, [], ◌∷◌, map, length, inl, inr, arith}
+use Rattle.std.proofs.Common.{◌≡◌, ◌∙◌, ap, sym, refl, ℕ, suc, ◌+◌, ◌<◌, ◌≤◌, min, Bool, true, false, List, [], ◌∷◌, map, inl, inr, arith}
 use Rattle.std.specs.Prelude.{nat_lt, slice_index_or, ◌||◌}
 use Rattle.std.specs.List.{sum_by, list_any, All, Any}
 use Rattle.std.proofs.lemmas.Bool.{cases_Bool}

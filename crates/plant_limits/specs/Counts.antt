@@ -1,5 +1,5 @@
 -- What a source counts: slots, size and cost, by its block types.
-use Rattle.std.specs.Prelude.{ℕ, ◌+◌, List, map, length}
+use Rattle.std.specs.Prelude.{ℕ, ◌+◌, List, map}
 use Rattle.std.specs.List.{sum_by}
 use Rattle.std.specs.Option.{option_map_or}
 use Rattle.st_tree.specs.Costs.{body_cost, body_size}

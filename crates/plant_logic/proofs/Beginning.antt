@@ -1,6 +1,6 @@
 -- Initial values of well-formed units are in the ranges of their kinds.
 use Rattle.std.proofs.Common.{◌≡◌, ◌∙◌, ap, sym, subst, refl, ℕ, zero, suc, pos, Bool, true, false, List, [], ◌∷◌, ◌++◌, map, Option, Some, None, slice_get, inl, inr}
-use Rattle.std.specs.Prelude.{◌&&◌, not, if◌then◌else◌, is_some, is_none, option_and_then, flat_map}
+use Rattle.std.specs.Prelude.{◌&&◌, not, if◌then◌else◌, is_none, option_and_then, flat_map}
 use Rattle.std.specs.List.{list_all, AllByRecursion}
 use Rattle.std.specs.Option.{option_map_or}
 use Rattle.std.proofs.lemmas.Bool.{and_parts}
@@ -26,7 +26,7 @@ use Rattle.st_parser.specs.Units.{PlainSection, PlainPou, PlainUnit}
 use Rattle.st_names.specs.DeclaredNames.{PlainDeclared, declared_in, declared_words, find_declared, sort_kind, is_instance_sort}
 use Rattle.st_names.specs.Faults.{first_pou, first_unit}
 use Rattle.st_names.specs.Scopes as scopes
-use Rattle.st_names.specs.Scopes.{or_other, is_external, variable_kind, output_kind}
+use Rattle.st_names.specs.Scopes.{or_other, is_external, variable_kind}
 use Rattle.st_names.specs.Shared.{global, pou, shared_by, shared_in, find_shared, as_global, global_named}
 use Rattle.st_names.specs.Taken.{or_place, repeats}
 use Rattle.st_typing.specs.Faults.{AreTyped}

@@ -1,6 +1,6 @@
 -- The instances of a routine of well-formed units, and their inputs and outputs, with their kinds and paths.
 use Rattle.std.proofs.Common.{◌≡◌, ◌∙◌, ap, sym, subst, refl, ℕ, ℤ, zero, suc, Bool, true, false, List, [], ◌∷◌, ◌++◌, map, Option, Some, None, slice_get, inl, inr}
-use Rattle.std.specs.Prelude.{if◌then◌else◌, is_some, option_map, option_and_then, unwrap_or, filter, cond, codes}
+use Rattle.std.specs.Prelude.{if◌then◌else◌, option_map, option_and_then, unwrap_or, filter, cond, codes}
 use Rattle.std.specs.List.{list_all, All}
 use Rattle.std.specs.Option.{option_map_or}
 use Rattle.std.specs.Str.{bytes_eq}

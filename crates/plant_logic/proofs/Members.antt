@@ -1,6 +1,6 @@
 -- Where the inputs and outputs of instances stand, and which instance a name finds.
 use Rattle.std.proofs.Common.{◌≡◌, ◌∙◌, ap, sym, subst, refl, arith, ℕ, ◌+◌, Bool, true, false, List, [], ◌∷◌, Option, Some, None, slice_get}
-use Rattle.std.specs.Prelude.{if◌then◌else◌, option_map, option_and_then, codes}
+use Rattle.std.specs.Prelude.{if◌then◌else◌, option_and_then, codes}
 use Rattle.std.specs.Cmp.Lexicographic.{bytes_decides}
 use Rattle.std.proofs.lemmas.Option.{slice_get-map}
 use Rattle.plant_types.specs.Words.{folded, same_word}

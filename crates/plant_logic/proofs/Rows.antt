@@ -1,5 +1,5 @@
 -- The elements of arrays, by their paths.
-use Rattle.std.proofs.Common.{◌≡◌, ◌∙◌, ap, sym, refl, ℕ, ℤ, zero, suc, pos, negsuc, ◌+◌, ◌+ℤ◌, ◌-ℤ◌, ◌<◌, true, false, List, [], ◌∷◌, ◌++◌, map, length, Option, Some, None, slice_get, inl, inr, arith, nat_abs}
+use Rattle.std.proofs.Common.{◌≡◌, ◌∙◌, ap, sym, refl, ℕ, ℤ, zero, suc, pos, negsuc, ◌+◌, ◌+ℤ◌, ◌-ℤ◌, ◌<◌, true, false, List, [], ◌∷◌, ◌++◌, length, Some, slice_get, inl, inr, arith, nat_abs}
 use Rattle.std.specs.Str.{bytes_eq}
 use Rattle.std.specs.Cmp.Lexicographic.{bytes_decides}
 use Rattle.std.proofs.lemmas.Bool.{cases_Bool, or_parts}
@@ -14,9 +14,9 @@ use Rattle.st_names.specs.Taken.{is_among, repeats}
 use Rattle.plant_logic.specs.declared.logic.Row.{Row}
 use Rattle.plant_logic.specs.Source.{row_cells}
 use Rattle.plant_logic.specs.Names.{row_words}
-use Rattle.plant_logic.specs.Worlds.{Path, same_path, index_word}
+use Rattle.plant_logic.specs.Worlds.{Path, index_word}
 use Rattle.plant_logic.specs.Layout.{elements_from, element_values, row_values, Absent, NoneTwice}
-use Rattle.plant_logic.proofs.Paths.{Disjoint, absent_append, once_append, Under, AllUnder, absent_under, under_all, AllInside, inside_under, under_inside, inside_all, absent_alone, path_same}
+use Rattle.plant_logic.proofs.Paths.{Disjoint, absent_append, once_append, Under, AllUnder, absent_under, AllInside, inside_under, under_inside, inside_all, absent_alone, path_same}
 
 -- two indexes with one word are one
 index_is : (i j : ℤ) → index_word i ≡ index_word j → i ≡ j

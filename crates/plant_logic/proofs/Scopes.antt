@@ -24,7 +24,7 @@ use Rattle.st_names.specs.First.{first_that}
 use Rattle.st_names.specs.DeclaredNames.{PlainDeclared, declared_in, declared_words, find_declared, sort_kind, sort_array}
 use Rattle.st_names.specs.Shared.{Shared, global, pou, shared_name, shared_in, find_shared, as_global, is_block, global_named}
 use Rattle.st_names.specs.Scopes as scopes
-use Rattle.st_names.specs.Scopes.{or_other, is_external, sort_type, variable_kind, element_kind, instance_type, input_kind, output_kind, can_control, is_control}
+use Rattle.st_names.specs.Scopes.{or_other, is_external, variable_kind, element_kind}
 use Rattle.st_names.specs.Taken.{repeats}
 use Rattle.st_typing.specs.Kinds.{initial_fits, is_array, array_stands, sort_fits, declared_fits}
 use Rattle.plant_logic.specs.declared.logic.Variable.{Variable}

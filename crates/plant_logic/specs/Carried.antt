@@ -1,11 +1,10 @@
 -- What goes over from one source to another when a plant is changed while it runs.
 use Rattle.std.specs.Prelude.{Bool, true, false, ◌&&◌, if◌then◌else◌, List, Option, Some, None, option_map}
 use Rattle.plant_types.specs.declared.values.Bounds.{Bounds}
-use Rattle.plant_types.specs.declared.values.Kind.{Kind}
 use Rattle.st_tree.specs.Kinds.{same_kind}
 use Rattle.st_names.specs.First.{first_that}
 use Rattle.plant_logic.specs.declared.logic.BlockRef.{BlockRef}
-use Rattle.plant_logic.specs.declared.logic.BlockRef.TheVariants.{Ton, Tof, RTrig, Declared}
+use Rattle.plant_logic.specs.declared.logic.BlockRef.TheVariants.{Ton, Tof, RTrig}
 use Rattle.plant_logic.specs.Source.{Source}
 use Rattle.plant_logic.specs.Names.{same_bounds}
 use Rattle.plant_logic.specs.Worlds.{Path, World, same_path, opening}

@@ -1,11 +1,11 @@
 -- Texts in one, by the places at which they end: one of them, and one more.
 use Rattle.std.proofs.Common.{◌≡◌, ℕ, zero, suc, ◌+◌, ◌-◌, ◌<◌, ◌≤◌, inl, inr, Some, List, [], ◌∷◌, ◌++◌, length, take, drop, slice_get, slice_index, arith, refl, ap, sym, subst, ◌∙◌}
 use Rattle.std.proofs.lemmas.Bool.{cases_lt}
-use Rattle.std.proofs.lemmas.List.{length-append, get_or_append_left, get_or-append-add, take-append-le, drop-append-le, length-drop}
+use Rattle.std.proofs.lemmas.List.{length-append, get_or_append_left, get_or-append-add, take-append-le, drop-append-le, length-drop, length-take-le}
 use Rattle.std.proofs.Math.Seq.{take-length, drop-append_seam}
 use Rattle.std.proofs.lemmas.Str.{IsCharBoundary-start, IsCharBoundary-end}
 use Rattle.std.specs.Str.{IsUtf8, IsCharBoundary}
-use Rattle.word_index.specs.Texts.{texts_in, start_of, AreEnds}
+use Rattle.word_index.specs.Texts.{texts_in, start_of, AreEnds, place_at, places_of}
 
 -- a text begins where the one before it ends
 pub start_is : (start : ℕ) (ends : List ℕ) (n : ℕ) → n < length ends → start_of start ends (suc n) ≡ slice_index ends n
@@ -76,3 +76,25 @@ texts_more start (end ∷ ends) text more are =
     let long = length-drop start text in
     let one : take (end - start) (drop start (text ++ more)) ≡ take (end - start) (drop start text) = ap (take (end - start)) rest ∙ take-append-le (end - start) (drop start text) more (omega (arith, low, within, long)) in
     ap (λ t. t ∷ texts_in end (ends ++ (length text + length more) ∷ []) (text ++ more)) one ∙ ap (λ ts. take (end - start) (drop start text) ∷ ts) (texts_more end ends text more are.1.1)
+
+-- a text ends where it begins and its length after that
+one_long : (start end : ℕ) (text : List ℕ) → start ≤ end → end ≤ length text → start + length (take (end - start) (drop start text)) ≡ end
+one_long start end text low within =
+    let rest = length-drop start text in
+    let long : length (take (end - start) (drop start text)) ≡ end - start = length-take-le (end - start) (drop start text) (omega (arith, low, within, rest)) in
+    omega (arith, long, low)
+
+-- the place of one of them
+pub place_is : (start : ℕ) (ends text : List ℕ) (n : ℕ) → AreEnds start ends text → n < length ends → place_at (places_of start (texts_in start ends text)) n ≡ record { start = start_of start ends n; end = slice_index ends n }
+place_is start [] text n are less = absurd (omega (arith, less))
+place_is start (end ∷ ends) text zero are less = ap (λ e. record { start = start; end = e }) (one_long start end text are.0 are.1.0.0)
+place_is start (end ∷ ends) text (suc n) are less = ap (λ s. place_at (places_of s (texts_in end ends text)) n) (one_long start end text are.0 are.1.0.0) ∙ place_is end ends text n are.1.1 (omega (arith, less))
+
+-- the places of texts and one more
+pub places_more : (start : ℕ) (ends text more : List ℕ) → AreEnds start ends text
+    → places_of start (texts_in start ends text ++ more ∷ []) ≡ places_of start (texts_in start ends text) ++ record { start = length text; end = length text + length more } ∷ []
+places_more start [] text more are = ap (λ s. record { start = s; end = s + length more } ∷ []) are
+places_more start (end ∷ ends) text more are =
+    let long = one_long start end text are.0 are.1.0.0 in
+    ap (λ ps. record { start = start; end = start + length (take (end - start) (drop start text)) } ∷ ps)
+    (subst (λ s. places_of s (texts_in end ends text ++ more ∷ []) ≡ places_of s (texts_in end ends text) ++ record { start = length text; end = length text + length more } ∷ []) (sym long) (places_more end ends text more are.1.1))

@@ -2,6 +2,7 @@ mod Apart
 mod Finding
 mod Ending
 mod Linking
+mod Placing
 mod Following
 mod Examples
 pub mod Numbering

@@ -6,14 +6,14 @@ use Rattle.std.specs.Prelude.{slice_index_or}
 use Rattle.word_index.specs.declared.chains.Link.{Link}
 use Rattle.word_index.specs.Chains.{chain_of, link_at, IsLink, GoBack, BeginAtTops, AreChains}
 
-abbrev no_link : Link
-no_link = record { count = 0; hash = 0 }
+abbrev pub no_link : Link
+no_link = record { count = 0; hash = 0; place = record { start = 0; end = 0 } }
 
 -- a list with one more, at an earlier place and at the last one
-at_front : {X : Type 0} (xs : List X) (x d : X) (k : ℕ) → k < length xs → slice_index_or (xs ++ x ∷ []) k d ≡ slice_index_or xs k d
+pub at_front : {X : Type 0} (xs : List X) (x d : X) (k : ℕ) → k < length xs → slice_index_or (xs ++ x ∷ []) k d ≡ slice_index_or xs k d
 at_front xs x d k less = get_or_append_left xs (x ∷ []) d k less
 
-at_end : {X : Type 0} (xs : List X) (x d : X) → slice_index_or (xs ++ x ∷ []) (length xs) d ≡ x
+pub at_end : {X : Type 0} (xs : List X) (x d : X) → slice_index_or (xs ++ x ∷ []) (length xs) d ≡ x
 at_end [] x d = refl
 at_end (y ∷ xs) x d = at_end xs x d
 

@@ -1,8 +1,11 @@
 //! Numbers in chains by hash.
 
-ghost use Rattle.std.specs.Prelude.{◌≡◌, ℕ, ◌++◌, ◌∷◌, [], ◌+◌, ◌-◌, ◌<◌, ◌≤◌, ◌^◌, List, length, slice_index, slice_set, OnOk, IfOk, OnErr};
-ghost use Rattle.word_index.specs.Chains.{chain_of, link_at, IsLast, IsLink, GoBack, BeginAtTops, AreChains};
+ghost use Rattle.std.specs.Prelude.{◌≡◌, ℕ, ◌++◌, ◌∷◌, [], ◌+◌, ◌-◌, ◌<◌, ◌≤◌, ◌^◌, List, length, slice_index, slice_set, OnOk, IfOk, IfSome, OnErr};
+ghost use Rattle.word_index.specs.Chains.{chain_of, link_at, number_in, IsLast, IsLink, GoBack, BeginAtTops, AreChains, Knows, Know};
+ghost use Rattle.word_index.specs.Texts.{place_at};
+ghost use Rattle.word_index.specs.declared.texts.Place.{Place};
 
+use crate::texts::{Place, Placed};
 use std::alloc::{AllocError, Global};
 use std::marker::Model;
 use std::mem::replace;
@@ -14,18 +17,25 @@ pub(crate) struct Link {
     pub(crate) count: u32,
     /// The number's hash.
     pub(crate) hash: u32,
+    /// Where the number's text lies, so that it is found without a look elsewhere.
+    pub(crate) place: Place,
 }
 
 /// The fewest chains, a power of two.
 const FEWEST: usize = 8;
 
 /// Leads to no number.
-const NO_LINK: Link = Link { count: 0, hash: 0 };
+const NO_LINK: Link = Link {
+    count: 0,
+    hash: 0,
+    place: Place { start: 0, end: 0 },
+};
 
-/// Numbers from 0 on, each with a hash, of which the last with a given hash is found without a look at each. Contracts see the list of hashes,
-/// and how many numbers there is room for.
+/// Numbers from 0 on, each with a hash and a place, of which the last with a given hash is found without a look at each. Contracts see the lists of
+/// hashes and of places, and how many numbers there is room for.
 pub(crate) struct Chains {
     hashes: Vec<u32>,
+    places: Vec<Place>,
     /// For each chain its last number.
     tops: Vec<Link>,
     /// For each number the one before it in its chain.
@@ -36,6 +46,7 @@ impl Drop for Chains {
     fn drop(self) {
         let Chains {
             hashes: _,
+            places: _,
             tops: _,
             links: _,
         } = self;
@@ -44,13 +55,13 @@ impl Drop for Chains {
 
 impl Model for Chains {
     ghost use Rattle.std.specs.Prelude.{length, min};
-    ghost use Rattle.word_index.specs.Chains.{PlainChains, AreChains};
+    ghost use Rattle.word_index.specs.Chains.{PlainChains, ArePlaced};
 
     ghost Value = { PlainChains };
 
-    ghost view = { λ c. record { hashes = c.hashes.items; room = min (min c.hashes.cap c.links.cap) (min (length c.tops.items) 4294967295) } };
+    ghost view = { λ c. record { hashes = c.hashes.items; places = c.places.items; room = min (min c.hashes.cap (min c.places.cap c.links.cap)) (min (length c.tops.items) 4294967295) } };
 
-    ghost invariant = { λ c. AreChains c.hashes.items c.tops.items c.links.items };
+    ghost invariant = { λ c. ArePlaced c.hashes.items c.places.items c.tops.items c.links.items };
 }
 
 /// The chain of a hash, where there are this many.
@@ -68,15 +79,19 @@ fn chain_of(hash: u32, chains: usize) -> usize
 fn tops_of(
     alloc: Global,
     hashes: &[u32],
+    places: &[Place],
     links: &mut [Link],
     chains: usize,
 ) -> Result<Vec<Link>, AllocError>
     requires some { 0 < chains }
     requires few { length hashes.now < 2 ^ 32 }
     requires size { length links.old ≡ length hashes.now }
+    requires placed { length places.now ≡ length hashes.now }
     ensures chains { IfOk result (λ tops. length tops.items ≡ chains) }
     ensures begin { IfOk result (λ tops. BeginAtTops hashes.now (length hashes.now) tops.items) }
     ensures back { IfOk result (λ tops. GoBack hashes.now chains (length hashes.now) links.new) }
+    ensures tops_know { IfOk result (λ tops. Know places.now (length tops.items) tops.items) }
+    ensures links_know { IfOk result (λ tops. Know places.now (length links.new) links.new) }
     ensures size { length links.new ≡ length hashes.now }
     ensures err { OnErr result (links.new ≡ links.old) }
 {
@@ -86,6 +101,7 @@ fn tops_of(
         let link = Link {
             count: number as u32 + 1,
             hash,
+            place: places[number],
         };
         links[number] = replace(&mut tops[chain_of(hash, chains)], link);
     }
@@ -96,16 +112,22 @@ fn tops_of(
 fn widen(
     alloc: Global,
     hashes: &[u32],
+    places: &[Place],
     tops: &mut Vec<Link>,
     links: &mut Vec<Link>,
 ) -> Result<(), AllocError>
-    requires { AreChains hashes.now tops.old.items links.old.items }
+    requires chains { AreChains hashes.now tops.old.items links.old.items }
+    requires placed { length places.now ≡ length hashes.now }
+    requires tops_know { Know places.now (length tops.old.items) tops.old.items }
+    requires links_know { Know places.now (length links.old.items) links.old.items }
     ensures ok { OnOk result (length hashes.now < length tops.new.items) }
     ensures chains { AreChains hashes.now tops.new.items links.new.items }
+    ensures tops_know { Know places.now (length tops.new.items) tops.new.items }
+    ensures links_know { Know places.now (length links.new.items) links.new.items }
 {
     if hashes.len() >= tops.len() {
         let chains = hashes.len().saturating_mul(2).max(FEWEST);
-        *tops = tops_of(alloc, hashes, links.as_mut_slice(), chains)?;
+        *tops = tops_of(alloc, hashes, places, links.as_mut_slice(), chains)?;
     }
     Ok(())
 }
@@ -124,16 +146,20 @@ fn put_top(tops: &mut Vec<Link>, link: Link) -> Link
 
 /// The last number with a hash among those before an end, along a chain from a link on.
 #[inline(always)]
-fn follow(links: &[Link], from: Link, hash: u32) -> Option<usize>
+fn follow(links: &[Link], from: Link, hash: u32) -> Option<Placed>
     requires from { from.count ≤ length links.now }
     requires down { (k : ℕ) → k < length links.now → (link_at links.now k).count ≤ k }
-    ensures { (hashes : List ℕ) (chains end : ℕ) → GoBack hashes chains end links.now → IsLink hashes chains end (chain_of hash chains) from → IsLast hashes end hash result }
+    ensures last { (hashes : List ℕ) (chains end : ℕ) → GoBack hashes chains end links.now → IsLink hashes chains end (chain_of hash chains) from → IsLast hashes end hash (number_in result) }
+    ensures place { (places : List Place) → Know places (length links.now) links.now → Knows places from → IfSome result (λ found. place_at places found.number ≡ found.place) }
 {
     let mut link = from;
     while link.count != 0 {
         let number = (link.count - 1) as usize;
         if link.hash == hash {
-            return Some(number);
+            return Some(Placed {
+                number,
+                place: link.place,
+            });
         }
         link = links[number];
     }
@@ -143,19 +169,22 @@ fn follow(links: &[Link], from: Link, hash: u32) -> Option<usize>
 impl Chains {
     /// No numbers.
     pub(crate) fn new(alloc: Global) -> Chains
-        ensures { result.hashes ≡ [] }
+        ensures hashes { result.hashes ≡ [] }
+        ensures places { result.places ≡ [] }
     {
         Chains {
             hashes: Vec::new(alloc),
+            places: Vec::new(alloc),
             tops: Vec::new(alloc),
             links: Vec::new(alloc),
         }
     }
 
-    /// The last number with a hash; `None` if none has it.
+    /// The last number with a hash, and its place; `None` if none has it.
     #[inline(always)]
-    pub(crate) fn last(&self, hash: u32) -> Option<usize>
-        ensures { IsLast self.now.hashes (length self.now.hashes) hash result }
+    pub(crate) fn last(&self, hash: u32) -> Option<Placed>
+        ensures last { IsLast self.now.hashes (length self.now.hashes) hash (number_in result) }
+        ensures place { IfSome result (λ found. place_at self.now.places found.number ≡ found.place) }
     {
         if self.tops.is_empty() {
             return None;
@@ -164,11 +193,12 @@ impl Chains {
         follow(self.links.as_slice(), top, hash)
     }
 
-    /// The last number before this one that has its hash; `None` if none has it.
+    /// The last number before this one that has its hash, and its place; `None` if none has it.
     #[inline(always)]
-    pub(crate) fn before(&self, number: usize) -> Option<usize>
+    pub(crate) fn before(&self, number: usize) -> Option<Placed>
         requires { number < length self.now.hashes }
-        ensures { IsLast self.now.hashes number (slice_index self.now.hashes number) result }
+        ensures last { IsLast self.now.hashes number (slice_index self.now.hashes number) (number_in result) }
+        ensures place { IfSome result (λ found. place_at self.now.places found.number ≡ found.place) }
     {
         follow(
             self.links.as_slice(),
@@ -181,6 +211,7 @@ impl Chains {
     pub(crate) fn make_room(&mut self, alloc: Global) -> Result<(), AllocError>
         ensures ok { OnOk result (length self.new.hashes < self.new.room) }
         ensures kept { self.new.hashes ≡ self.old.hashes }
+        ensures places { self.new.places ≡ self.old.places }
     {
         if self.hashes.len() >= u32::MAX as usize {
             return Err(AllocError);
@@ -188,30 +219,36 @@ impl Chains {
         widen(
             alloc,
             self.hashes.as_slice(),
+            self.places.as_slice(),
             &mut self.tops,
             &mut self.links,
         )?;
         self.hashes.reserve(1)?;
+        self.places.reserve(1)?;
         self.links.reserve(1)
     }
 
-    /// Adds a number with its hash, where there is room.
-    pub(crate) fn push_reserved(&mut self, hash: u32)
+    /// Adds a number with its hash and its place, where there is room.
+    pub(crate) fn push_reserved(&mut self, hash: u32, place: Place)
         requires { length self.old.hashes < self.old.room }
-        ensures { self.new.hashes ≡ self.old.hashes ++ hash ∷ [] }
+        ensures hashes { self.new.hashes ≡ self.old.hashes ++ hash ∷ [] }
+        ensures places { self.new.places ≡ self.old.places ++ place ∷ [] }
     {
         let count = self.hashes.len() as u32 + 1;
-        let link = put_top(&mut self.tops, Link { count, hash });
+        let link = put_top(&mut self.tops, Link { count, hash, place });
         self.links.push_reserved(link);
         self.hashes.push_reserved(hash);
+        self.places.push_reserved(place);
     }
 
     /// The same numbers. Fails if allocation fails.
     pub(crate) fn copy(&self) -> Result<Chains, AllocError>
-        ensures { IfOk result (λ copy. copy.hashes ≡ self.now.hashes) }
+        ensures hashes { IfOk result (λ copy. copy.hashes ≡ self.now.hashes) }
+        ensures places { IfOk result (λ copy. copy.places ≡ self.now.places) }
     {
         Ok(Chains {
             hashes: self.hashes.clone()?,
+            places: self.places.clone()?,
             tops: self.tops.clone()?,
             links: self.links.clone()?,
         })

@@ -3,6 +3,7 @@
 ghost use Rattle.std.specs.Prelude.{◌≡◌, ◌++◌, ◌∷◌, [], ◌<◌, ◌^◌, length, map, not, if◌then◌else◌, IfSome, IfOk, OnErr, Some, option_copied, slice_get};
 ghost use Rattle.word_index.specs.Tables.{is_alike, number_of, has_name, hash_of};
 ghost use Rattle.word_index.specs.Found.{IsFound};
+ghost use Rattle.word_index.specs.Texts.{places_of};
 
 use crate::chains::Chains;
 use crate::texts::Texts;
@@ -38,12 +39,13 @@ impl Model for Table {
     ghost use Rattle.std.specs.Prelude.{◌≡◌, map};
     ghost use Rattle.word_index.specs.Tables.{PlainTable, hash_of};
     ghost use Rattle.word_index.specs.Found.{AreApart};
+    ghost use Rattle.word_index.specs.Texts.{places_of};
 
     ghost Value = { PlainTable };
 
     ghost view = { λ t. record { letters = t.letters; names = t.texts } };
 
-    ghost invariant = { λ t. (t.chains.hashes ≡ map hash_of t.texts) × AreApart t.letters t.texts };
+    ghost invariant = { λ t. (t.chains.hashes ≡ map hash_of t.texts) × (AreApart t.letters t.texts × (t.chains.places ≡ places_of 0 t.texts)) };
 }
 
 /// A name's hash.
@@ -72,15 +74,16 @@ fn is_alike(letters: Case, a: &[u8], b: &[u8]) -> bool
 
 /// The number of the last name that is one with this; `None` if there is none.
 fn find(letters: Case, texts: &Texts, chains: &Chains, name: &str) -> Option<usize>
-    requires { chains.now.hashes ≡ map hash_of texts.now }
+    requires hashes { chains.now.hashes ≡ map hash_of texts.now }
+    requires places { chains.now.places ≡ places_of 0 texts.now }
     ensures { IsFound letters texts.now name.now result }
 {
     let mut found = chains.last(hash_of(name.as_bytes()));
-    while let Some(number) = found {
-        if is_alike(letters, name.as_bytes(), texts.at(number).as_bytes()) {
-            return found;
+    while let Some(placed) = found {
+        if is_alike(letters, name.as_bytes(), texts.cut(placed).as_bytes()) {
+            return Some(placed.number);
         }
-        found = chains.before(number);
+        found = chains.before(placed.number);
     }
     None
 }
@@ -140,8 +143,8 @@ impl Table {
             return Ok(false);
         }
         self.chains.make_room(alloc)?;
-        self.texts.push(name)?;
-        self.chains.push_reserved(hash_of(name.as_bytes()));
+        let place = self.texts.push(name)?;
+        self.chains.push_reserved(hash_of(name.as_bytes()), place);
         Ok(true)
     }
 

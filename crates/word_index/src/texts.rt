@@ -1,10 +1,24 @@
 //! Texts that lie one behind another in one.
 
 ghost use Rattle.std.specs.Prelude.{◌≡◌, ◌++◌, ◌∷◌, [], ◌+◌, ◌<◌, ◌^◌, length, IfOk, OnOk, OnErr, Some, option_copied, slice_get};
-ghost use Rattle.word_index.specs.Texts.{start_of};
+ghost use Rattle.word_index.specs.Texts.{start_of, place_at, places_of};
 
 use std::alloc::{AllocError, Global};
 use std::marker::Model;
+
+/// Where a text lies.
+#[derive(Clone, Copy, Drop)]
+pub(crate) struct Place {
+    pub(crate) start: u32,
+    pub(crate) end: u32,
+}
+
+/// A number, and where its text lies.
+#[derive(Clone, Copy, Drop)]
+pub(crate) struct Placed {
+    pub(crate) number: usize,
+    pub(crate) place: Place,
+}
 
 /// Texts in a list, without a piece of memory for each. Contracts see their bytes.
 pub(crate) struct Texts {
@@ -83,6 +97,16 @@ impl Texts {
         &self.text[start..end]
     }
 
+    /// The text of a number that is there and whose place is known.
+    #[inline(always)]
+    pub(crate) fn cut(&self, placed: Placed) -> &str
+        requires there { placed.number < length self.now }
+        requires place { place_at (places_of 0 self.now) placed.number ≡ placed.place }
+        ensures { slice_get self.now placed.number ≡ Some result.now }
+    {
+        &self.text[placed.place.start as usize..placed.place.end as usize]
+    }
+
     /// The text of a number; `None` if there is none.
     #[inline(always)]
     pub(crate) fn get(&self, number: usize) -> Option<&str>
@@ -94,16 +118,21 @@ impl Texts {
         Some(self.at(number))
     }
 
-    /// Adds a text. Fails if allocation fails, or if the texts have more than 4,294,967,295 bytes together.
-    pub(crate) fn push(&mut self, text: &str) -> Result<(), AllocError>
+    /// Adds a text, and returns its place. Fails if allocation fails, or if the texts have more than 4,294,967,295 bytes together.
+    pub(crate) fn push(&mut self, text: &str) -> Result<Place, AllocError>
         ensures ok { OnOk result (self.new ≡ self.old ++ text.now ∷ []) }
+        ensures place { IfOk result (λ place. places_of 0 self.new ≡ places_of 0 self.old ++ place ∷ []) }
         ensures err { OnErr result (self.new ≡ self.old) }
     {
-        let end = end_of(self.text.len(), text.len())?;
+        let start = self.text.len();
+        let end = end_of(start, text.len())?;
         self.ends.reserve(1)?;
         self.text.push_str(text)?;
         self.ends.push_reserved(end);
-        Ok(())
+        Ok(Place {
+            start: start as u32,
+            end,
+        })
     }
 
     /// The same texts. Fails if allocation fails.

@@ -1,8 +1,5 @@
-use Rattle.std.proofs.Common.{◌∙◌, ◌++◌, ap, sym, arith}
-use Rattle.std.proofs.lemmas.List.{drop_all, take_all, append-nil}
-use Rattle.std.specs.List.{sum_by}
-use Rattle.block_frames.specs.Scoped.{laid_from}
-use Rattle.block_frames.proofs.Built.{laid_on, cells_of, row_fits, row_more}
+use Rattle.std.proofs.Common.{arith}
+use Rattle.block_frames.proofs.Built.{laid_on, row_fits, row_more}
 use Rattle.block_frames.proofs.names.laid_of.Goals as goal
 
 pub overflow_add-next : goal.overflow_add-next

@@ -1,5 +1,5 @@
 use Rattle.std.proofs.Common.{◌≡◌, length}
-use Rattle.word_index.specs.Chains.{GoBack, BeginAtTops}
+use Rattle.word_index.specs.Chains.{GoBack, BeginAtTops, Know}
 use Rattle.word_index.proofs.chains.tops_of.Given as goal
 
 abbrev pub invariant-loop-number : goal.invariant-loop-number
@@ -8,4 +8,6 @@ invariant-loop-number l = record {
   size : length l.links ≡ length l.hashes;
   begin : BeginAtTops l.hashes l.number l.tops.items;
   back : GoBack l.hashes l.chains l.number l.links;
+  tops_know : Know l.places (length l.tops.items) l.tops.items;
+  links_know : Know l.places l.number l.links;
 }

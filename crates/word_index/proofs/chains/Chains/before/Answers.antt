@@ -1,9 +1,24 @@
-use Rattle.std.proofs.Common.{rules, ◌≡◌, length, sym, subst}
+use Rattle.std.proofs.Common.{◌≡◌, ◌<◌, length, sym, subst, arith}
 use Rattle.std.proofs.lemmas.List.{get_or_read}
-use Rattle.word_index.specs.Chains.{link_at}
+use Rattle.word_index.specs.Chains.{PlainChains, link_at, number_in, Knows}
 use Rattle.word_index.proofs.Following.{before_is}
+use Rattle.word_index.proofs.Linking.{no_link}
 use Rattle.word_index.proofs.chains.Chains.before.Goals as goal
 
-pub returns : goal.returns
-returns c =
-    rw (← c.self.view_is) (before_is c.self.inside.hashes.items (length c.self.inside.tops.items) c.args.number c.index-2.result.now c.as_slice.result.now c.index.result.now c.follow.result (search rules) (search rules) (subst (λ l. c.index.result.now ≡ link_at l c.args.number) (sym c.as_slice.ensures.value) (get_or_read c.self.inside.links.items c.args.number c.index.result.now (search rules) c.index.ensures (record { count = 0; hash = 0 }))) (get_or_read c.self.inside.hashes.items c.args.number c.index-2.result.now (search rules) c.index-2.ensures 0) c.follow.ensures)
+pub returns-clause-last : goal.returns-clause-last
+returns-clause-last c =
+    let hashes = c.self.inside.hashes.items in
+    let links = c.self.inside.links.items in
+    let less : c.args.number < length hashes = subst (λ (p : PlainChains). c.args.number < length p.hashes) (sym c.self.view_is) c.requires in
+    let low : c.args.number < length links = (let size = c.self.invariant.0.size in omega (arith, less, size)) in
+    let from : c.index.result.now ≡ link_at c.as_slice.result.now c.args.number = subst (λ l. c.index.result.now ≡ link_at l c.args.number) (sym c.as_slice.ensures.value) (get_or_read links c.args.number c.index.result.now low c.index.ensures no_link) in
+    rw (← c.self.view_is) (before_is hashes (length c.self.inside.tops.items) c.args.number c.index-2.result.now c.as_slice.result.now c.index.result.now (number_in c.follow.result) (rw c.as_slice.ensures.value c.self.invariant.0.back) less from (get_or_read hashes c.args.number c.index-2.result.now less c.index-2.ensures 0) c.follow.ensures.last)
+
+pub returns-clause-place : goal.returns-clause-place
+returns-clause-place c =
+    let places = c.self.inside.places.items in
+    let links = c.self.inside.links.items in
+    let less : c.args.number < length c.self.inside.hashes.items = subst (λ (p : PlainChains). c.args.number < length p.hashes) (sym c.self.view_is) c.requires in
+    let low : c.args.number < length links = (let size = c.self.invariant.0.size in omega (arith, less, size)) in
+    let from : c.index.result.now ≡ link_at links c.args.number = get_or_read links c.args.number c.index.result.now low c.index.ensures no_link in
+    rw (← c.self.view_is) (c.follow.ensures.place places (rw c.as_slice.ensures.value c.self.invariant.1.1.1) (subst (Knows places) (sym from) (c.self.invariant.1.1.1 c.args.number low)))
