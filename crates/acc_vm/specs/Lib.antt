@@ -3,3 +3,4 @@ pub mod Operands
 pub mod Codes
 pub mod Steps
 pub mod Flats
+pub mod Names

@@ -13,7 +13,6 @@ mod instr;
 mod own;
 mod run;
 mod step;
-mod words;
 
 pub use code::Code;
 pub use flat_instr::{FlatInstr, flat_instrs};

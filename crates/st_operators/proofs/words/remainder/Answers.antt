@@ -7,7 +7,7 @@ use Rattle.std.proofs.lemmas.Int.{ints, to_z-of_z}
 use Rattle.std.proofs.lemmas.Nat.{div-mul-add}
 use Rattle.st_tree.specs.Operators.{remainder}
 use Rattle.st_tree.proofs.Quotients.{remainder_is}
-use Rattle.acc_vm.proofs.words.remainder.Goals as goal
+use Rattle.st_operators.proofs.words.remainder.Goals as goal
 
 off : (b : Bool) (P : Type 0) → Decides b P → (P → ⊥) → b ≡ false
 off true P d h = absurd (h (d.0 refl))

@@ -1,4 +1,4 @@
-//! Operators on words of the machine: what `eval_unary` and `eval_binary` of st_tree give, without wider words where that is possible.
+//! Operators on words of 64 bits.
 
 ghost use Rattle.std.specs.Prelude.{◌≡◌, ◌<◌, ◌^◌, ◌%◌, pos, Ok};
 ghost use Rattle.std.specs.Ordering.{int_eq};
@@ -66,7 +66,7 @@ fn sum(x: i64, y: i64) -> Result<i64, Trap>
 
 /// A sum with a number of 32 bits, which is in the range of DINT: so one test is enough.
 #[inline(always)]
-pub(crate) fn near_sum(x: i64, y: i32) -> Result<i64, Trap>
+pub fn near_sum(x: i64, y: i32) -> Result<i64, Trap>
     ensures { result ≡ eval_binary binary.Add x y }
 {
     let other = i64::from(y);
@@ -186,7 +186,7 @@ fn remainder(x: i64, y: i64) -> i64
 }
 
 /// The factor by which a product finds quotients by a number: 2^32 over it, rounded up. Nothing rests on it but time.
-pub(crate) fn factor_of(by: u32) -> u32 {
+pub fn factor_of(by: u32) -> u32 {
     match u32::MAX.checked_div(by) {
         Some(n) => n.saturating_add(1),
         None => 0,
@@ -206,7 +206,7 @@ fn left_over(x: u64, by: u32, factor: u32) -> u64
 
 /// The remainder of a number by one of 32 bits, with a factor for it. Where the factor doesn't tell it, a division does.
 #[inline(always)]
-pub(crate) fn remainder_by(x: i64, by: u32, factor: u32) -> i64
+pub fn remainder_by(x: i64, by: u32, factor: u32) -> i64
     ensures { result ≡ remainder x (pos by) }
 {
     if 0 <= x && x <= 4294967295 {
@@ -220,7 +220,7 @@ pub(crate) fn remainder_by(x: i64, by: u32, factor: u32) -> i64
 
 /// Whether the remainder of a number by one of 32 bits is another one: TRUE as 1, FALSE as 0.
 #[inline(always)]
-pub(crate) fn has_remainder(x: i64, by: u32, factor: u32, y: i64) -> i64
+pub fn has_remainder(x: i64, by: u32, factor: u32, y: i64) -> i64
     ensures { result ≡ truth (int_eq (remainder x (pos by)) y) }
 {
     truth(remainder_by(x, by, factor) == y)
@@ -228,7 +228,7 @@ pub(crate) fn has_remainder(x: i64, by: u32, factor: u32, y: i64) -> i64
 
 /// The result of an operator, by its operand's value.
 #[inline(always)]
-pub(crate) fn apply_unary(op: Unary, x: i64) -> Result<i64, Trap>
+pub fn apply_unary(op: Unary, x: i64) -> Result<i64, Trap>
     ensures { result ≡ eval_unary op x }
 {
     match op {
@@ -240,7 +240,7 @@ pub(crate) fn apply_unary(op: Unary, x: i64) -> Result<i64, Trap>
 
 /// The result of an operator, by its operands' values.
 #[inline(always)]
-pub(crate) fn apply_binary(op: Binary, x: i64, y: i64) -> Result<i64, Trap>
+pub fn apply_binary(op: Binary, x: i64, y: i64) -> Result<i64, Trap>
     ensures { result ≡ eval_binary op x y }
 {
     match op {

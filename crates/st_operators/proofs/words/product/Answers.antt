@@ -3,7 +3,7 @@ use Rattle.std.proofs.lemmas.Int.{ints, to_z-of_z, fits_signed_mul}
 use Rattle.plant_types.specs.Values.{is_in_range}
 use Rattle.plant_types.specs.declared.values.Kind.TheVariants as kind
 use Rattle.st_tree.specs.Operators.{dint}
-use Rattle.acc_vm.proofs.words.product.Goals as goal
+use Rattle.st_operators.proofs.words.product.Goals as goal
 
 size : (x : ℤ) → negsuc 2147483647 ≤ℤ x → x ≤ℤ pos 2147483647 → unsigned_abs x ≤ 2147483648
 size (pos n) low high = omega (arith, ints)

@@ -1,6 +1,6 @@
 use Rattle.std.proofs.Common.{rules, refl, ◌≡◌, ◌<◌, ◌≤◌, ◌+◌, ◌-◌, ◌*◌, ◌/◌, ◌%◌, ℕ, arith, ap, sym, ◌∙◌, subst}
 use Rattle.std.proofs.lemmas.Nat.{mul-le, mul-lt, mod-mul-add}
-use Rattle.acc_vm.proofs.words.left_over.Goals as goal
+use Rattle.st_operators.proofs.words.left_over.Goals as goal
 
 -- a number is what a multiple takes of it and what is left, where that is small
 parts : (x m k rest : ℕ) → x < 4294967296 → k < 4294967296 → m ≤ 18446744065119617025 → rest ≡ (x + (18446744073709551616 - m)) % 18446744073709551616 → rest < k → x ≡ m + rest

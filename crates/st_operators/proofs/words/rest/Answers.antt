@@ -2,7 +2,7 @@ use Rattle.std.proofs.Common.{◌≡◌, ℕ, ◌-◌, ◌*◌, ◌%◌, ◌<◌
 use Rattle.std.proofs.Math.Nat.{mod-eq_of_lt}
 use Rattle.std.proofs.Math.Pow.{pow-lt}
 use Rattle.std.proofs.lemmas.Nat.{mod_below, and_mask}
-use Rattle.acc_vm.proofs.words.rest.Goals as goal
+use Rattle.st_operators.proofs.words.rest.Goals as goal
 
 -- the last bits are the rest of a division by a power of two
 last_bits : (x y power by : ℕ) → power ≡ (1 * 2 ^ (by % 64)) % 2 ^ 64 → power ≡ y → bit_and x (y - 1) ≡ x % y

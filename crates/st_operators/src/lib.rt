@@ -1,0 +1,7 @@
+//! Operators of Structured Text on words of 64 bits: what `eval_unary` and `eval_binary` of st_tree give, without wider words where that is
+//! possible.
+#![tactic(auto)]
+
+mod words;
+
+pub use words::{apply_binary, apply_unary, factor_of, has_remainder, near_sum, remainder_by};
