@@ -7,6 +7,8 @@ pub mod Runs
 pub mod Sound
 pub mod Places
 pub mod Carried
+mod Stretches
+mod Spelled
 pub mod Putting
 pub mod Made
 pub mod Overs

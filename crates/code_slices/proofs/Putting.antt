@@ -1,11 +1,14 @@
--- Items that are put into a row, one after another.
-use Rattle.std.proofs.Common.{◌≡◌, ◌<◌, ◌+◌, ℕ, List, length, set, Some, ap, sym, ◌∙◌, arith, refl, inl, inr}
+-- Items that are put into a row, one after another, and piece by piece.
+use Rattle.std.proofs.Common.{◌≡◌, ◌<◌, ◌+◌, ◌-◌, ℕ, List, length, set, Some, ap, sym, ◌∙◌, subst, arith, refl, inl, inr, ◌⊎◌, Contains}
 use Rattle.std.specs.Prelude.{slice_get}
-use Rattle.std.proofs.lemmas.Bool.{cases_lt, cases_eq}
+use Rattle.std.proofs.lemmas.Bool.{cases_lt}
 use Rattle.std.proofs.lemmas.List.{length-set, get_or-set_same}
-use Rattle.std.proofs.lemmas.Option.{slice_get-get_or, same_Some, slice_get_within, get_or_from_slice_get}
+use Rattle.std.proofs.lemmas.Option.{slice_get-get_or, same_Some, slice_get_within}
+use Rattle.code_slices.specs.declared.pieces.Piece.{Piece}
 use Rattle.code_slices.specs.Puts.{AreApartIn, Puts, PutsAt}
+use Rattle.code_slices.specs.Pieces.{ArePiecesAt, PutsPiece, HaveOnePlace, PutsPieces}
 use Rattle.code_slices.proofs.Items.{get_other}
+use Rattle.code_slices.proofs.Spelled.{in_place, place_in, at_place}
 
 -- the first n items stand under their numbers, and all others of the row are as they were
 pub record PutUpTo {A : Type 0} (numbers : List ℕ) (items old : List A) (n : ℕ) (new : List A) : Type 0 where
@@ -46,44 +49,72 @@ module _ {A : Type 0} (numbers : List ℕ) (items old : List A) where
     kept = λ s none. h.kept s (λ i lt at. none i at);
   }
 
--- the items at the first n places of a list stand under their numbers, and all others of the row are as they were
-pub record PutPlaces {A : Type 0} (places numbers : List ℕ) (items old : List A) (n : ℕ) (new : List A) : Type 0 where
+-- the items of the first n pieces stand at their slots, and all others of the row are as they were
+pub record PutPieces {A : Type 0} (pieces : List Piece) (items old : List A) (n : ℕ) (new : List A) : Type 0 where
   pub size : length new ≡ length old
-  pub put : (i p s : ℕ) → i < n → slice_get places i ≡ Some p → slice_get numbers p ≡ Some s → slice_get new s ≡ slice_get items p
-  pub kept : (s : ℕ) → ((i p : ℕ) → i < n → slice_get places i ≡ Some p → slice_get numbers p ≡ Some s → ⊥) → slice_get new s ≡ slice_get old s
+  pub put : (i k : ℕ) (q : Piece) → i < n → slice_get pieces i ≡ Some q → k < q.more + 1 → slice_get new (q.first + k) ≡ slice_get items (q.place + k)
+  pub kept : (s : ℕ) → ((i k : ℕ) (q : Piece) → i < n → slice_get pieces i ≡ Some q → k < q.more + 1 → s ≡ q.first + k → ⊥) → slice_get new s ≡ slice_get old s
 
-module _ {A : Type 0} (places numbers : List ℕ) (items old : List A) where
-  pub no_places_put : PutPlaces places numbers items old 0 old
-  no_places_put = record { size = refl; put = λ i p s lt. absurd (omega arith); kept = λ s h. refl }
+-- a slot is one of some that stand one after another, or none of them
+in_row : (first count s : ℕ) → ((k : ℕ) × (k < count) × (s ≡ first + k)) ⊎ ((k : ℕ) → k < count → s ≡ first + k → ⊥)
+in_row first count s = elim (cases_lt s first) [
+  | inl low ↦ inr (λ k lt e. omega (arith, low, e))
+  | inr high ↦ elim (cases_lt s (first + count)) [
+    | inl within ↦ inl (s - first, omega (arith, high, within), omega (arith, high))
+    | inr past ↦ inr (λ k lt e. omega (arith, past, lt, e))
+  ]
+]
 
-  pub more_places_put : (n p s : ℕ) (mid : List A) (x : A) → PutPlaces places numbers items old n mid → AreApartIn (length old) numbers → slice_get places n ≡ Some p → slice_get numbers p ≡ Some s → slice_get items p ≡ Some x
-      → PutPlaces places numbers items old (n + 1) (set mid s x)
-  more_places_put n p s mid x h apart at_n number item =
-      let within : s < length old = apart.inside p s number in let long = h.size in
-      let now : slice_get (set mid s x) s ≡ slice_get items p = here mid s x (omega arith) ∙ sym item in
-      -- what stands under the number of another place stays; under this one it is the same item
-      let step : (q r : ℕ) → slice_get numbers q ≡ Some r → slice_get mid r ≡ slice_get items q → slice_get (set mid s x) r ≡ slice_get items q = λ q r there was. elim (cases_eq r s) [
-        | inl e ↦
-            let same : q ≡ p = apart.apart q p s (there ∙ ap Some e) number in
-            ap (slice_get (set mid s x)) e ∙ now ∙ ap (slice_get items) (sym same)
-        | inr ne ↦ get_other mid s r x ne ∙ was
-      ] in
-      record {
-        size = length-set mid s x ∙ h.size;
-        put = λ i q r lt at there. elim (cases_lt i n) [
-          | inl low ↦ step q r there (h.put i q r low at there)
-          | inr high ↦
-              let same : i ≡ n = omega arith in
-              let q_is : q ≡ p = same_Some q p (sym at ∙ ap (slice_get places) same ∙ at_n) in
-              let e : r ≡ s = same_Some r s (sym there ∙ ap (slice_get numbers) q_is ∙ number) in
-              ap (slice_get (set mid s x)) e ∙ now ∙ ap (slice_get items) (sym q_is)
-        ];
-        kept = λ r none. get_other mid s r x (λ e. none n p (omega arith) at_n (number ∙ ap Some (sym e))) ∙ h.kept r (λ i q lt. none i q (omega arith));
-      }
+module _ {A : Type 0} (pieces : List Piece) (items old : List A) where
+  pub no_pieces_put : PutPieces pieces items old 0 old
+  no_pieces_put = record { size = refl; put = λ i k q lt. absurd (omega arith); kept = λ s h. refl }
 
-  pub all_places_put : (new : List A) → PutPlaces places numbers items old (length places) new → PutsAt places numbers items old new
-  all_places_put new h = record {
-    size = h.size;
-    put = λ p s has. h.put has.0 p s has.1 (slice_get-get_or places has.0 p has.1 ∙ ap Some has.2);
-    kept = λ s none. h.kept s (λ i p lt at. none p (i, lt, get_or_from_slice_get places i p p at));
+  pub more_pieces_put : (n : ℕ) (q : Piece) (mid new : List A) → HaveOnePlace pieces → PutPieces pieces items old n mid → slice_get pieces n ≡ Some q → PutsPiece q items mid new
+      → PutPieces pieces items old (n + 1) new
+  more_pieces_put n q mid new apart h at_n now = record {
+    size = now.size ∙ h.size;
+    put = λ i k r lt at within. elim (in_row q.first (q.more + 1) (r.first + k)) [
+      | inl (m, low, e) ↦
+          let same : r.place + k ≡ q.place + m = apart.one i n k m r q at at_n within low e in
+          ap (slice_get new) e ∙ now.put m low ∙ ap (slice_get items) (sym same)
+      | inr out ↦ elim (cases_lt i n) [
+        | inl low ↦ now.kept (r.first + k) out ∙ h.put i k r low at within
+        | inr high ↦
+            let here : i ≡ n = omega (arith, high, lt) in
+            let is : r ≡ q = same_Some r q (sym at ∙ ap (slice_get pieces) here ∙ at_n) in
+            absurd (out k (omega (arith, within, ap (λ (x : Piece). x.more) is)) (ap (λ (x : Piece). x.first + k) is))
+      ]
+    ];
+    kept = λ s none. now.kept s (λ k low e. none n k q (omega arith) at_n low e) ∙ h.kept s (λ i k r lt. none i k r (omega (arith, lt)));
   }
+
+  pub all_pieces_put : (new : List A) → PutPieces pieces items old (length pieces) new → PutsPieces pieces items old new
+  all_pieces_put new h = record {
+    size = h.size;
+    put = λ i k q at. h.put i k q (slice_get_within pieces i q at) at;
+    kept = λ s none. h.kept s (λ i k q lt at. none i k q at);
+  }
+
+  -- the values of a part's pieces are put where its slots are
+  pub puts_at : (slots written : List ℕ) (new : List A) → ArePiecesAt written slots pieces → ((i p : ℕ) → slice_get written i ≡ Some p → p < length slots)
+      → PutsPieces pieces items old new → PutsAt written slots items old new
+  puts_at slots written new are inside h = record {
+    size = h.size;
+    put = λ p s has at.
+        let t = in_place pieces p (subst (λ (l : List ℕ). Contains l p) (sym are.places_are) has) in
+        let i : ℕ = t.0 in let k : ℕ = t.1 in let q : Piece = t.2 in
+        let there = t.3 in let low = t.4 in let is : p ≡ q.place + k = t.5 in
+        let e : s ≡ q.first + k = same_Some s (q.first + k) (sym at ∙ ap (slice_get slots) is ∙ at_place written slots pieces are inside i k q there low) in
+        ap (slice_get new) e ∙ h.put i k q there low ∙ ap (slice_get items) (sym is);
+    kept = λ s none. h.kept s (λ i k q at low e.
+        none (q.place + k) (subst (λ (l : List ℕ). Contains l (q.place + k)) are.places_are (place_in pieces i k q at low))
+        (at_place written slots pieces are inside i k q at low ∙ ap Some (sym e)));
+  }
+
+-- pieces of slots that are different have one place for each
+pub one_place : (slots written : List ℕ) (pieces : List Piece) → ArePiecesAt written slots pieces → ((i p : ℕ) → slice_get written i ≡ Some p → p < length slots)
+    → ((i j s : ℕ) → slice_get slots i ≡ Some s → slice_get slots j ≡ Some s → i ≡ j) → HaveOnePlace pieces
+one_place slots written pieces are inside apart = record {
+  one = λ i j k m q r at there low less e.
+      apart (q.place + k) (r.place + m) (r.first + m) (at_place written slots pieces are inside i k q at low ∙ ap Some e) (at_place written slots pieces are inside j m r there less);
+}

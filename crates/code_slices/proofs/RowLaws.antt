@@ -1,16 +1,16 @@
 -- Rows of slots: what is in them, and that numbers which rise keep them.
-use Rattle.std.proofs.Common.{◌≡◌, ◌<◌, ◌≤◌, ◌+◌, ◌-◌, max, ℕ, zero, suc, List, [], ◌∷◌, ◌++◌, map, length, get_or, Some, refl, ap, sym, ◌∙◌, subst, arith, inl, inr, ◌⊎◌, Contains}
+use Rattle.std.proofs.Common.{◌≡◌, ◌<◌, ◌≤◌, ◌+◌, ◌-◌, ℕ, zero, suc, List, [], ◌∷◌, ◌++◌, map, get_or, Some, refl, ap, sym, ◌∙◌, subst, arith, inl, inr, Contains}
 use Rattle.std.specs.Prelude.{slice_get}
 use Rattle.std.specs.List.{AllByRecursion, range_with_len, flat_map}
 use Rattle.std.proofs.lemmas.List.{map-append}
 use Rattle.std.proofs.lemmas.List.FromFn.{length-range_with_len, get_or-range_with_len}
 use Rattle.std.proofs.lemmas.List.Elements.{Contains-append_left, Contains-append_right, Contains-append_cases}
-use Rattle.std.proofs.lemmas.Option.{same_Some, slice_get_within, none-some}
+use Rattle.std.proofs.lemmas.Option.{same_Some, none-some}
 use Rattle.plant_types.specs.declared.values.Bounds.{Bounds}
 use Rattle.plant_types.specs.Values.{row_length}
 use Rattle.acc_vm.specs.declared.instr.Instr.{Instr}
 use Rattle.acc_vm.specs.declared.instr.Row.{Row}
-use Rattle.acc_vm.specs.Operands.{PlainOperands, operands, bounds_of, row_slots, rows_of, all_read, all_written, renamed_operands, past_rows}
+use Rattle.acc_vm.specs.Operands.{operands, bounds_of, row_slots, rows_of, past_rows}
 use Rattle.code_slices.specs.Slots.{SomeHas, Names}
 use Rattle.code_slices.specs.Ascending.{Rises}
 use Rattle.code_slices.specs.Renaming.{KeepsRow, KeepsRows}
@@ -18,10 +18,10 @@ use Rattle.code_slices.specs.Noting.{AreRowsOf, IsInRow, IsInRows}
 use Rattle.code_slices.proofs.Rising.{in_one_piece}
 use Rattle.code_slices.proofs.Standing.{each}
 
-range_has : (first count k : ℕ) → k < count → Contains (range_with_len first count) (first + k)
+pub range_has : (first count k : ℕ) → k < count → Contains (range_with_len first count) (first + k)
 range_has first count k lt = let long = length-range_with_len first count in (k, omega (arith, long, lt), get_or-range_with_len first count k (first + k) lt)
 
-range_of : (first count s : ℕ) → Contains (range_with_len first count) s → (first ≤ s) × (s < first + count)
+pub range_of : (first count s : ℕ) → Contains (range_with_len first count) s → (first ≤ s) × (s < first + count)
 range_of first count s (k, within, e) =
     let long = length-range_with_len first count in
     let lt : k < count = omega (arith, long, within) in

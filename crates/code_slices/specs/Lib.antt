@@ -5,6 +5,7 @@ pub mod Laws
 pub mod Noting
 pub mod Ascending
 pub mod Parts
+pub mod Pieces
 pub mod Puts
 pub mod Runs
 pub mod Prints

@@ -9,6 +9,7 @@ mod laws;
 mod named;
 mod noting;
 mod part;
+mod pieces;
 mod printed_code;
 mod prints;
 mod puts;
@@ -21,5 +22,5 @@ pub use laws::{
     renamed_code_is_sound, renamed_code_runs_alike, run_keeps_what_isnt_written, standing_lasts,
 };
 pub use part::{Part, relocate};
-pub use puts::{put_clocks, put_values};
+pub use puts::put_clocks;
 pub use same::same_cells;

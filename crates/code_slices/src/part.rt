@@ -5,22 +5,27 @@ ghost use Rattle.acc_vm.specs.declared.instr.Instr.{Instr};
 ghost use Rattle.acc_vm.specs.Codes.{values_past, clocks_past};
 ghost use Rattle.code_slices.specs.Ascending.{Rises};
 ghost use Rattle.code_slices.specs.Parts.{IsPart, IsPartOf, HasPart, AreSlots, AreClocks, loaded};
+ghost use Rattle.code_slices.specs.Puts.{PutsAt};
 
 use crate::noting::{note_clocks, note_read, note_written};
+use crate::pieces::{Piece, pick_values, pieces_at, pieces_of, put_pieces};
 use crate::printed_code::PrintedCode;
 use crate::renaming::renamed_all;
 use acc_vm::{Code, FlatInstr};
 use plant_cells::{Cells, Clock};
 use std::alloc::{AllocError, Global};
 use std::marker::Model;
+use std::mem::replace;
 
 /// The code of a program by the numbers of its part: from 0 on the slots that it names, in ascending order, and the clocks; and the places of the
-/// slots that it writes.
+/// slots that it writes. Values are copied by pieces: those of all slots, and those of the slots that it writes.
 pub struct Part {
     code: PrintedCode,
     slots: Vec<u32>,
     written: Vec<u32>,
     clocks: Vec<u32>,
+    pieces: Vec<Piece>,
+    written_pieces: Vec<Piece>,
 }
 
 impl Drop for Part {
@@ -30,18 +35,21 @@ impl Drop for Part {
             slots: _,
             written: _,
             clocks: _,
+            pieces: _,
+            written_pieces: _,
         } = self;
     }
 }
 
 impl Model for Part {
     ghost use Rattle.code_slices.specs.Parts.{PlainPart, IsPart};
+    ghost use Rattle.code_slices.specs.Pieces.{ArePieces};
 
     ghost Value = { PlainPart };
 
     ghost view = { λ p. record { code = p.code; slots = p.slots.items; written = p.written.items; clocks = p.clocks.items } };
 
-    ghost invariant = { λ p. IsPart (record { code = p.code; slots = p.slots.items; written = p.written.items; clocks = p.clocks.items }) };
+    ghost invariant = { λ p. IsPart (record { code = p.code; slots = p.slots.items; written = p.written.items; clocks = p.clocks.items }) × ArePieces p.slots.items p.written.items p.pieces.items p.written_pieces.items };
 }
 
 /// Notes for each slot its place among slots that rise.
@@ -134,11 +142,15 @@ pub fn relocate(
         code.cost(),
     );
     let printed = PrintedCode::new(alloc, moved)?;
+    let pieces = pieces_of(alloc, &slots)?;
+    let written_pieces = pieces_at(alloc, &written, &slots)?;
     Ok(Part {
         code: printed,
         slots,
         written,
         clocks,
+        pieces,
+        written_pieces,
     })
 }
 
@@ -173,6 +185,12 @@ impl Part {
         self.clocks.as_slice()
     }
 
+    /// Cells of nothing.
+    fn no_cells(&self) -> Cells {
+        let alloc = *self.slots.allocator();
+        Cells::new(Vec::new(alloc), Vec::new(alloc))
+    }
+
     /// Gives cells the values and clocks that the part's have among all cells. It allocates nothing where they are as many. Fails if memory was
     /// refused.
     pub fn load(
@@ -184,7 +202,20 @@ impl Part {
         requires { HasPart self.now (record { values = values.now; clocks = clocks.now }) }
         ensures { OnOk result (cells.new ≡ loaded self.now (record { values = values.now; clocks = clocks.now })) }
     {
-        cells.pick(self.slots(), self.clocks(), values, clocks)
+        cells.pick(&self.slots()[..0], self.clocks(), values, clocks)?;
+        let (mut picked, timers) = replace(cells, self.no_cells()).into_parts();
+        let done = pick_values(&mut picked, self.slots.len(), &self.pieces, values);
+        *cells = Cells::new(picked, timers);
+        done
+    }
+
+    /// Puts the values of the slots that the code writes, as they were left in the part's cells, among all values.
+    pub fn put_written(&self, left: &Cells, values: &mut [i64])
+        requires slots { (i s : ℕ) → slice_get self.now.slots i ≡ Some s → s < length values.old }
+        requires many { length self.now.slots ≤ length left.now.values }
+        ensures { PutsAt self.now.written self.now.slots left.now.values values.old values.new }
+    {
+        put_pieces(left.as_slice(), &self.written_pieces, values);
     }
 
     /// Whether another part is the same.

@@ -9,8 +9,7 @@ use Rattle.crew.specs.Runs.{IsEachOnce}
 use Rattle.plant_cells.specs.declared.stop.Stop.{Stop}
 use Rattle.plant_cells.specs.declared.clock.Clock.{Clock}
 use Rattle.plant_cells.specs.Cells.{PlainCells}
-use Rattle.code_slices.specs.Parts.{PlainPart, IsPart, HasPart, loaded}
-use Rattle.code_slices.specs.Puts.{AreApartIn}
+use Rattle.code_slices.specs.Parts.{PlainPart, HasPart, loaded}
 use Rattle.slice_store.specs.Starts.{Begun, Gives}
 use Rattle.slice_store.specs.Level.{PutsPart, WritesSlot, HasClock, HasTaken, Takes, TakesRuns, AreJobsOf, IsReady, trapped}
 
@@ -23,10 +22,6 @@ other (y ∷ xs) (suc s) (suc r) x ne = other xs s r x (λ e. ne (ap suc e))
 
 here : {A : Type 0} (xs : List A) (s : ℕ) (x : A) → s < length xs → slice_get (set xs s x) s ≡ Some x
 here xs s x within = let l = length-set xs s x in slice_get-get_or (set xs s x) s x (omega arith) ∙ ap Some (get_or-set_same xs s x x within)
-
--- the slots of a part are different ones of all cells that have it
-pub slots_apart : (part : PlainPart) (size : ℕ) → IsPart part → ((i s : ℕ) → slice_get part.slots i ≡ Some s → s < size) → AreApartIn size part.slots
-slots_apart part size is has = record { inside = has; apart = is.apart }
 
 -- one run is taken in
 pub takes_one : (s : Begun) (result : Result (Unit {0}) Stop) (after : PlainCells) (values new_values : List ℤ) (clocks new_clocks : List Clock) (faulted flags : List Bool)

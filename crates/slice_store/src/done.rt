@@ -13,7 +13,7 @@ ghost use Rattle.slice_store.specs.Level.{PutsPart, Takes};
 
 use crate::start::Start;
 use acc_vm::{Code, Own, Shared};
-use code_slices::{Part, put_clocks, put_values};
+use code_slices::{Part, put_clocks};
 use crew::Work;
 use plant_cells::{Cells, Clock, Stop};
 use std::marker::Model;
@@ -114,7 +114,7 @@ fn put_part(part: &Part, left: &Cells, values: &mut [i64], clocks: &mut [Clock])
     requires clocks { length left.now.clocks ≡ length part.now.clocks }
     ensures { PutsPart part.now left.now (record { values = values.old; clocks = clocks.old }) (record { values = values.new; clocks = clocks.new }) }
 {
-    put_values(part.written(), part.slots(), left.as_slice(), values);
+    part.put_written(left, values);
     put_clocks(part.clocks(), left.clocks(), clocks);
 }
 

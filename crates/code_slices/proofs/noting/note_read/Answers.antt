@@ -1,4 +1,4 @@
-use Rattle.std.proofs.Common.{◌≡◌, ◌≤◌, List, ℕ, length, subst, arith}
+use Rattle.std.proofs.Common.{List, length, subst, arith}
 use Rattle.acc_vm.specs.declared.instr.Row.{Row}
 use Rattle.acc_vm.specs.Operands.{operands}
 use Rattle.code_slices.specs.Slots.{SomeHas}

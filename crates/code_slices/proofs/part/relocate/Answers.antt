@@ -1,9 +1,10 @@
-use Rattle.std.proofs.Common.{◌≡◌, List, map, length, get_or, sym, ap, ◌∙◌, subst, arith}
+use Rattle.std.proofs.Common.{◌≡◌, ℕ, List, map, length, get_or, sym, ap, ◌∙◌, subst, arith}
 use Rattle.std.specs.Prelude.{slice_get}
 use Rattle.acc_vm.specs.declared.instr.Instr.{Instr}
 use Rattle.acc_vm.specs.Codes.{IsSound}
 use Rattle.acc_vm.specs.Operands.{renamed}
 use Rattle.code_slices.specs.Parts.{IsPartOf, AreSlots, AreClocks}
+use Rattle.code_slices.specs.Pieces.{ArePiecesAt}
 use Rattle.code_slices.proofs.Made.{moved_is_sound, is_part_of, part_is, same_code}
 use Rattle.code_slices.proofs.part.relocate.Goals as goal
 
@@ -57,8 +58,20 @@ invariant_of-result c =
     let is : IsPartOf code (record { code = c.in_ok-printed.printed; slots = c.in_ok-slots.slots.items; written = c.in_ok-slots.written.items; clocks = c.in_ok-clocks.clocks.items })
     = is_part_of code c.named_slots.new.places c.named_clocks.new.places c.in_ok-slots.slots.items c.in_ok-clocks.clocks.items c.in_ok-slots.written.items are clock_are c.in_ok-printed.printed
     (c.in_ok-printed.ensures ∙ c.new-moved.ensures ∙ (same_code code c.named_slots.new.places c.named_clocks.new.places c.in_ok-slots.slots.items c.in_ok-clocks.clocks.items c.in_ok-slots.written.items are clock_are _ _ _ _ _ _ _
-    moved (c.in_ok-places.ensures.items ∙ c.places.ensures) c.paths.ensures slots clocks c.stack.ensures c.cost.ensures)) in
-    part_is code (record { code = c.in_ok-printed.printed; slots = c.in_ok-slots.slots.items; written = c.in_ok-slots.written.items; clocks = c.in_ok-clocks.clocks.items }) is
+    moved (c.in_ok-places.ensures.items ∙ c.places.ensures) c.paths.ensures slots clocks c.stack.ensures c.cost.ensures)) in (
+      part_is code (record { code = c.in_ok-printed.printed; slots = c.in_ok-slots.slots.items; written = c.in_ok-slots.written.items; clocks = c.in_ok-clocks.clocks.items }) is,
+      record {
+        all_are = c.in_ok-pieces.ensures ∙ c.deref.ensures.value;
+        put_are =
+            subst (λ (w : List ℕ). ArePiecesAt w c.in_ok-slots.slots.items c.in_ok-written_pieces.written_pieces.items) c.deref-2.ensures.value
+            (subst (λ (s : List ℕ). ArePiecesAt c.deref-2.result.now s c.in_ok-written_pieces.written_pieces.items) c.deref-3.ensures.value c.in_ok-written_pieces.ensures);
+      },
+    )
+
+pub pieces_at-requires : goal.pieces_at-requires
+pieces_at-requires c = λ i p at.
+    let within = c.in_ok-slots.ensures.inside i p (ap (λ xs. slice_get xs i) (sym c.deref-2.ensures.value) ∙ at) in
+    omega (arith, within, ap length c.deref-3.ensures.value)
 
 pub returns : goal.returns
 returns c =
