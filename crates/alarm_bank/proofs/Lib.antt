@@ -2,6 +2,7 @@ pub mod BankLaws
 pub mod MarkLaws
 pub mod MoveLaws
 pub mod OrderLaws
+pub mod ReloadLaws
 mod Tallies
 mod Trees
 mod Under

@@ -1,4 +1,5 @@
 pub mod Banks
 pub mod Counts
 pub mod Moves
+pub mod Reloads
 pub mod Shelves

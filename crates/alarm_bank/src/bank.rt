@@ -5,11 +5,13 @@ ghost use Rattle.std.specs.Option.{option_map};
 ghost use Rattle.alarm_machine.specs.declared.limits.TheConstants.{LAST_MOMENT};
 ghost use Rattle.alarm_machine.specs.Alarms.{PlainAlarm, end_of, EndsInRange};
 ghost use Rattle.alarm_bank.specs.Banks.{IsSite, scan_each, after_event, reply_of, counted, end_or_never, IsNextEnd, NoneShelved, IsSettled};
+ghost use Rattle.alarm_bank.specs.Reloads.{IsShelvable, reloaded, sites_of};
 ghost use Rattle.alarm_bank.specs.Moves.{AreMoved, AddsMove, AreMovesOf, UnmarkedStay, NoShelfEnds, put_all};
 
 use crate::event::BankEvent;
 use crate::marks::next_mark;
-use crate::rows::{Counted, Site};
+use crate::news::{alarms_of, sites_of};
+use crate::rows::{Counted, NewAlarm, Site};
 use crate::shelf::Shelf;
 use crate::signals::Signals;
 use crate::summary::Summary;
@@ -141,15 +143,47 @@ impl Bank {
         requires sites { All (IsSite areas) sites.items }
         ensures { IfOk result (λ bank. bank ≡ record { sites = sites.items; alarms = alarms.items; moment = 0 }) }
     {
+        Bank::at(alloc, areas, sites, alarms, 0)
+    }
+
+    /// Makes a bank of alarms after a last scan at a moment, or before the first at 0. Fails if allocation fails.
+    fn at(
+        alloc: Global,
+        areas: u32,
+        sites: Vec<Site>,
+        alarms: Vec<Alarm>,
+        moment: u64,
+    ) -> Result<Bank, AllocError>
+        requires each { length sites.items ≡ length alarms.items }
+        requires few { length alarms.items < 2 ^ 32 }
+        requires sites { All (IsSite areas) sites.items }
+        requires moment { moment ≤ LAST_MOMENT }
+        ensures { IfOk result (λ bank. bank ≡ record { sites = sites.items; alarms = alarms.items; moment = moment }) }
+    {
         let summary = summary_of(alloc, areas, sites.as_slice(), alarms.as_slice())?;
         let shelf = shelf_of(alloc, alarms.as_slice())?;
         Ok(Bank {
             sites,
             alarms,
-            moment: 0,
+            moment,
             summary,
             shelf,
         })
+    }
+
+    /// The bank with new alarms in the place of its own, of at most 64 areas. One that keeps the state of an old alarm has that alarm's state, the
+    /// end of its shelf and its last condition and suppression; the others are as before their first scan. The moment stays. The
+    /// old bank stays as it is. Fails if allocation fails.
+    pub fn reloaded(&self, alloc: Global, areas: u32, news: &[NewAlarm]) -> Result<Bank, AllocError>
+        requires few { length news.now < 2 ^ 32 }
+        requires areas { areas ≤ 64 }
+        requires sites { All (IsSite areas) (sites_of news.now) }
+        requires shelving { All IsShelvable news.now }
+        ensures { IfOk result (λ bank. bank ≡ reloaded news.now self.now) }
+    {
+        let sites = sites_of(alloc, news)?;
+        let alarms = alarms_of(alloc, self.alarms.as_slice(), news)?;
+        Bank::at(alloc, areas, sites, alarms, self.moment)
     }
 
     /// The state of an alarm that is there.
@@ -173,6 +207,13 @@ impl Bank {
         ensures { result.now ≡ self.now.alarms }
     {
         self.alarms.as_slice()
+    }
+
+    /// The area and the priority of each alarm.
+    pub(crate) fn sites(&self) -> &[Site]
+        ensures { result.now ≡ self.now.sites }
+    {
+        self.sites.as_slice()
     }
 
     /// The moment of the last scan in milliseconds, 0 before the first.

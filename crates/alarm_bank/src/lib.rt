@@ -7,15 +7,18 @@
 mod bank;
 mod event;
 mod marks;
+mod news;
 mod rows;
 mod shelf;
 mod signals;
 mod summary;
+mod table;
 
 pub use bank::Bank;
 pub use event::BankEvent;
 pub use marks::next_mark;
-pub use rows::{Counted, Site};
+pub use rows::{Counted, NewAlarm, Site};
 pub use shelf::Shelf;
 pub use signals::Signals;
 pub use summary::Summary;
+pub use table::Table;

@@ -9,6 +9,18 @@ pub struct Site {
     pub priority: u32,
 }
 
+/// An alarm of a plant that takes the place of another plant while it runs.
+#[derive(Clone, Copy, Drop)]
+pub struct NewAlarm {
+    pub site: Site,
+    /// Whether it latches.
+    pub latching: bool,
+    /// Its longest shelving in milliseconds; at 0 it can't be shelved.
+    pub max_shelve_ms: u32,
+    /// The number of the old plant's alarm whose state it keeps; `None` for one that is new.
+    pub kept: Option<u32>,
+}
+
 /// An alarm as a summary counts it: its area, its priority and the code of its state.
 #[derive(Clone, Copy, Drop)]
 pub struct Counted {

@@ -21,6 +21,10 @@ pub record PlainAlarm : Type 0 where
 abbrev pub new_alarm : Bool → ℕ → PlainAlarm
 new_alarm latching max_shelve_ms = record { latching = latching; max_shelve_ms = max_shelve_ms; state = state.Norm; condition = false; suppressed = false }
 
+-- an alarm that keeps what another one had: the state with the end of its shelf, and the last condition and suppression; whether it latches and its longest shelving are its own
+abbrev pub keeping : PlainAlarm → PlainAlarm → PlainAlarm
+keeping old a = record a { state = old.state; condition = old.condition; suppressed = old.suppressed }
+
 -- an alarm after a scan with condition c, suppression s and moment t
 abbrev pub after_scan : Bool → Bool → ℕ → PlainAlarm → PlainAlarm
 after_scan c s t a = record a { state = on_scan a.latching a.state c s t; condition = c; suppressed = s }

@@ -1,7 +1,7 @@
 ghost use Rattle.std.specs.Prelude.{◌≡◌, ◌≤◌, ◌↔◌, IsTrue, IfOk, true};
 ghost use Rattle.alarm_machine.specs.Codes.{code_of, change_between};
 ghost use Rattle.alarm_machine.specs.Transitions.{resume, on_scan};
-ghost use Rattle.alarm_machine.specs.Alarms.{IsAlarm, new_alarm, after_scan, after_order, on_order, end_of, is_settled, AnswersOrder, EndsInRange};
+ghost use Rattle.alarm_machine.specs.Alarms.{IsAlarm, new_alarm, keeping, after_scan, after_order, on_order, end_of, is_settled, AnswersOrder, EndsInRange};
 ghost use Rattle.alarm_machine.specs.Kept.{kept_end};
 ghost use Rattle.alarm_machine.specs.declared.limits.TheConstants.{LAST_MOMENT, LONGEST_SHELVE_MS};
 
@@ -101,6 +101,21 @@ impl Alarm {
             latching,
             condition: false,
             suppressed: false,
+        }
+    }
+
+    /// This alarm with what another one has: the state with the end of its shelf, and the condition and suppression of the last scan.
+    /// Whether it latches and its longest shelving stay its own.
+    pub fn keeping(&self, old: &Alarm) -> Alarm
+        ensures { result ≡ keeping old.now self.now }
+    {
+        Alarm {
+            end: old.end,
+            max_shelve_ms: self.max_shelve_ms,
+            code: old.code,
+            latching: self.latching,
+            condition: old.condition,
+            suppressed: old.suppressed,
         }
     }
 

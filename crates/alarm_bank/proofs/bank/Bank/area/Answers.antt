@@ -1,4 +1,4 @@
-use Rattle.std.proofs.Common.{◌≡◌, ◌<◌, ◌∙◌, List, length, slice_get, arith, ap, sym}
+use Rattle.std.proofs.Common.{◌<◌, ◌∙◌, List, length, slice_get, arith, ap, sym}
 use Rattle.std.specs.Option.{option_map}
 use Rattle.alarm_bank.specs.declared.rows.Site.{Site}
 use Rattle.alarm_bank.specs.declared.rows.Counted.{Counted}
