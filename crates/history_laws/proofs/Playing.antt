@@ -20,9 +20,16 @@ use Rattle.history_laws.specs.Records.{IsPlayed, GoesOn, LeaveAlike, IsPlayedAli
 
 -- ---- requests one after another
 
--- what requests leave is one history
+-- a request leaves one history, whatever it is answered
+leaves_one : (plant : PlainPlant) (h a b : List Event) (request : Request) (s t : List ℕ) → IsAnswered plant h request a s → IsAnswered plant h request b t → a ≡ b
+leaves_one plant h a b request s t p q = p.0 ∙ sym q.0
+
+-- and so do requests one after another
 leave_one : (plant : PlainPlant) (h a b : List Event) (requests : List Request) (s t : List ℕ) → AreAnswered plant h requests a s → AreAnswered plant h requests b t → a ≡ b
-leave_one plant h a b requests s t p q = (answers-one plant h requests a s p).0 ∙ sym (answers-one plant h requests b t q).0
+leave_one plant h a b [] s t p q = p.0 ∙ sym q.0
+leave_one plant h a b (request ∷ requests) s t p q =
+    let same = leaves_one plant h p.0 q.0 request p.1 q.1 p.3 q.3 in
+    leave_one plant q.0 a b requests p.2 q.2 (subst (λ (m : List Event). AreAnswered plant m requests a p.2) same p.4) q.4
 
 pub one_history : (plant : PlainPlant) (history a b : List Event) (input s t : List ℕ) → IsPlayed plant history input a s → IsPlayed plant history input b t → a ≡ b
 one_history plant history a b input s t p q = leave_one plant history a b (requests_of input) s t p q
