@@ -1,5 +1,5 @@
 -- Records that are played again, and gone on from.
-use Rattle.std.proofs.Common.{◌≡◌, ℕ, Bool, true, false, cond, List, [], ◌∷◌, ◌++◌, length, refl, ap, sym, ◌∙◌, subst, append_assoc, append-nil, ◌+◌, map}
+use Rattle.std.proofs.Common.{◌≡◌, ℕ, true, false, List, [], ◌∷◌, ◌++◌, length, refl, ap, sym, ◌∙◌, subst, append_assoc, append-nil, ◌+◌, map}
 use Rattle.event_history.specs.declared.event.Event.{Event}
 use Rattle.plant_config.specs.Plants.{PlainPlant}
 use Rattle.plant_system.specs.System.{System, system, after_event, scan_event}
@@ -136,7 +136,7 @@ line_left_out plant history past line body more e n size none after text p =
     let request = request_of line body in
     let played = (goes_on plant history past (line ++ 10 ∷ (body ++ more)) e after text).apart p in
     let asked : AreAnswered plant played.middle (request ∷ requests_of more) after played.rest =
-        subst (λ (rs : List Request). AreAnswered plant played.middle rs after played.rest) (requests_end line body more n size) played.more_is in
+    subst (λ (rs : List Request). AreAnswered plant played.middle rs after played.rest) (requests_end line body more n size) played.more_is in
     let same : asked.0 ≡ played.middle = none played.middle played.first played.past_is asked.0 asked.1 asked.3 in
     let own : IsAnswered plant played.middle request played.middle asked.1 = subst (λ (h : List Event). IsAnswered plant played.middle request h asked.1) same asked.3 in
     let others : IsPlayed plant played.middle more after asked.2 = subst (λ (h : List Event). IsPlayed plant h more after asked.2) same asked.4 in
