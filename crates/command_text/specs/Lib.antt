@@ -4,5 +4,6 @@ pub mod Numbers
 pub mod Given
 pub mod Commands
 pub mod Laws
+pub mod Reloads
 pub mod Lines
 pub mod Placing

@@ -13,6 +13,7 @@ mod outputs;
 mod parse;
 mod placing;
 mod pool;
+mod reloads;
 mod words;
 
 pub use command::Command;
@@ -25,3 +26,4 @@ pub use outputs::{OutFront, put_out};
 pub use parse::read_command;
 pub use placing::{AlarmFront, put_alarm};
 pub use pool::Pool;
+pub use reloads::{TextSizes, reload_size, reload_sizes};

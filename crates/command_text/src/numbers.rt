@@ -38,6 +38,14 @@ pub(crate) fn short_number(word: &[u8]) -> Option<u32>
     Some(n as u32)
 }
 
+/// Parses a number of 1 to 8 digits, such as a size in bytes; `None` for any other word.
+pub(crate) fn size_number(word: &[u8]) -> Option<u32>
+    ensures { result ≡ number_of 8 word.now }
+{
+    let n = digits(word, 8)?;
+    Some(n as u32)
+}
+
 /// Parses a number of 1 to 19 digits, perhaps with a minus before it; `None` for any other word.
 pub(crate) fn whole(word: &[u8]) -> Option<i128>
     ensures { result ≡ whole_of word.now }

@@ -11,7 +11,7 @@ use alarm_machine::Verb;
 use std::alloc::{AllocError, Global};
 
 /// The greatest number of bytes of a line.
-const LONGEST_LINE: usize = 1_048_576;
+pub(crate) const LONGEST_LINE: usize = 1_048_576;
 
 /// Parses the words after `scan`: a moment, then a pair for each input that is given. Fails only where memory was refused.
 #[tactic(auto, unfolding(crate::specs::Commands::scan_of))]

@@ -5,11 +5,10 @@ use Rattle.event_history.specs.declared.event.Event.{Event}
 use Rattle.plant_config.specs.Plants.{PlainPlant}
 use Rattle.plant_system.specs.System.{system}
 use Rattle.engine.specs.Journal.{journal_of}
-use Rattle.command_text.specs.Commands.{PlainCommand, Nothing, Unknown, Listing, Journal, command_of}
+use Rattle.command_text.specs.Commands.{PlainCommand, Nothing, Unknown, Listing, Journal}
 use Rattle.serving.specs.Bodies.{body_size}
-use Rattle.command_answers.specs.Answers.{after_command, answer_after}
-use Rattle.serving.specs.Requests.{is_lf, without_cr, requests_of}
-use Rattle.serving.specs.Answers.{after_requests, answers}
+use Rattle.serving.specs.Requests.{Request, is_lf, without_cr, requests_of}
+use Rattle.serving.specs.Answers.{IsAnswered, AreAnswered}
 
 -- whether bytes end where a line does: there are none, or the last one is LF
 abbrev pub ends_at_line : List ℕ → Bool
@@ -21,23 +20,34 @@ ends_at_line (b ∷ c ∷ bs) = ends_at_line (c ∷ bs)
 abbrev pub has_no_body : List ℕ → Bool
 has_no_body input = list_all (λ request. body_size request.line == 0) (requests_of input)
 
--- the history that an input leaves, where a history came before it
-abbrev pub history_after : PlainPlant → List Event → List ℕ → List Event
-history_after plant history input = after_requests plant history (requests_of input)
+-- an input may be answered a text after a history, and leave another history then
+abbrev pub IsPlayed : PlainPlant → List Event → List ℕ → List Event → List ℕ → Type 0
+IsPlayed plant history input after text = AreAnswered plant history (requests_of input) after text
 
--- all that is written for an input, where a history came before it
-abbrev pub text_after : PlainPlant → List Event → List ℕ → List ℕ
-text_after plant history input = answers plant history (requests_of input)
+-- an input may be answered a text after a history, and leave another history then, and more from there
+pub record ArePlayed (plant : PlainPlant) (history : List Event) (past more : List ℕ) (after : List Event) (text : List ℕ) : Type 0 where
+  pub middle : List Event
+  pub first : List ℕ
+  pub rest : List ℕ
+  pub past_is : IsPlayed plant history past middle first
+  pub more_is : IsPlayed plant middle more after rest
+  pub text_is : text ≡ first ++ rest
 
--- an input and more after it: text and history are those of the first, and then those of the rest from the history that the first leaves
-pub record GoesOn (plant : PlainPlant) (history : List Event) (past more : List ℕ) : Type 0 where
-  pub text_is : text_after plant history (past ++ more) ≡ text_after plant history past ++ text_after plant (history_after plant history past) more
-  pub history_is : history_after plant history (past ++ more) ≡ history_after plant (history_after plant history past) more
+-- an input and more after it: what both may be answered is what the first may be, and then what the rest may be from the history that the first leaves; and so back
+pub record GoesOn (plant : PlainPlant) (history : List Event) (past more : List ℕ) (after : List Event) (text : List ℕ) : Type 0 where
+  pub apart : IsPlayed plant history (past ++ more) after text → ArePlayed plant history past more after text
+  pub together : ArePlayed plant history past more after text → IsPlayed plant history (past ++ more) after text
 
 -- two histories leave a plant alike: with the same state and the same journal
 pub record LeaveAlike (plant : PlainPlant) (h k : List Event) : Type 0 where
   pub state_is : system plant h ≡ system plant k
   pub journal_is : journal_of plant h ≡ journal_of plant k
+
+-- an input may be answered a text after a history, and leave another history then that leaves the plant alike
+pub record IsPlayedAlike (plant : PlainPlant) (history : List Event) (input : List ℕ) (after : List Event) (text : List ℕ) : Type 0 where
+  pub end : List Event
+  pub played : IsPlayed plant history input end text
+  pub alike : LeaveAlike plant after end
 
 -- whether a command only asks: it adds no event in any state
 abbrev pub only_asks : PlainCommand → Bool
@@ -47,17 +57,26 @@ only_asks Listing = true
 only_asks Journal = true
 only_asks _ = false
 
--- what a line asks for, by its bytes before the LF
-abbrev pub asked_in : List ℕ → PlainCommand
-asked_in line = command_of (without_cr line)
+-- the request of a line and of the bytes after its LF
+abbrev pub request_of : (line body : List ℕ) → Request
+request_of line body = record { line = without_cr line; body = body }
 
--- a line adds no event after a history
-abbrev pub AddsNothing : PlainPlant → List Event → List ℕ → Type 0
-AddsNothing plant history line = after_command plant history (asked_in line) ≡ history
+-- a request adds no event after a history, whatever it is answered
+abbrev pub AddsNothing : PlainPlant → List Event → Request → Type 0
+AddsNothing plant history request = (after : List Event) (text : List ℕ) → IsAnswered plant history request after text → after ≡ history
 
--- a line with its body between an input and more: what is written is its own answer, and the text of the others as it is without it, and the history is that of the others
-pub record CanBeLeftOut (plant : PlainPlant) (history : List Event) (past line body more : List ℕ) : Type 0 where
-  pub text_is : text_after plant history (past ++ (line ++ 10 ∷ (body ++ more)))
-      ≡ text_after plant history past ++ (answer_after plant (history_after plant history past) (asked_in line) ++ text_after plant (history_after plant history past) more)
-  pub others_are : text_after plant history (past ++ more) ≡ text_after plant history past ++ text_after plant (history_after plant history past) more
-  pub history_is : history_after plant history (past ++ (line ++ 10 ∷ (body ++ more))) ≡ history_after plant history (past ++ more)
+-- a request adds no event after any history that an input leaves
+abbrev pub AddsNothingAfter : PlainPlant → List Event → List ℕ → Request → Type 0
+AddsNothingAfter plant history past request = (middle : List Event) (first : List ℕ) → IsPlayed plant history past middle first → AddsNothing plant middle request
+
+-- a request between an input and more that was answered: what is written is its own answer, and the text that the others may be answered without it, and the history is one that those leave
+pub record CanBeLeftOut (plant : PlainPlant) (history : List Event) (past : List ℕ) (request : Request) (more : List ℕ) (after : List Event) (text : List ℕ) : Type 0 where
+  pub middle : List Event
+  pub first : List ℕ
+  pub own : List ℕ
+  pub rest : List ℕ
+  pub past_is : IsPlayed plant history past middle first
+  pub own_is : IsAnswered plant middle request middle own
+  pub more_is : IsPlayed plant middle more after rest
+  pub text_is : text ≡ first ++ (own ++ rest)
+  pub others_are : IsPlayed plant history (past ++ more) after (first ++ rest)

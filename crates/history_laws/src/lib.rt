@@ -17,10 +17,11 @@ ghost use Rattle.plant_system.specs.System.{system};
 ghost use Rattle.engine.specs.Journal.{NamedRow, ChangeOf, journal_of};
 ghost use Rattle.command_answers.specs.Listings.{state_lines, list_text};
 ghost use Rattle.serving.specs.Bodies.{body_size};
-ghost use Rattle.serving.specs.Requests.{has_lf, without_cr, begun_request};
+ghost use Rattle.serving.specs.Requests.{Request, asked_by, has_lf, without_cr, begun_request, requests_of};
+ghost use Rattle.serving.specs.Answers.{after_requests, answers};
 ghost use Rattle.serving.specs.Session.{out_text};
 ghost use Rattle.history_laws.specs.Told.{last_code, told_lines, told_list};
-ghost use Rattle.history_laws.specs.Records.{ends_at_line, has_no_body, history_after, text_after, GoesOn, LeaveAlike, AddsNothing, only_asks, asked_in, CanBeLeftOut};
+ghost use Rattle.history_laws.specs.Records.{ends_at_line, has_no_body, IsPlayed, GoesOn, LeaveAlike, IsPlayedAlike, AddsNothing, AddsNothingAfter, only_asks, request_of, CanBeLeftOut};
 
 /// The code of each alarm is the one to which the last change of its tag in the journal leads, and NORM where the journal has no change of it.
 /// And each change goes from the code that the rows before it tell, so none is missing between two.
@@ -38,13 +39,19 @@ pub fn journal_makes_list()
     ensures text { (plant : PlainPlant) (history : List Event) → IsPlant plant → list_text (system plant history) ≡ told_list plant (journal_of plant history) }
 {}
 
+/// What an input leaves is one history, whatever it is answered.
+pub fn input_leaves_one_history()
+    ensures { (plant : PlainPlant) (history a b : List Event) (input s t : List ℕ) → IsPlayed plant history input a s → IsPlayed plant history input b t → a ≡ b }
+{}
+
 /// A record that ends at the end of a request, and more after it: both are answered as the record is, and then the rest from the history that the
-/// record leaves, which with the rest leaves the history of both. States and journal are those of a history, so who plays a record again has the
-/// states in which it ended, and goes on as if there had been no end.
+/// record leaves, which with the rest leaves the history of both. States and journal are those of a history, and a record leaves one history
+/// (`input_leaves_one_history`), so who plays a record again has the states in which it ended, and goes on as if there had been no end.
 pub fn record_plays_again()
     ensures start { (plant : PlainPlant) (past more : List ℕ) → begun_request past ≡ []
-        → out_text plant (past ++ more) ≡ out_text plant past ++ text_after plant (history_after plant [] past) more }
-    ensures anywhere { (plant : PlainPlant) (history : List Event) (past more : List ℕ) → begun_request past ≡ [] → GoesOn plant history past more }
+        → out_text plant (past ++ more) ≡ out_text plant past ++ answers plant (after_requests plant [] (requests_of past)) (requests_of more) }
+    ensures anywhere { (plant : PlainPlant) (history : List Event) (past more : List ℕ) → begun_request past ≡ []
+        → (after : List Event) (text : List ℕ) → GoesOn plant history past more after text }
 {}
 
 /// A record that ends at the end of a line, and of which no line tells of bytes after it, ends at the end of a request. No command tells of
@@ -54,17 +61,19 @@ pub fn lines_end_requests()
     ensures none { (past : List ℕ) → has_no_body past ≡ true }
 {}
 
-/// What comes of an input depends on the state and the journal alone: where two histories leave a plant alike, every input is answered alike
-/// after both, and they still leave it alike.
+/// What comes of an input depends on the state and the journal alone: where two histories leave a plant alike, every input may be answered after
+/// the one what it may be answered after the other, and they still leave it alike.
 pub fn state_decides_answers()
-    ensures text { (plant : PlainPlant) (h k : List Event) → LeaveAlike plant h k → (input : List ℕ) → text_after plant h input ≡ text_after plant k input }
-    ensures after { (plant : PlainPlant) (h k : List Event) → LeaveAlike plant h k → (input : List ℕ) → LeaveAlike plant (history_after plant h input) (history_after plant k input) }
+    ensures { (plant : PlainPlant) (h k : List Event) → LeaveAlike plant h k
+        → (input : List ℕ) (after : List Event) (text : List ℕ) → IsPlayed plant h input after text → IsPlayedAlike plant k input after text }
 {}
 
 /// A line of a record that added no event may be left out of it, with the bytes that it tells of: all other requests are answered as with it, and
 /// leave the same history. Lines that only ask, as `list` does, never add one.
 pub fn lines_without_event_can_be_left_out()
     ensures left_out { (plant : PlainPlant) (history : List Event) (past line body more : List ℕ) → begun_request past ≡ [] → has_lf line ≡ false → length body ≡ body_size (without_cr line)
-        → AddsNothing plant (history_after plant history past) line → CanBeLeftOut plant history past line body more }
-    ensures asks { (plant : PlainPlant) (history : List Event) (line : List ℕ) → only_asks (asked_in line) ≡ true → AddsNothing plant history line }
+        → AddsNothingAfter plant history past (request_of line body)
+        → (after : List Event) (text : List ℕ) → IsPlayed plant history (past ++ (line ++ 10 ∷ (body ++ more))) after text
+        → CanBeLeftOut plant history past (request_of line body) more after text }
+    ensures asks { (plant : PlainPlant) (history : List Event) (request : Request) → only_asks (asked_by request) ≡ true → AddsNothing plant history request }
 {}

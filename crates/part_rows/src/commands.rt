@@ -4,7 +4,7 @@ use crate::printing::{bytes_of, push_byte};
 use alarm_machine::{Change, Code, OrderFault};
 use command_text::{
     Command, Pool, push_alarm, push_done, push_fault, push_out, push_refused, push_reply,
-    read_command,
+    read_command, reload_size, reload_sizes,
 };
 use plant_types::{Given, Trap, Value};
 use row_text::Page;
@@ -61,6 +61,29 @@ pub fn push_command(alloc: Global, page: &mut Page, words: &str) {
     }
     match bytes_of(alloc, words) {
         Ok(line) => push_read(alloc, page, &mut pool, line.as_slice()),
+        Err(_) => page.refuse(),
+    }
+}
+
+/// Adds how many bytes come after a line, and the sizes that it gives; `-` where it gives none.
+fn push_sizes(page: &mut Page, line: &[u8]) {
+    page.number(reload_size(line) as i128);
+    match reload_sizes(line) {
+        Some(sizes) => {
+            page.number(i128::from(sizes.plant()));
+            page.number(i128::from(sizes.alarms()));
+            for size in sizes.sources() {
+                page.number(i128::from(*size));
+            }
+        }
+        None => page.word("-"),
+    }
+}
+
+/// How many bytes come after a line, and the sizes that it gives.
+pub fn push_reload(alloc: Global, page: &mut Page, words: &str) {
+    match bytes_of(alloc, words) {
+        Ok(line) => push_sizes(page, line.as_slice()),
         Err(_) => page.refuse(),
     }
 }

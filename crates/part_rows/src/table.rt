@@ -5,7 +5,7 @@ use crate::banks::push_bank;
 use crate::blocks::{push_edges, push_off_delay, push_on_delay};
 use crate::choices::{push_chosen, push_statuses};
 use crate::codes::{push_cells, push_counts};
-use crate::commands::{push_command, push_lines};
+use crate::commands::{push_command, push_lines, push_reload};
 use crate::journals::{push_row, push_stamp};
 use crate::printing::{number_of, parts_of};
 use crate::sharing::push_shared;
@@ -52,6 +52,7 @@ fn push_other(alloc: Global, page: &mut Page, word: &str, rest: &str) {
         "row" => push_row(alloc, page, rest),
         "command" => push_command(alloc, page, rest),
         "lines" => push_lines(alloc, page),
+        "reload" => push_reload(alloc, page, rest),
         "choose" => push_chosen(alloc, page, rest),
         "statuses" => push_statuses(page),
         "copied" => push_copied(alloc, page),

@@ -8,19 +8,23 @@ use Rattle.serve_faults.specs.declared.fault.ServeFault.{ServeFault}
 use Rattle.serve_faults.specs.declared.fault.ServeFault.TheVariants as fault
 use Rattle.plant_service.specs.declared.service.RunEnd.TheVariants as run_end
 use Rattle.serving.specs.Requests.{ended_requests}
-use Rattle.serving.specs.Session.{StoppedBy}
+use Rattle.serving.specs.Session.{Answered, StoppedBy}
 use Rattle.plant_service.specs.Admits.{IsTold}
 use Rattle.plant_service.proofs.AdmitLaws.{IsQuiet}
 use Rattle.plant_service.specs.Services.{IsServed, IsStopped, IsRun}
 use Rattle.serving.proofs.SessionLaws.{answered-more, stopped-more}
 
+-- nothing was asked, and nothing written
+answered-nothing : (plant : PlainPlant) (w₀ w : Option (List ℕ)) → Appends w₀ w [] → Answered plant [] [] [] w₀ w
+answered-nothing plant w₀ w none = record { text = []; answered = (refl, refl); wrote = none }
+
 -- a session that a fault stopped, where nothing was written before it
 stopped-after : (e : ServeFault) (plant : PlainPlant) (remaining : Option (List ℕ)) (input : List ℕ) (history : List Event) (w₀ w w₁ : Option (List ℕ)) → Appends w₀ w []
     → StoppedBy e plant remaining input [] history w w₁ → StoppedBy e plant remaining input [] history w₀ w₁
-stopped-after fault.Read plant remaining input history w₀ w w₁ none s = answered-more plant [] (ended_requests input) [] [] history w₀ w w₁ (record { history_is = refl; wrote = none }) s
-stopped-after fault.Write plant remaining input history w₀ w w₁ none s = (s.0, s.1, stopped-more plant [] s.0 [] [] history w₀ w w₁ (record { history_is = refl; wrote = none }) s.2)
-stopped-after fault.Memory plant remaining input history w₀ w w₁ none s = (s.0, s.1, stopped-more plant [] s.0 [] [] history w₀ w w₁ (record { history_is = refl; wrote = none }) s.2)
-stopped-after fault.Crew plant remaining input history w₀ w w₁ none s = (s.0, s.1, stopped-more plant [] s.0 [] [] history w₀ w w₁ (record { history_is = refl; wrote = none }) s.2)
+stopped-after fault.Read plant remaining input history w₀ w w₁ none s = answered-more plant [] (ended_requests input) [] [] history w₀ w w₁ (answered-nothing plant w₀ w none) s
+stopped-after fault.Write plant remaining input history w₀ w w₁ none s = (s.0, s.1, stopped-more plant [] s.0 [] [] history w₀ w w₁ (answered-nothing plant w₀ w none) s.2)
+stopped-after fault.Memory plant remaining input history w₀ w w₁ none s = (s.0, s.1, stopped-more plant [] s.0 [] [] history w₀ w w₁ (answered-nothing plant w₀ w none) s.2)
+stopped-after fault.Crew plant remaining input history w₀ w w₁ none s = (s.0, s.1, stopped-more plant [] s.0 [] [] history w₀ w w₁ (answered-nothing plant w₀ w none) s.2)
 
 module _ (verdict : Option PlainPlant → List ℕ → Type 0) (quiet : IsQuiet verdict) (plant : PlainPlant) (r₀ r₁ w₀ w w₁ : Option (List ℕ)) (told : IsTold verdict w₀ w (Ok (Some plant))) where
   -- the plant was told of, and its session served
@@ -33,7 +37,11 @@ module _ (verdict : Option PlainPlant → List ℕ → Type 0) (quiet : IsQuiet 
           input = s.input;
           read = s.read;
           at_end = s.at_end;
-          wrote = Appends-trans w₀ w w₁ [] _ (subst (Appends w₀ w) bare told.2) s.wrote;
+          wrote = record {
+            text = s.wrote.text;
+            is_text = s.wrote.is_text;
+            wrote = Appends-trans w₀ w w₁ [] s.wrote.text (subst (Appends w₀ w) bare told.2) s.wrote.wrote;
+          };
         },
       )
 

@@ -7,15 +7,15 @@ use Rattle.plant_config.specs.Plants.{PlainPlant}
 use Rattle.serve_faults.specs.declared.fault.ServeFault.{ServeFault}
 use Rattle.plant_service.specs.declared.service.RunEnd.{RunEnd}
 use Rattle.plant_service.specs.declared.service.RunEnd.TheVariants as run_end
-use Rattle.serving.specs.Session.{StoppedBy, out_text}
+use Rattle.serving.specs.Session.{StoppedBy, HasServed}
 use Rattle.plant_service.specs.Admits.{IsTold}
 
--- all of the input was read, and what was written is the text that belongs to the plant and to its bytes
+-- all of the input was read, and what was written is a text that belongs to the plant and to its bytes: the one text, by the law `out_text_is_one`
 pub record IsServed (plant : PlainPlant) (r₀ r₁ w₀ w₁ : Option (List ℕ)) : Type 0 where
   pub input : List ℕ
   pub read : Consumes r₀ r₁ input
   pub at_end : IsAtEnd r₁
-  pub wrote : Appends w₀ w₁ (out_text plant input)
+  pub wrote : HasServed plant input w₀ w₁
 
 -- a fault stopped the session of the plant, which came as far in the input as it says
 pub record IsStopped (fault : ServeFault) (plant : PlainPlant) (r₀ r₁ w₀ w₁ : Option (List ℕ)) : Type 0 where

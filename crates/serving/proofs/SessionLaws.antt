@@ -1,33 +1,26 @@
 -- One part of a session after another.
 use Rattle.std.proofs.Common.{◌≡◌, ◌<◌, ◌≤◌, ℕ, zero, suc, List, length, [], ◌∷◌, ◌++◌, ap, refl, sym, ◌∙◌, arith, ◌⊎◌, inl, inr, append_assoc, append-nil, subst, take, Option, None, Some, IfSome}
-use Rattle.std.proofs.lemmas.List.Sums.{fold-append}
 use Rattle.std.specs.Io.KnownBytes.{Appends, Consumes, IsAtEnd}
 use Rattle.std.proofs.KnownBytes.{Appends-nil, Appends-trans, Consumes-trans}
 use Rattle.event_history.specs.declared.event.Event.{Event}
 use Rattle.plant_config.specs.Plants.{PlainPlant}
 use Rattle.command_text.specs.Commands.{command_of}
 use Rattle.command_answers.specs.Answers.{after_command, answer_after}
-use Rattle.serving.specs.Answers.{after_requests, answers}
+use Rattle.serving.specs.Answers.{IsAnswered, AreAnswered}
 use Rattle.serving.specs.Requests.{Request, asked_by, requests_of}
-use Rattle.serving.specs.Session.{Answered, Stopped, out_text}
-
-after_requests-append : (plant : PlainPlant) (h : List Event) (xs ys : List Request) → after_requests plant h (xs ++ ys) ≡ after_requests plant (after_requests plant h xs) ys
-after_requests-append plant h xs ys = fold-append (λ h request. after_command plant h (asked_by request)) h xs ys
-
-answers-append : (plant : PlainPlant) (h : List Event) (xs ys : List Request) → answers plant h (xs ++ ys) ≡ answers plant h xs ++ answers plant (after_requests plant h xs) ys
-answers-append plant h [] ys = refl
-answers-append plant h (x ∷ xs) ys = ap (λ (t : List ℕ). answer_after plant h (asked_by x) ++ t) (answers-append plant (after_command plant h (asked_by x)) xs ys) ∙ sym (append_assoc (answer_after plant h (asked_by x)) _ _)
+use Rattle.serving.specs.Session.{Answered, Stopped, HasServed}
+use Rattle.serving.proofs.AnswerLaws.{together, answered_one}
 
 -- nothing was asked
 pub answered-none : (plant : PlainPlant) (h : List Event) (w : Option (List ℕ)) → Answered plant [] h h w w
-answered-none plant h w = record { history_is = refl; wrote = Appends-nil w }
+answered-none plant h w = record { text = []; answered = (refl, refl); wrote = Appends-nil w }
 
 -- lines, and then more of them
 pub answered-more : (plant : PlainPlant) (xs ys : List Request) (h₀ h₁ h₂ : List Event) (w₀ w₁ w₂ : Option (List ℕ)) → Answered plant xs h₀ h₁ w₀ w₁ → Answered plant ys h₁ h₂ w₁ w₂ → Answered plant (xs ++ ys) h₀ h₂ w₀ w₂
 answered-more plant xs ys h₀ h₁ h₂ w₀ w₁ w₂ p q = record {
-  history_is = q.history_is ∙ ap (λ (h : List Event). after_requests plant h ys) p.history_is ∙ sym (after_requests-append plant h₀ xs ys);
-  wrote = subst (Appends w₀ w₂) (ap (λ (h : List Event). answers plant h₀ xs ++ answers plant h ys) p.history_is ∙ sym (answers-append plant h₀ xs ys))
-      (Appends-trans w₀ w₁ w₂ (answers plant h₀ xs) (answers plant h₁ ys) p.wrote q.wrote);
+  text = p.text ++ q.text;
+  answered = together plant h₀ h₁ h₂ xs ys p.text q.text p.answered q.answered;
+  wrote = Appends-trans w₀ w₁ w₂ p.text q.text p.wrote q.wrote;
 }
 
 -- lines, and then a stop within more of them
@@ -38,14 +31,13 @@ stopped-more plant xs ys h₀ h₁ h₂ w₀ w₁ w₂ p q = record {
   rest = q.rest;
   cut = ap (λ (ls : List Request). xs ++ ls) q.cut ∙ sym (append_assoc xs q.done _);
   one = q.one;
-  history_is = q.history_is ∙ ap (λ (h : List Event). after_requests plant h (q.done ++ q.last)) p.history_is ∙ sym (after_requests-append plant h₀ xs (q.done ++ q.last)) ∙ ap (after_requests plant h₀) (sym (append_assoc xs q.done q.last));
+  middle = q.middle;
+  text = p.text ++ q.text;
+  answered = together plant h₀ h₁ q.middle xs q.done p.text q.text p.answered q.answered;
   part = q.part;
   more = q.more;
-  within = ap (λ (h : List Event). answers plant h q.last) (after_requests-append plant h₀ xs q.done ∙ ap (λ (h : List Event). after_requests plant h q.done) (sym p.history_is)) ∙ q.within;
-  wrote = subst (Appends w₀ w₂)
-      (ap (λ (h : List Event). answers plant h₀ xs ++ (answers plant h q.done ++ q.part)) p.history_is
-      ∙ sym (append_assoc (answers plant h₀ xs) _ q.part) ∙ ap (λ (t : List ℕ). t ++ q.part) (sym (answers-append plant h₀ xs q.done)))
-      (Appends-trans w₀ w₁ w₂ (answers plant h₀ xs) (answers plant h₁ q.done ++ q.part) p.wrote q.wrote);
+  within = q.within;
+  wrote = subst (Appends w₀ w₂) (sym (append_assoc p.text q.text q.part)) (Appends-trans w₀ w₁ w₂ p.text (q.text ++ q.part) p.wrote q.wrote);
 }
 
 -- a stop, where more lines follow
@@ -56,7 +48,9 @@ stopped-longer plant xs ys h₀ h₁ w₀ w₁ q = record {
   rest = q.rest ++ ys;
   cut = ap (λ (ls : List Request). ls ++ ys) q.cut ∙ append_assoc q.done _ ys ∙ ap (λ (ls : List Request). q.done ++ ls) (append_assoc q.last q.rest ys);
   one = q.one;
-  history_is = q.history_is;
+  middle = q.middle;
+  text = q.text;
+  answered = q.answered;
   part = q.part;
   more = q.more;
   within = q.within;
@@ -71,21 +65,29 @@ stopped-none plant requests h₀ h₁ w e = record {
   rest = requests;
   cut = refl;
   one = omega arith;
-  history_is = e;
+  middle = h₀;
+  text = [];
+  answered = (refl, refl);
   part = [];
   more = [];
-  within = refl;
+  within = (e, refl);
   wrote = Appends-nil w;
 }
 
 -- ---- one request, by the line that was answered
 
+-- the answer to a line is that to a request which asks for the same
+is_answer : (plant : PlainPlant) (request : Request) (line text : List ℕ) (h₀ h₁ : List Event) → asked_by request ≡ command_of line
+    → h₁ ≡ after_command plant h₀ (command_of line) → text ≡ answer_after plant h₀ (command_of line) → IsAnswered plant h₀ request h₁ text
+is_answer plant request line text h₀ h₁ e h t = (h ∙ ap (after_command plant h₀) (sym e), t ∙ ap (answer_after plant h₀) (sym e))
+
 -- a request took effect, and its answer is written
 pub answered-line : (plant : PlainPlant) (request : Request) (line text : List ℕ) (h₀ h₁ : List Event) (w₀ w₁ : Option (List ℕ)) → asked_by request ≡ command_of line
     → h₁ ≡ after_command plant h₀ (command_of line) → text ≡ answer_after plant h₀ (command_of line) → Appends w₀ w₁ text → Answered plant (request ∷ []) h₀ h₁ w₀ w₁
 answered-line plant request line text h₀ h₁ w₀ w₁ e h t w = record {
-  history_is = h ∙ ap (after_command plant h₀) (sym e);
-  wrote = subst (Appends w₀ w₁) (t ∙ ap (answer_after plant h₀) (sym e) ∙ sym (append-nil (answer_after plant h₀ (asked_by request)))) w;
+  text = text;
+  answered = answered_one plant h₀ h₁ request text (is_answer plant request line text h₀ h₁ e h t);
+  wrote = w;
 }
 
 -- a request took effect, and a part of its answer is written
@@ -97,10 +99,12 @@ stopped-line plant request line part more h₀ h₁ w₀ w₁ e h t w = record {
   rest = [];
   cut = refl;
   one = omega arith;
-  history_is = h ∙ ap (after_command plant h₀) (sym e);
+  middle = h₀;
+  text = [];
+  answered = (refl, refl);
   part = part;
   more = more;
-  within = append-nil (answer_after plant h₀ (asked_by request)) ∙ ap (answer_after plant h₀) e ∙ t;
+  within = answered_one plant h₀ h₁ request (part ++ more) (is_answer plant request line (part ++ more) h₀ h₁ e h (sym t));
   wrote = w;
 }
 
@@ -134,7 +138,7 @@ with_known None P input e p = tt
 with_known (Some xs) P input e p = subst P e p
 
 pub text_is : (plant : PlainPlant) (a b : Option (List ℕ)) (input : List ℕ) (h₀ h₁ : List Event) (w₀ w₁ : Option (List ℕ)) → Consumes a b input → IsAtEnd b → Answered plant (requests_of input) h₀ h₁ w₀ w₁
-    → h₀ ≡ [] → IfSome a (λ bytes. Appends w₀ w₁ (out_text plant bytes))
+    → h₀ ≡ [] → IfSome a (λ bytes. HasServed plant bytes w₀ w₁)
 text_is plant a b input h₀ h₁ w₀ w₁ p q r e =
-    with_known a (λ bytes. Appends w₀ w₁ (out_text plant bytes)) input (known a b input p q)
-    (subst (λ (h : List Event). Appends w₀ w₁ (answers plant h (requests_of input))) e r.wrote)
+    with_known a (λ bytes. HasServed plant bytes w₀ w₁) input (known a b input p q)
+    (record { text = r.text; is_text = (h₁, subst (λ (h : List Event). AreAnswered plant h (requests_of input) h₁ r.text) e r.answered); wrote = r.wrote })

@@ -9,16 +9,27 @@ use Rattle.serve_faults.specs.declared.fault.ServeFault.{ServeFault}
 use Rattle.serve_faults.specs.declared.fault.ServeFault.TheVariants as fault
 use Rattle.serve_faults.specs.Faults.{is_read, is_write}
 use Rattle.serving.specs.Requests.{Request, has_lf, ended_from, begun_from, ended_requests, requests_of}
-use Rattle.serving.specs.Answers.{after_requests, answers}
+use Rattle.serving.specs.Answers.{AreAnswered, answers}
 
 -- all that the server writes for an input, where no event came before it
 abbrev pub out_text : PlainPlant → List ℕ → List ℕ
 out_text plant input = answers plant [] (requests_of input)
 
+-- a text is all that the server may write for an input, where no event came before it
+abbrev pub IsOutText : PlainPlant → (input text : List ℕ) → Type 0
+IsOutText plant input text = (after : List Event) × AreAnswered plant [] (requests_of input) after text
+
+-- such a text was written for an input, and nothing else was
+pub record HasServed (plant : PlainPlant) (input : List ℕ) (w₀ w₁ : Option (List ℕ)) : Type 0 where
+  pub text : List ℕ
+  pub is_text : IsOutText plant input text
+  pub wrote : Appends w₀ w₁ text
+
 -- all these requests took effect, their answers were written, and nothing else was
 pub record Answered (plant : PlainPlant) (requests : List Request) (h₀ h₁ : List Event) (w₀ w₁ : Option (List ℕ)) : Type 0 where
-  pub history_is : h₁ ≡ after_requests plant h₀ requests
-  pub wrote : Appends w₀ w₁ (answers plant h₀ requests)
+  pub text : List ℕ
+  pub answered : AreAnswered plant h₀ requests h₁ text
+  pub wrote : Appends w₀ w₁ text
 
 -- the first of these requests took effect, and their answers were written; of the last one's answer perhaps only a part
 pub record Stopped (plant : PlainPlant) (requests : List Request) (h₀ h₁ : List Event) (w₀ w₁ : Option (List ℕ)) : Type 0 where
@@ -27,11 +38,13 @@ pub record Stopped (plant : PlainPlant) (requests : List Request) (h₀ h₁ : L
   pub rest : List Request
   pub cut : requests ≡ done ++ (last ++ rest)
   pub one : length last ≤ 1
-  pub history_is : h₁ ≡ after_requests plant h₀ (done ++ last)
+  pub middle : List Event
+  pub text : List ℕ
+  pub answered : AreAnswered plant h₀ done middle text
   pub part : List ℕ
   pub more : List ℕ
-  pub within : answers plant (after_requests plant h₀ done) last ≡ part ++ more
-  pub wrote : Appends w₀ w₁ (answers plant h₀ done ++ part)
+  pub within : AreAnswered plant middle last h₁ (part ++ more)
+  pub wrote : Appends w₀ w₁ (text ++ part)
 
 -- the requests read so far: those that have ended, and at the end of the input its last one too
 abbrev pub AreRead : Option (List ℕ) → List ℕ → List Request → Type 0

@@ -1,10 +1,10 @@
 ghost use Rattle.std.specs.Prelude.{◌≡◌, ◌≤◌, ◌-◌, ◌++◌, [], ◌∷◌, IfOk, IfErr, OnOk, OnErr, IsErrOf, MatchOption, IfSome, List, ℕ, length, take, false, ◌<◌};
-ghost use Rattle.std.specs.Io.KnownBytes.{Appends, Consumes, IsAtEnd};
+ghost use Rattle.std.specs.Io.KnownBytes.{Consumes, IsAtEnd};
 ghost use Rattle.command_text.specs.Commands.{command_of};
 ghost use Rattle.serving.specs.Requests.{Request, asked_by, has_lf, line_in, without_cr, last_request, ended_from, begun_from, requests_of};
 ghost use Rattle.serve_faults.specs.Faults.{crew_faults, is_read, is_write};
 ghost use Rattle.serving.specs.Missing.{AreMissing};
-ghost use Rattle.serving.specs.Session.{Answered, Stopped, Serves, Takes, Continues, IsHeld, HasGone, StoppedBy, Goes, Ends, Stops, out_text};
+ghost use Rattle.serving.specs.Session.{Answered, Stopped, Serves, Takes, Continues, IsHeld, HasGone, StoppedBy, Goes, Ends, Stops, HasServed};
 
 use crate::body::body_size;
 use byte_streams::{Feed, Sink, empty_piece, fill};
@@ -424,8 +424,8 @@ pub fn serve<H: Wait, C: Crew<Job, Start, Done, H>, F: Feed, S: Sink>(
     ensures ok { OnOk result ((input : List ℕ) × Consumes (F.remaining feed.old) (F.remaining feed.new) input × IsAtEnd (F.remaining feed.new)
         × Answered engine.old.plant (requests_of input) engine.old.history engine.new.history (S.written sink.old) (S.written sink.new)) }
 
-    // Before the first event: what was written is the text that belongs to the plant and to the bytes of the feed.
-    ensures text { OnOk result (engine.old.history ≡ [] → IfSome (F.remaining feed.old) (λ bytes. Appends (S.written sink.old) (S.written sink.new) (out_text engine.old.plant bytes))) }
+    // Before the first event: what was written is the text that belongs to the plant and to the bytes of the feed (`out_text_is_one`).
+    ensures text { OnOk result (engine.old.history ≡ [] → IfSome (F.remaining feed.old) (λ bytes. HasServed engine.old.plant bytes (S.written sink.old) (S.written sink.new))) }
 
     // After an error: how far it came by the time of this fault. Where a read failed, all requests that had ended are answered; where a write,
     // an allocation or the crew failed, a beginning of those that were read took effect, and all their answers were written but for a part of the

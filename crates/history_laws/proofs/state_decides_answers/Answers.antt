@@ -1,5 +1,5 @@
-use Rattle.history_laws.proofs.Playing.{text_alike, history_alike}
+use Rattle.history_laws.proofs.Playing.{played_alike}
 use Rattle.history_laws.proofs.state_decides_answers.Goals as goal
 
 pub returns : goal.returns
-returns c = record { text = text_alike; after = history_alike }
+returns c = played_alike

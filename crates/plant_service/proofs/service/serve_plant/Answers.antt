@@ -7,7 +7,7 @@ use Rattle.plant_service.proofs.service.serve_plant.Goals as goal
 pub returns-in-Ok-clause-ok : goal.returns-in-Ok-clause-ok
 returns-in-Ok-clause-ok g c =
     let done = rw (c.in-Ok.ensures.0, c.in-Ok.ensures.1) at c.serve-ended.ensures.ok in
-    on_ok_weaker c.serve-ended.result (λ a. record { input = a.0; read = a.1; at_end = a.2; wrote = a.3.wrote }) done
+    on_ok_weaker c.serve-ended.result (λ a. record { input = a.0; read = a.1; at_end = a.2; wrote = record { text = a.3.text; is_text = (c.serve-ended.new.engine.history, a.3.answered); wrote = a.3.wrote } }) done
 
 pub returns-in-Ok-clause-err : goal.returns-in-Ok-clause-err
 returns-in-Ok-clause-err g c =
