@@ -1,4 +1,4 @@
-use Rattle.std.proofs.Common.{◌≡◌, ◌<◌, ◌+◌, arith, List}
+use Rattle.std.proofs.Common.{arith}
 use Rattle.std.specs.HashMap.{hash_map_len}
 use Rattle.plant_logic.specs.Layout.{all_clocks}
 use Rattle.plant_logic.specs.Ranges.{all_kinds}

@@ -1,4 +1,4 @@
-use Rattle.std.proofs.Common.{◌≡◌, ◌∙◌, ◌+◌, ap, sym, subst, List, [], ◌∷◌, ◌++◌, ◌<◌, length, FitsSigned, w64, rules, arith, ℕ, pos}
+use Rattle.std.proofs.Common.{◌≡◌, ◌∙◌, ap, sym, subst, [], ◌∷◌, ◌++◌, ◌<◌, length, FitsSigned, w64, rules, arith, ℕ, pos}
 use Rattle.std.proofs.lemmas.Int.{to_z-of_z}
 use Rattle.carried_cells.specs.Keeping.{AreCarried}
 use Rattle.carried_cells.proofs.Copying.{carried_none, carried_step}

@@ -1,20 +1,17 @@
-use Rattle.std.proofs.Common.{◌≡◌, ◌∙◌, ◌+◌, ◌-◌, ◌<◌, ◌++◌, ℕ, suc, List, [], ◌∷◌, Some, None, take, length, slice_get, slice_index_or, arith, append-nil, ap, sym, subst, refl}
+use Rattle.std.proofs.Common.{◌≡◌, ◌∙◌, ◌+◌, ◌-◌, ◌<◌, ◌++◌, suc, List, [], ◌∷◌, Some, None, length, slice_get, slice_index_or, arith, append-nil, ap, sym, subst, refl}
 use Rattle.std.proofs.lemmas.Result.{on_ok_weaker}
 use Rattle.std.proofs.lemmas.Option.{slice_get-get_or}
 use Rattle.plant_types.specs.Words.{folded}
-use Rattle.plant_logic.specs.declared.logic.BlockRef.{BlockRef}
-use Rattle.plant_logic.specs.declared.logic.BlockRef.TheVariants.{Ton, Declared}
+use Rattle.plant_logic.specs.declared.logic.BlockRef.TheVariants.{Ton}
 use Rattle.plant_logic.specs.declared.logic.Instance.{Instance}
-use Rattle.plant_logic.specs.Source.{PlainRoutine}
-use Rattle.plant_logic.specs.Worlds.{Path}
-use Rattle.plant_logic.specs.Layout.{ClockAt, block_clocks, instance_clocks, clocks_rule}
-use Rattle.plant_logic.specs.Ranges.{KindAt, local_kinds, row_kinds, own_kinds, block_kinds, instance_kinds, kinds_rule}
+use Rattle.plant_logic.specs.Layout.{block_clocks, instance_clocks, clocks_rule}
+use Rattle.plant_logic.specs.Ranges.{local_kinds, row_kinds, own_kinds, block_kinds, instance_kinds, kinds_rule}
 use Rattle.carried_cells.specs.declared.words.Own.{Own}
 use Rattle.carried_cells.specs.declared.words.OwnRow.{OwnRow}
 use Rattle.carried_cells.specs.declared.words.Part.{Part}
 use Rattle.carried_cells.specs.Marks.{is_marked}
 use Rattle.carried_cells.specs.Shapes.{AreOwn, AreRows, AreParts}
-use Rattle.carried_cells.specs.Lists.{Lists, Adds, numbers_in}
+use Rattle.carried_cells.specs.Lists.{Adds, numbers_in}
 use Rattle.carried_cells.proofs.Tables.{grows_none, at_later}
 use Rattle.carried_cells.proofs.Naming.{shape_at, shapes_count}
 use Rattle.carried_cells.proofs.Listing.{lists_none, lists_grown, path_below}
