@@ -3,7 +3,7 @@
 use crate::copies::{Copies, keep_sources};
 use crate::greeting::greet;
 use crate::missing::why_missing;
-use plant_config::{ConfigFault, Plant};
+use plant_config::{ConfigFault, Observer, Plant, Unit};
 use plant_explain::{explain_all, warn};
 use plant_service::{Folder, Listener, PlantTexts, listing};
 use statement_places::statement_table;
@@ -71,6 +71,10 @@ impl<'a, R: Files> Telling<'a, R> {
         tell_text(rt, &self.listing);
         tell_text(rt, &self.text);
     }
+}
+
+impl<'a, R: Files> Observer for Telling<'a, R> {
+    fn typed(&mut self, _alloc: Global, _sources: &[(&str, &[u8])], _units: &[Unit]) {}
 }
 
 impl<'a, R: Files + Eprint> Listener for Telling<'a, R> {
