@@ -3,8 +3,8 @@
 use crate::copies::{Copies, keep_sources};
 use crate::greeting::greet;
 use crate::missing::why_missing;
-use plant_config::{ConfigFault, Plant};
-use plant_explain::{explain_all, warn};
+use plant_config::{ConfigFault, Observer, Plant, Unit};
+use plant_explain::{Warner, explain_all, warn};
 use plant_service::{Folder, Listener, PlantTexts, listing};
 use statement_places::statement_table;
 use std::alloc::{AllocError, Global};
@@ -49,6 +49,8 @@ fn told_of_plant(
 pub struct Telling<'a, R: Files> {
     rt: &'a R,
     of_accepted: OfAccepted<'a>,
+    /// Who saw the plant's sources, where warnings are asked for.
+    warner: Option<Warner>,
     /// What there is in the plant; `None` where that isn't to be told, or where memory was refused for it.
     listing: Option<String>,
     /// What else is to be told, likewise.
@@ -61,6 +63,7 @@ impl<'a, R: Files> Telling<'a, R> {
         Telling {
             rt,
             of_accepted,
+            warner: None,
             listing: None,
             text: None,
         }
@@ -73,6 +76,16 @@ impl<'a, R: Files> Telling<'a, R> {
     }
 }
 
+impl<'a, R: Files> Observer for Telling<'a, R> {
+    fn typed(&mut self, alloc: Global, sources: &[(&str, &[u8])], units: &[Unit]) {
+        if let OfAccepted::Warnings | OfAccepted::Listing = self.of_accepted {
+            let mut warner = Warner::new();
+            warner.typed(alloc, sources, units);
+            self.warner = Some(warner);
+        }
+    }
+}
+
 impl<'a, R: Files + Eprint> Listener for Telling<'a, R> {
     fn accepted(&mut self, alloc: Global, texts: &PlantTexts<'_>, plant: &Plant) {
         match self.of_accepted {
@@ -81,11 +94,11 @@ impl<'a, R: Files + Eprint> Listener for Telling<'a, R> {
                 keep_sources(alloc, kept, texts);
                 greet(self.rt, "scan 0");
             }
-            OfAccepted::Warnings => self.text = warn(alloc, texts, plant).ok(),
-            OfAccepted::Listing => {
-                self.listing = told_of_plant(alloc, texts, plant).ok();
-                self.text = warn(alloc, texts, plant).ok();
-            }
+            OfAccepted::Warnings => {}
+            OfAccepted::Listing => self.listing = told_of_plant(alloc, texts, plant).ok(),
+        }
+        if let Some(warner) = self.warner.take() {
+            self.text = warn(alloc, texts, plant, warner).ok();
         }
     }
 

@@ -1,8 +1,9 @@
 //! Statements are gone through.
 
 use crate::looking::Looking;
+use crate::places::Sought;
 use plant_types::{Region, Text};
-use source_trees::{Cursor, Sought, Step, mark_of};
+use source_trees::{Cursor, Step, mark_of};
 use st_parser::Sort;
 use st_tree::{Argument, Binary, Choice, Expr, Label};
 
@@ -55,26 +56,28 @@ impl<'p> Looking<'p> {
         let Some(source) = self.sources.get(source) else {
             return;
         };
-        let line = Cursor::line_of(source.text, at).to_string(self.alloc);
+        let line = Cursor::line_of(source.1, at).to_string(self.alloc);
         if let Some(line) = self.got(line) {
             let text =
                 "another program assigns the output @ too, in line % of %: the value of the program that runs last stays";
-            let words = [line.as_str(), source.name];
+            let words = [line.as_str(), source.0];
             self.warn(mark_of(name), text, (name.as_str(), &words));
         }
     }
 
-    /// Notes that a variable is read.
-    fn read(&mut self, name: &Text) {
-        self.cursor.pass_name(name);
-        self.note_read(name.as_str());
+    /// Goes past the name of a variable that is read; returns the number of its entry.
+    fn read(&mut self, name: &Text) -> usize {
+        self.pass(name);
+        let number = self.find(name.as_str()).unwrap_or(self.uses.len());
+        if let Some(uses) = self.uses.get_mut(number) {
+            uses.is_read = true;
+        }
+        number
     }
 
-    /// Goes through the name and the index of an element, and tells of an index that is a literal outside of the bounds of the array.
+    /// Goes through the index of an element of the array of an entry, and tells of an index that is a literal outside of the bounds of the array.
     #[cycle(expressions)]
-    fn element(&mut self, name: &Text, index: &Expr<Text>) {
-        let number = self.cursor.pass_name(name);
-        let array = self.find(name.as_str()).unwrap_or(self.entries.len());
+    fn element(&mut self, array: usize, name: &Text, index: &Expr<Text>) {
         let sort = self.entries.get(array).and_then(|entry| entry.sort());
         if let (Some(Sort::Array(bounds, _)), Expr::Literal(literal)) = (sort, index) {
             let (at, low, high, word) = (literal.worth(), bounds.low, bounds.high, name.as_str());
@@ -83,48 +86,46 @@ impl<'p> Looking<'p> {
                     "{word}[{at}] is outside {low}..{high}, and traps here"
                 );
                 if let Some(said) = self.got(said) {
-                    let mark = self.cursor.mark(number);
-                    self.warn(mark, "%", ("", &[said.as_str()]));
+                    self.warn(mark_of(name), "%", ("", &[said.as_str()]));
                 }
             }
         }
         self.expr(index);
-        self.cursor.pass(Sought::CloseBracket);
     }
 
     /// Goes through an expression, and tells where it divides by a literal 0.
     #[cycle(expressions)]
     fn expr(&mut self, expr: &Expr<Text>) {
         match expr {
-            Expr::Literal(_) => {
-                self.cursor.pass(Sought::Literal);
+            Expr::Literal(_) => self.passed.literals = self.passed.literals.saturating_add(1),
+            Expr::Read(name) | Expr::Output(name, _) => {
+                self.read(name);
             }
-            Expr::Read(name) | Expr::Output(name, _) => self.read(name),
             Expr::Element(name, _, index) => {
-                self.note_read(name.as_str());
-                self.element(name, index);
+                let array = self.read(name);
+                self.element(array, name, index);
             }
             Expr::Unary(_, a) => self.expr(a),
             Expr::Binary(op, a, b) => {
                 self.expr(a);
-                let number = self.cursor.pass(Sought::Infix);
+                if matches!(op, Binary::Divide | Binary::Mod) {
+                    self.division(b);
+                }
                 self.expr(b);
-                self.division(*op, number, b);
             }
         }
     }
 
-    /// Tells of an operator at the token of a number that divides by a literal 0.
-    fn division(&mut self, op: Binary, number: usize, divisor: &Expr<Text>) {
-        let is_zero = match divisor {
-            Expr::Literal(literal) => literal.worth() == 0,
-            _ => false,
-        };
-        if is_zero && matches!(op, Binary::Divide | Binary::Mod) {
-            let mark = self.cursor.mark(number);
-            let text =
-                "nothing is divided by 0: this stops the program in each scan that comes here";
-            self.warn(mark, text, ("", &[]));
+    /// Goes past an operator that divides, and tells where it does by a literal 0.
+    fn division(&mut self, divisor: &Expr<Text>) {
+        let number = self.passed.divisions;
+        self.passed.divisions = number.saturating_add(1);
+        if let Expr::Literal(literal) = divisor {
+            if literal.worth() == 0 {
+                let text =
+                    "nothing is divided by 0: this stops the program in each scan that comes here";
+                self.warn_behind(Sought::Division, number, text);
+            }
         }
     }
 
@@ -132,11 +133,11 @@ impl<'p> Looking<'p> {
     fn argument(&mut self, argument: &Argument<Text>) {
         match argument {
             Argument::Input(name, expr) => {
-                self.cursor.pass_name(name);
+                self.pass(name);
                 self.expr(expr);
             }
             Argument::Output(_, name) => {
-                self.cursor.pass_name(name);
+                self.pass(name);
                 self.assign(name);
             }
         }
@@ -148,12 +149,12 @@ impl<'p> Looking<'p> {
             return;
         };
         for (before, label) in choice.labels.iter().enumerate() {
-            let token = self.cursor.pass_label();
+            let literal = self.passed.literals;
+            self.passed.literals = literal.saturating_add(1);
             if is_double(choices, (number, before), *label) {
-                let mark = self.cursor.mark(token);
                 let text =
                     "a label with this number stands before in this CASE, and what stands there runs";
-                self.warn(mark, text, ("", &[]));
+                self.warn_behind(Sought::Literal, literal, text);
             }
         }
     }
@@ -162,17 +163,19 @@ impl<'p> Looking<'p> {
     pub fn step(&mut self, step: Step<'_>) {
         match step {
             Step::Assign(name, expr) => {
-                self.cursor.pass_name(name);
+                self.pass(name);
                 self.assign(name);
                 self.expr(expr);
             }
             Step::Store(array, index, value) => {
+                self.pass(array);
                 self.assign(array);
-                self.element(array, index);
+                let number = self.find(array.as_str()).unwrap_or(self.uses.len());
+                self.element(number, array, index);
                 self.expr(value);
             }
             Step::Call(instance, arguments) => {
-                self.cursor.pass_name(instance);
+                self.pass(instance);
                 if let Some(uses) = self.uses_of(instance.as_str()) {
                     uses.is_called = true;
                 }
@@ -183,8 +186,8 @@ impl<'p> Looking<'p> {
             Step::Value(expr, _) => self.expr(expr),
             Step::Labels(choices, number) => self.labels(choices, number),
             Step::For(variable, from, to, by) => {
-                self.read(variable);
-                if let Some(uses) = self.uses_of(variable.as_str()) {
+                let number = self.read(variable);
+                if let Some(uses) = self.uses.get_mut(number) {
                     uses.is_assigned = true;
                 }
                 self.expr(from);

@@ -1,33 +1,15 @@
-//! What is found in the sources of a plant.
+//! A walk over the sources of a plant.
 
-use plant_types::Region;
-use source_trees::{Cursor, Entry, Form, Source, filled};
+use crate::comments::swallower;
+use crate::found::{Found, Uses};
+use crate::places::{Passed, Sought, place_of};
+use plant_types::{Region, Text};
+use source_trees::{Entry, Form, entries_of, mark_of};
+use st_lexer::Token;
 use st_parser::{SectionKind, Unit};
 use std::alloc::{AllocError, Global};
-use token_causes::{Cause, cause_at};
+use token_causes::tokens_of;
 use word_index::Names;
-
-/// The most warnings that are told.
-const MOST_WARNINGS: usize = 20;
-
-/// Where variables are described.
-const VARIABLES: &str = "docs/LANGUAGE.md, \"Variables\"";
-
-/// Where alarms are described.
-const ALARMS: &str = "docs/PLANT.md, \"alarms.csv\"";
-
-/// What is done with what a source declares.
-#[derive(Clone, Copy, Drop)]
-pub struct Uses {
-    pub is_read: bool,
-    pub is_assigned: bool,
-    /// Whether it is an instance that is called, or a block with an instance.
-    pub is_called: bool,
-    /// The first program that assigns it, by its number from 1, and the source and the byte at which it does.
-    pub writer: Option<(usize, usize, usize)>,
-    /// Whether it was told already that two programs assign it, or that nothing does.
-    pub is_told: bool,
-}
 
 /// Nothing is done.
 const UNUSED: Uses = Uses {
@@ -38,14 +20,11 @@ const UNUSED: Uses = Uses {
     is_told: false,
 };
 
-/// What is nearly surely a mistake: the number of its source, from 0, and none in the alarm database.
-pub type Warning = (Option<usize>, Cause);
-
-/// What was found so far in the sources of a plant.
+/// The walk, and what it found so far.
 #[derive(Drop)]
 pub struct Looking<'p> {
     pub alloc: Global,
-    pub sources: &'p [Source<'p>],
+    pub sources: &'p [(&'p str, &'p [u8])],
     pub entries: &'p [Entry<'p>],
     /// What is done with each entry.
     pub uses: Vec<Uses>,
@@ -58,65 +37,48 @@ pub struct Looking<'p> {
     /// The addresses of inputs and outputs, and the name at each.
     pub addresses: Names,
     pub holders: Vec<&'p str>,
-    /// The number of the source, from 0.
+    /// The number of the source, from 0, its text, and its tokens where a place was sought among them.
     pub source: usize,
-    pub cursor: Cursor<'p>,
+    pub text: &'p [u8],
+    tokens: Vec<Token>,
+    pub passed: Passed,
     /// How many programs have begun, and the number of the one that is gone through; 0 in a block.
     pub programs: usize,
     pub program: usize,
-    warnings: Vec<Warning>,
-    /// Whether memory was refused.
-    is_short: bool,
+    pub found: Found,
 }
 
 impl<'p> Looking<'p> {
     /// What was allocated; where memory was refused, that is noted.
     pub fn got<T: Drop, E: Drop>(&mut self, outcome: Result<T, E>) -> Option<T> {
-        self.is_short = self.is_short || outcome.is_err();
-        outcome.ok()
-    }
-
-    /// Whether no more warnings would be told.
-    pub fn is_full(&self) -> bool {
-        self.is_short || self.warnings.len() >= MOST_WARNINGS
-    }
-
-    /// Keeps a warning at bytes of a source, or of the alarm database, where it is told: a text that `filled` fills.
-    pub fn warn_in(
-        &mut self,
-        source: Option<usize>,
-        mark: (usize, usize),
-        text: &str,
-        (told, words): (&str, &[&str]),
-    ) {
-        if self.is_full() {
-            return;
-        }
-        let said = filled(self.alloc, &["warning: ", text], told, words);
-        if let Some(said) = self.got(said) {
-            let page = source.map_or(ALARMS, |_| VARIABLES);
-            let pushed = self.warnings.push((source, cause_at(mark, said, page)));
-            self.got(pushed);
-        }
+        self.found.got(outcome)
     }
 
     /// Keeps a warning at bytes of the source that is gone through.
     pub fn warn(&mut self, mark: (usize, usize), text: &str, told: (&str, &[&str])) {
-        self.warn_in(Some(self.source), mark, text, told);
+        self.found.warn_in(Some(self.source), mark, text, told);
     }
 
-    /// All warnings, in the order in which they were found.
-    pub fn into_warnings(self) -> Result<Vec<Warning>, AllocError> {
-        let Looking {
-            warnings,
-            is_short,
-            ..
-        } = self;
-        if is_short {
-            Err(AllocError)
-        } else {
-            Ok(warnings)
+    /// Keeps a warning at a literal or an operator of the body that is gone through: the one of a number, from 0, behind the name that was passed last.
+    pub fn warn_behind(&mut self, sought: Sought, number: usize, text: &str) {
+        if self.found.is_full() {
+            return;
         }
+        if self.tokens.is_empty() {
+            let tokens = tokens_of(self.alloc, self.text);
+            self.tokens = self.got(tokens).unwrap_or(Vec::new(self.alloc));
+        }
+        let mark = place_of(self.tokens.as_slice(), self.passed.at, sought, number);
+        self.warn(mark, text, ("", &[]));
+    }
+
+    /// Goes past a name.
+    pub fn pass(&mut self, name: &Text) {
+        self.passed = Passed {
+            at: name.at() as usize,
+            literals: 0,
+            divisions: 0,
+        };
     }
 
     /// The number of the entry that a name means, in the unit that is gone through; `None` if there is none.
@@ -145,16 +107,27 @@ impl<'p> Looking<'p> {
         let number = self.find(name)?;
         self.uses.get_mut(number)
     }
+
+    /// Goes through a source: its comments, and its unit.
+    fn go_through(&mut self, text: &'p [u8], unit: &'p Unit) {
+        self.text = text;
+        self.tokens = Vec::new(self.alloc);
+        let comment = swallower(self.alloc, text);
+        if let Some(Some(cause)) = self.got(comment) {
+            let mark = cause.mark.unwrap_or((0, 0));
+            self.warn(mark, "%", ("", &[cause.said.as_str()]));
+        }
+        self.unit(unit);
+    }
 }
 
-/// Goes through the sources of an accepted plant, until as many warnings are found as are told.
-pub fn look<'p>(
+/// A walk over sources that has not begun.
+fn begun<'p>(
     alloc: Global,
-    sources: &'p [Source<'p>],
-    units: &'p [Unit],
+    sources: &'p [(&'p str, &'p [u8])],
     entries: &'p [Entry<'p>],
 ) -> Result<Looking<'p>, AllocError> {
-    let mut looking = Looking {
+    Ok(Looking {
         alloc,
         sources,
         entries,
@@ -166,20 +139,30 @@ pub fn look<'p>(
         addresses: Names::new(alloc),
         holders: Vec::new(alloc),
         source: 0,
-        cursor: Cursor::new(b"", &[]),
+        text: b"",
+        tokens: Vec::new(alloc),
+        passed: Passed {
+            at: 0,
+            literals: 0,
+            divisions: 0,
+        },
         programs: 0,
         program: 0,
-        warnings: Vec::new(alloc),
-        is_short: false,
-    };
+        found: Found::new(alloc),
+    })
+}
+
+/// Goes through sources, whose units are well formed, until as many warnings are found as are told.
+pub fn look(alloc: Global, sources: &[(&str, &[u8])], units: &[Unit]) -> Result<Found, AllocError> {
+    let entries = entries_of(alloc, units)?;
+    let mut looking = begun(alloc, sources, entries.as_slice())?;
     looking.share();
-    for (number, source) in sources.iter().enumerate() {
-        if let (Some(unit), false) = (units.get(number), looking.is_full()) {
+    for (number, unit) in units.iter().enumerate() {
+        if let (Some(source), false) = (sources.get(number), looking.found.is_full()) {
             looking.source = number;
-            looking.cursor = Cursor::new(source.text, source.tokens.as_slice());
-            looking.comments(source);
-            looking.unit(unit);
+            looking.go_through(source.1, unit);
         }
     }
-    Ok(looking)
+    looking.keep();
+    Ok(looking.found)
 }

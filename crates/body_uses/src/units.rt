@@ -1,24 +1,15 @@
-//! Declarations are gone through, and what was done with each is told of at the end.
+//! Declarations are gone through, and what is done with each is told of, or kept.
 
-use crate::looking::{Looking, Uses};
+use crate::found::{Shared, Uses};
+use crate::looking::Looking;
+use crate::places::address_behind;
 use plant_types::{Region, Text};
 use source_trees::{Entry, Form, mark_of, steps_of};
 use st_names::{Declared, declared_in};
 use st_parser::{Pou, PouKind, SectionKind, Sort, Unit};
+use std::str;
+use token_causes::part;
 use word_index::Names;
-
-/// What is nearly surely wrong with a global; empty where nothing is.
-fn global_doubt(declared: &Declared<'_>, uses: Uses) -> &'static str {
-    let is_idle = !uses.is_assigned && declared.initial().is_none() && !uses.is_told;
-    match declared.region() {
-        Some(Region::Input) if !uses.is_read => "nothing reads the input @",
-        Some(Region::Output) if is_idle => "nothing assigns the output @",
-        Some(Region::Input | Region::Output) => "",
-        _ if !uses.is_read => "nothing reads the global @",
-        _ if is_idle => "nothing assigns the global @, which is read",
-        _ => "",
-    }
-}
 
 /// What is nearly surely wrong with what a unit declares itself; empty where nothing is.
 fn own_doubt(declared: &Declared<'_>, uses: Uses) -> &'static str {
@@ -60,8 +51,8 @@ impl<'p> Looking<'p> {
 
     /// Takes the address of a global, and tells where another one has it.
     fn address(&mut self, name: &'p Text) {
-        let number = self.cursor.pass_name(name).saturating_add(2);
-        let word = self.cursor.word(number);
+        let mark = address_behind(self.text, mark_of(name).1);
+        let word = str::from_utf8(part(self.text, mark.0, mark.1)).unwrap_or("");
         if word.contains('*') {
             return;
         }
@@ -71,7 +62,6 @@ impl<'p> Looking<'p> {
             self.got(pushed);
         } else if let Some(first) = self.addresses.find(word) {
             let holder = self.holders.get(first).copied().unwrap_or("");
-            let mark = self.cursor.mark(number);
             self.warn(mark, "@ has the address % too", (holder, &[word]));
         }
     }
@@ -109,19 +99,6 @@ impl<'p> Looking<'p> {
         }
     }
 
-    /// Tells of an entry at its name, in a text.
-    fn doubt(&mut self, entry: &Entry<'p>, text: &str) {
-        if !text.is_empty() {
-            let name = entry.name;
-            self.warn_in(
-                Some(entry.source),
-                mark_of(name),
-                text,
-                (name.as_str(), &[]),
-            );
-        }
-    }
-
     /// Tells of what a unit declares itself.
     fn end_unit(&mut self) {
         let entries = self.entries;
@@ -129,7 +106,10 @@ impl<'p> Looking<'p> {
             let uses = self.uses.get(number).copied();
             if let (Some(entry), Some(uses)) = (entries.get(number), uses) {
                 if let Form::Declared(declared) = &entry.form {
-                    self.doubt(entry, own_doubt(declared, uses));
+                    let text = own_doubt(declared, uses);
+                    if !text.is_empty() {
+                        self.warn(mark_of(entry.name), text, (entry.name.as_str(), &[]));
+                    }
                 }
             }
         }
@@ -146,6 +126,7 @@ impl<'p> Looking<'p> {
             self.program = self.programs;
         }
         self.declarations();
+        self.pass(&pou.name);
         let steps = steps_of(self.alloc, &pou.body);
         if let Some(steps) = self.got(steps) {
             for step in steps {
@@ -166,55 +147,46 @@ impl<'p> Looking<'p> {
             }
         }
         for pou in &unit.pous {
-            if self.is_full() {
+            if self.found.is_full() {
                 return;
             }
             self.pou(pou);
         }
     }
 
-    /// Tells of globals that nothing reads or assigns, or of blocks of which there is no instance.
-    fn end_of(&mut self, are_blocks: bool) {
+    /// Keeps a global, by the number of its entry.
+    fn keep_global(&mut self, entry: &Entry<'_>, declared: &Declared<'_>, uses: Uses) {
+        if let Sort::Kind(_) = declared.sort() {
+            let pushed = self.found.variables.push(self.found.globals.len());
+            self.got(pushed);
+        }
+        let pushed = self.found.globals.push(Shared {
+            home: (entry.source, mark_of(entry.name)),
+            region: declared.region(),
+            has_initial: declared.initial().is_some(),
+            uses,
+        });
+        self.got(pushed);
+    }
+
+    /// Keeps what is done with globals, and the blocks of which there is no instance.
+    pub fn keep(&mut self) {
         let entries = self.entries;
         for (number, entry) in entries.iter().enumerate() {
             let Some(uses) = self.uses.get(number).copied() else {
                 return;
             };
             match &entry.form {
-                Form::Declared(declared) if !are_blocks && entry.owner.is_empty() => {
-                    self.doubt(entry, global_doubt(declared, uses));
+                Form::Declared(declared) if entry.owner.is_empty() => {
+                    self.keep_global(entry, declared, uses);
                 }
-                Form::Block(_) if are_blocks && !uses.is_called => {
-                    self.doubt(entry, "nothing uses the block @");
+                Form::Block(_) if !uses.is_called => {
+                    let home = (entry.source, mark_of(entry.name));
+                    let pushed = self.found.blocks.push(home);
+                    self.got(pushed);
                 }
                 _ => {}
             }
         }
-    }
-
-    /// Notes that what a name means is read.
-    pub fn note_read(&mut self, name: &str) {
-        if let Some(uses) = self.uses_of(name) {
-            uses.is_read = true;
-        }
-    }
-
-    /// Notes that the condition of an alarm is read; returns whether nothing assigns it and it is no input, which isn't told again.
-    pub fn is_idle_condition(&mut self, name: &str) -> bool {
-        let number = self.find(name).unwrap_or(self.uses.len());
-        let is_input = self.is_in(number, Region::Input);
-        let Some(uses) = self.uses.get_mut(number) else {
-            return false;
-        };
-        uses.is_read = true;
-        let is_idle = !uses.is_assigned && !is_input;
-        uses.is_told = uses.is_told || is_idle;
-        is_idle
-    }
-
-    /// Tells of globals, and then of blocks.
-    pub fn end(&mut self) {
-        self.end_of(false);
-        self.end_of(true);
     }
 }

@@ -2,7 +2,7 @@
 
 use crate::faults::{fault_of, is_of_tables};
 use plant_config::{ConfigFault, Plant};
-use plant_explain::{PlantTexts, explain, explain_all, warn};
+use plant_explain::{PlantTexts, Warner, explain, explain_all, warn};
 use row_text::{File, Page};
 use statement_places::{statement_table, told_of_fault};
 use std::alloc::{AllocError, Global};
@@ -90,9 +90,17 @@ fn warned<H: Threads + Sync>(
     alloc: Global,
     texts: &PlantTexts<'_>,
 ) -> Result<String, AllocError> {
-    match Plant::read(rt, alloc, texts.plant, texts.sources, texts.alarms) {
+    let mut warner = Warner::new();
+    match Plant::read_observed(
+        rt,
+        alloc,
+        texts.plant,
+        texts.sources,
+        texts.alarms,
+        &mut warner,
+    ) {
         Ok(plant) => {
-            let told = warn(alloc, texts, &plant);
+            let told = warn(alloc, texts, &plant, warner);
             drop(plant);
             told
         }

@@ -21,6 +21,7 @@ ghost use Rattle.plant_config.specs.Names.{alarm_number, globals_of, global_numb
 use crate::epoch::epoch_of;
 use crate::fault::ConfigFault;
 use crate::files::{Files, Handed, file_of, files_of, listed};
+use crate::observer::{Nobody, Observer};
 use crate::orderers::{is_orderer, limited_orderers, orderers_in};
 use crate::rows::{AlarmRow, copy_rows};
 use crate::running::{database_of, known_alarms, logic_of};
@@ -162,75 +163,78 @@ fn parts_of(
     }
 }
 
-/// The parts of the plant of units, or why there are none.
-fn with_units(
+/// Units, where they are well formed, or why they aren't.
+fn well_formed(
     alloc: Global,
     handed: &Handed<'_>,
     file: &PlantFile,
     epoch: Epoch,
     units: Vec<Unit>,
-) -> Result<(Framed, Vec<AlarmRow>, Tags), ConfigFault>
+) -> Result<Typed, ConfigFault>
     requires { HasUnits handed.now file.now epoch (map view_unit units.items) }
-    ensures { MatchResult result (λ parts. AreParts handed.now file.now epoch parts.0 parts.1.items parts.2) (IsRefused handed.now) }
+    ensures { MatchResult result (IsWellFormed handed.now file.now epoch) (IsRefused handed.now) }
 {
     match check(alloc, units) {
-        Ok(typed) => parts_of(alloc, handed, file, epoch, typed),
+        Ok(typed) => Ok(typed),
         Err(mistyped) => Err(refused(alloc, handed, &mistyped)),
     }
 }
 
-/// The parts of the plant of texts whose plant file, epoch and limits of texts are right, or why there are none.
-fn parts_in<H: Threads + Sync>(
+/// The well-formed units of the sources of texts whose plant file, epoch and limits of texts are right, or why there are none.
+fn typed_in<H: Threads + Sync>(
     rt: &H,
     alloc: Global,
     handed: &Handed<'_>,
     file: &PlantFile,
     epoch: Epoch,
-) -> Result<(Framed, Vec<AlarmRow>, Tags), ConfigFault>
+) -> Result<Typed, ConfigFault>
     requires { IsLimited handed.now file.now epoch }
-    ensures { MatchResult result (λ parts. AreParts handed.now file.now epoch parts.0 parts.1.items parts.2) (IsRefused handed.now) }
+    ensures { MatchResult result (IsWellFormed handed.now file.now epoch) (IsRefused handed.now) }
 {
     match units_of(rt, alloc, handed, file, epoch) {
-        Ok(units) => with_units(alloc, handed, file, epoch, units),
+        Ok(units) => well_formed(alloc, handed, file, epoch, units),
         Err(fault) => Err(fault),
     }
 }
 
-/// The plant of texts whose plant file and epoch are right, or why there is none.
-fn plant_in<H: Threads + Sync>(
-    rt: &H,
-    alloc: Global,
-    handed: &Handed<'_>,
-    file: PlantFile,
-    epoch: Epoch,
-) -> Result<Plant, ConfigFault>
-    requires { HasEpoch handed.now file epoch }
-    ensures { MatchResult result (Accepted handed.now) (IsRefused handed.now) }
-{
-    let orderers = match limited_orderers(alloc, handed, &file, epoch) {
-        Ok(lists) => lists,
-        Err(fault) => return Err(fault),
-    };
-    match parts_in(rt, alloc, handed, &file, epoch) {
-        Ok((logic, alarms, tags)) => Ok(assembled(file, epoch, logic, alarms, tags, orderers)),
-        Err(fault) => Err(fault),
-    }
-}
-
-/// The plant of texts, or why there is none.
-fn accepted<H: Threads + Sync>(
-    rt: &H,
-    alloc: Global,
-    handed: &Handed<'_>,
-) -> Result<Plant, ConfigFault>
-    ensures { MatchResult result (Accepted handed.now) (IsRefused handed.now) }
+/// The plant file of texts, and its epoch, or why there is none.
+fn dated(alloc: Global, handed: &Handed<'_>) -> Result<(PlantFile, Epoch), ConfigFault>
+    ensures { MatchResult result (λ dated. HasEpoch handed.now dated.0 dated.1) (IsRefused handed.now) }
 {
     let file = match listed(alloc, handed) {
         Ok(file) => file,
         Err(fault) => return Err(fault),
     };
     match epoch_of(handed, &file) {
-        Ok(epoch) => plant_in(rt, alloc, handed, file, epoch),
+        Ok(epoch) => Ok((file, epoch)),
+        Err(fault) => Err(fault),
+    }
+}
+
+/// The plant of texts, or why there is none. An observer sees the units of its sources, once they are well formed.
+fn accepted<H: Threads + Sync, O: Observer>(
+    rt: &H,
+    alloc: Global,
+    handed: &Handed<'_>,
+    observer: &mut O,
+) -> Result<Plant, ConfigFault>
+    ensures { MatchResult result (Accepted handed.now) (IsRefused handed.now) }
+{
+    let (file, epoch) = match dated(alloc, handed) {
+        Ok(dated) => dated,
+        Err(fault) => return Err(fault),
+    };
+    let orderers = match limited_orderers(alloc, handed, &file, epoch) {
+        Ok(lists) => lists,
+        Err(fault) => return Err(fault),
+    };
+    let typed = match typed_in(rt, alloc, handed, &file, epoch) {
+        Ok(typed) => typed,
+        Err(fault) => return Err(fault),
+    };
+    observer.typed(alloc, handed.sources, typed.units());
+    match parts_of(alloc, handed, &file, epoch, typed) {
+        Ok((logic, alarms, tags)) => Ok(assembled(file, epoch, logic, alarms, tags, orderers)),
         Err(fault) => Err(fault),
     }
 }
@@ -298,12 +302,28 @@ impl Plant {
         ensures refused { IfErr result (IsRefused (texts_of plant.now (map (λ s. s.0.now) sources.now) (map (λ s. s.1.now) sources.now) alarms.now)) }
         ensures accepted { (expected : PlainPlant) → Accepted (texts_of plant.now (map (λ s. s.0.now) sources.now) (map (λ s. s.1.now) sources.now) alarms.now) expected → MatchResult result (λ plant. plant ≡ expected) (λ refused. refused ≡ fault.Memory) }
     {
+        Plant::read_observed(rt, alloc, plant, sources, alarms, &mut Nobody)
+    }
+
+    /// Reads a plant as `read` does. An observer sees the units of its sources, once they are well formed.
+    pub fn read_observed<H: Threads + Sync, O: Observer>(
+        rt: &H,
+        alloc: Global,
+        plant: &[u8],
+        sources: &[(&str, &[u8])],
+        alarms: &[u8],
+        observer: &mut O,
+    ) -> Result<Plant, ConfigFault>
+        ensures plant { IfOk result (Accepted (texts_of plant.now (map (λ s. s.0.now) sources.now) (map (λ s. s.1.now) sources.now) alarms.now)) }
+        ensures refused { IfErr result (IsRefused (texts_of plant.now (map (λ s. s.0.now) sources.now) (map (λ s. s.1.now) sources.now) alarms.now)) }
+        ensures accepted { (expected : PlainPlant) → Accepted (texts_of plant.now (map (λ s. s.0.now) sources.now) (map (λ s. s.1.now) sources.now) alarms.now) expected → MatchResult result (λ plant. plant ≡ expected) (λ refused. refused ≡ fault.Memory) }
+    {
         let handed = Handed {
             plant,
             sources,
             alarms,
         };
-        accepted(rt, alloc, &handed)
+        accepted(rt, alloc, &handed, observer)
     }
 
     /// The same plant. Fails if allocation fails.

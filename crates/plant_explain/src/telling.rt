@@ -6,7 +6,7 @@ ghost use Rattle.plant_folder.specs.Verdicts.{refusal_line};
 ghost use Rattle.plant_explain.specs.Told.{BeginsWith};
 
 use crate::finding::{MOST_FAULTS, find, find_all};
-use crate::warnings::find_warnings;
+use crate::warnings::{Warner, find_warnings};
 use plant_config::{ConfigFault, Plant};
 use plant_folder::PlantTexts;
 use plant_places::{shown, shown_alone};
@@ -99,10 +99,15 @@ pub fn explain_all(
 }
 
 /// What a person is told of a plant that is accepted from these texts: what is likely to be wrong in it, each with its place and the line there; nothing
-/// where nothing is.
-pub fn warn(alloc: Global, texts: &PlantTexts<'_>, plant: &Plant) -> Result<String, AllocError> {
+/// where nothing is. A warner saw the plant's sources while it was read. Fails if memory was refused, or he saw none.
+pub fn warn(
+    alloc: Global,
+    texts: &PlantTexts<'_>,
+    plant: &Plant,
+    warner: Warner,
+) -> Result<String, AllocError> {
     let mut told = String::new(alloc);
-    let found = find_warnings(alloc, texts, plant)?;
+    let found = find_warnings(alloc, texts, plant, warner)?;
     for spot in found.as_slice() {
         let text = shown_alone(alloc, texts, spot)?;
         told.push_str(text.as_str())?;

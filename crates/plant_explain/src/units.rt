@@ -6,7 +6,7 @@ use plant_config::ConfigFault;
 use plant_folder::PlantTexts;
 use plant_types::Text;
 use std::alloc::{AllocError, Global};
-use token_causes::{FileOf, Spot, cause_of, tokens_of};
+use token_causes::{FileOf, Spot, cause_of};
 
 /// The rule of units that a plant breaks, and the source and the unit that its refusal names.
 #[derive(Drop)]
@@ -81,8 +81,7 @@ fn add_comments(
     spots: &mut Vec<Spot>,
 ) -> Result<(), AllocError> {
     for (number, source) in texts.sources.iter().enumerate() {
-        let tokens = tokens_of(alloc, source.1)?;
-        if let Some(cause) = swallower(alloc, source.1, tokens.as_slice())? {
+        if let Some(cause) = swallower(alloc, source.1)? {
             let second = spots.len().min(1);
             let file = FileOf::Source(number);
             spots.insert(second, Spot { file, cause })?;

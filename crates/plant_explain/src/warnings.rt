@@ -1,10 +1,9 @@
 //! What is likely to be wrong in a plant that is accepted.
 
-use body_uses::{Looking, Warning, look};
-use plant_config::{AlarmRow, Plant};
+use body_uses::{Found, Warning, look};
+use plant_config::{AlarmRow, Observer, Plant, Unit};
 use plant_folder::PlantTexts;
 use plant_places::{Field, first_field, next_field};
-use source_trees::{entries_of, sources_of, units_of};
 use std::alloc::{AllocError, Global};
 use token_causes::{FileOf, Spot};
 use word_index::Names;
@@ -18,19 +17,24 @@ const CONDITION: usize = 3;
 
 const SUPPRESS: usize = 4;
 
-/// A first source of less than one in so many of all bytes of sources is looked at before the others are read.
-const SMALL_PART: usize = 8;
+/// An observer who keeps what the sources of a plant do with their variables, for what is told of the plant where it is accepted.
+#[derive(Drop)]
+pub struct Warner {
+    /// None where memory was refused, or no plant was seen.
+    found: Option<Found>,
+}
 
-/// The field of an alarm, by its number from 0, and a column; `None` if there is none.
-fn field_at(text: &[u8], alarm: usize, column: usize) -> Option<Field> {
-    let mut field = first_field(text);
-    for _ in 0..text.len() {
-        if field.number == column && field.record > alarm {
-            return Some(field);
-        }
-        field = next_field(text, field)?;
+impl Warner {
+    /// One who has seen no plant.
+    pub fn new() -> Warner {
+        Warner { found: None }
     }
-    None
+}
+
+impl Observer for Warner {
+    fn typed(&mut self, alloc: Global, sources: &[(&str, &[u8])], units: &[Unit]) {
+        self.found = look(alloc, sources, units).ok();
+    }
 }
 
 /// The alarms of a plant while they are gone through.
@@ -38,8 +42,10 @@ fn field_at(text: &[u8], alarm: usize, column: usize) -> Option<Field> {
 struct Alarms<'p> {
     alloc: Global,
     plant: &'p Plant,
-    /// The text of the alarm database.
+    /// The text of the alarm database, and the field of it at which a warning stood last.
     text: &'p [u8],
+    field: Field,
+    found: Found,
     /// Of each area whether nobody may order its alarms, and that hasn't been told.
     lone: Vec<bool>,
     tags: Names,
@@ -64,90 +70,81 @@ fn lone_areas(alloc: Global, plant: &Plant) -> Result<Vec<bool>, AllocError> {
     Ok(lone)
 }
 
-/// Keeps a warning at the field of a column of an alarm, by its number from 0, in a table: a text with a name in the place of its `@`.
-fn warn(
-    table: &[u8],
-    looking: &mut Looking<'_>,
-    (alarm, column): (usize, usize),
-    text: &str,
-    name: &str,
-) {
-    if let Some(field) = field_at(table, alarm, column) {
-        looking.warn_in(None, (field.from, field.until), text, (name, &[]));
-    }
-}
-
 impl<'p> Alarms<'p> {
-    /// The name of a global, by its number.
-    fn global(&self, number: u32) -> &str {
-        match self.plant.globals().get(number as usize) {
-            Some(global) => global.name.as_str(),
-            None => "",
+    /// Keeps a warning at the field of a column of an alarm, by its number from 0, behind the one of the warning before: a text with a name in the place of its
+    /// `@`.
+    fn warn(&mut self, (alarm, column): (usize, usize), text: &str, name: &str) {
+        for _ in 0..self.text.len() {
+            let field = self.field;
+            if field.number == column && field.record > alarm {
+                let mark = (field.from, field.until);
+                return self.found.warn_in(None, mark, text, (name, &[]));
+            }
+            match next_field(self.text, field) {
+                Some(next) => self.field = next,
+                None => return,
+            }
         }
     }
 
-    /// Notes that the condition of an alarm is read, and tells where nothing assigns it.
-    fn condition(&self, looking: &mut Looking<'_>, alarm: usize, row: &AlarmRow) {
-        let name = self.global(row.condition);
-        if looking.is_idle_condition(name) {
+    /// Tells of a condition that nothing assigns.
+    fn condition(&mut self, alarm: usize, row: &AlarmRow) {
+        if self.found.is_idle_condition(row.condition) {
+            let plant = self.plant;
+            let global = plant.globals().get(row.condition as usize);
+            let name = global.map_or("", |global| global.name.as_str());
             let text = "nothing assigns @, the condition of this alarm, and it is no input";
-            warn(self.text, looking, (alarm, CONDITION), text, name);
+            self.warn((alarm, CONDITION), text, name);
         }
     }
 
     /// Notes that what suppresses an alarm is read, and tells where that is its condition.
-    fn suppression(&self, looking: &mut Looking<'_>, alarm: usize, row: &AlarmRow) {
+    fn suppression(&mut self, alarm: usize, row: &AlarmRow) {
         let Some(number) = row.suppress else {
             return;
         };
-        looking.note_read(self.global(number));
+        self.found.note_read(number);
         if number == row.condition {
             let text = "this alarm is suppressed by its own condition, so nobody ever hears of it";
-            warn(self.text, looking, (alarm, SUPPRESS), text, "");
+            self.warn((alarm, SUPPRESS), text, "");
         }
     }
 
     /// Tells of an area that no console has, once.
-    fn area(&mut self, looking: &mut Looking<'_>, alarm: usize, row: &AlarmRow) {
+    fn area(&mut self, alarm: usize, row: &AlarmRow) {
         let Some(is_lone) = self.lone.get_mut(row.area as usize) else {
             return;
         };
         if *is_lone {
             *is_lone = false;
             let text = "no console has this area, so nobody may acknowledge its alarms";
-            warn(self.text, looking, (alarm, AREA), text, "");
+            self.warn((alarm, AREA), text, "");
         }
     }
 
     /// Tells of a tag that differs from an earlier one by letter case alone.
-    fn tag(
-        &mut self,
-        looking: &mut Looking<'_>,
-        alarm: usize,
-        tag: &str,
-    ) -> Result<(), AllocError> {
+    fn tag(&mut self, alarm: usize, tag: &str) -> Result<(), AllocError> {
         if self.tags.add(self.alloc, tag)? {
             return Ok(());
         }
-        let table = self.text;
         let number = self.tags.find(tag).unwrap_or(0);
-        let other = self.tags.get(number).unwrap_or("");
+        let other = String::from_str(self.alloc, self.tags.get(number).unwrap_or(""))?;
         let text = "this tag differs from @ by letter case alone, and they are two alarms";
-        warn(table, looking, (alarm, TAG), text, other);
+        self.warn((alarm, TAG), text, other.as_str());
         Ok(())
     }
 
     /// Goes through the alarms.
-    fn go_through(&mut self, looking: &mut Looking<'_>) -> Result<(), AllocError> {
+    fn go_through(&mut self) -> Result<(), AllocError> {
         let plant = self.plant;
         for (alarm, row) in plant.alarm_rows().iter().enumerate() {
-            if looking.is_full() {
+            if self.found.is_full() {
                 return Ok(());
             }
-            self.tag(looking, alarm, plant.tag(alarm as u32))?;
-            self.area(looking, alarm, row);
-            self.condition(looking, alarm, row);
-            self.suppression(looking, alarm, row);
+            self.tag(alarm, plant.tag(alarm as u32))?;
+            self.area(alarm, row);
+            self.condition(alarm, row);
+            self.suppression(alarm, row);
         }
         Ok(())
     }
@@ -163,77 +160,26 @@ fn spots_of(alloc: Global, warnings: Vec<Warning>) -> Result<Vec<Spot>, AllocErr
     Ok(spots)
 }
 
-/// Goes through the alarms of a plant, which stand in a table.
-fn look_on<'p>(
-    alloc: Global,
-    text: &'p [u8],
-    plant: &'p Plant,
-    looking: &mut Looking<'_>,
-) -> Result<(), AllocError> {
-    let mut alarms = Alarms {
-        alloc,
-        plant,
-        text,
-        lone: lone_areas(alloc, plant)?,
-        tags: Names::new(alloc),
-    };
-    alarms.go_through(looking)
-}
-
-/// Whether the first of sources is a small part of them.
-fn begins_small(sources: &[(&str, &[u8])]) -> bool {
-    let mut size = 0usize;
-    for source in sources {
-        size = size.saturating_add(source.1.len());
-    }
-    match sources.first() {
-        Some(first) => first.1.len() < size / SMALL_PART,
-        None => false,
-    }
-}
-
-/// What is likely to be wrong in the first source of a plant, where that is as much as is told of a plant; nothing where it is less.
-fn early_warnings(alloc: Global, texts: &PlantTexts<'_>) -> Result<Vec<Spot>, AllocError> {
-    let first = texts.sources.get(..1).unwrap_or(&[]);
-    let sources = sources_of(alloc, first)?;
-    let units = units_of(alloc, sources.as_slice())?;
-    let entries = entries_of(alloc, units.as_slice())?;
-    let looking = look(
-        alloc,
-        sources.as_slice(),
-        units.as_slice(),
-        entries.as_slice(),
-    )?;
-    if looking.is_full() {
-        spots_of(alloc, looking.into_warnings()?)
-    } else {
-        Ok(Vec::new(alloc))
-    }
-}
-
-/// What is likely to be wrong in an accepted plant of texts, each with its place; twenty at most. A plant whose first source has twenty is read no
-/// further.
+/// What is likely to be wrong in an accepted plant of texts, each with its place; twenty at most. A warner saw the plant's sources while it was read. Fails if
+/// memory was refused, or he saw none.
 pub fn find_warnings(
     alloc: Global,
     texts: &PlantTexts<'_>,
     plant: &Plant,
+    warner: Warner,
 ) -> Result<Vec<Spot>, AllocError> {
-    if begins_small(texts.sources) {
-        let early = early_warnings(alloc, texts)?;
-        if !early.is_empty() {
-            return Ok(early);
-        }
-    }
-    let sources = sources_of(alloc, texts.sources)?;
-    let units = units_of(alloc, sources.as_slice())?;
-    let entries = entries_of(alloc, units.as_slice())?;
-    let mut looking = look(
+    let Some(found) = warner.found else {
+        return Err(AllocError);
+    };
+    let mut alarms = Alarms {
         alloc,
-        sources.as_slice(),
-        units.as_slice(),
-        entries.as_slice(),
-    )?;
-    look_on(alloc, texts.alarms, plant, &mut looking)?;
-    looking.end();
-    spots_of(alloc, looking.into_warnings()?)
+        plant,
+        text: texts.alarms,
+        field: first_field(texts.alarms),
+        found,
+        lone: lone_areas(alloc, plant)?,
+        tags: Names::new(alloc),
+    };
+    alarms.go_through()?;
+    spots_of(alloc, alarms.found.end(texts.sources)?)
 }

@@ -6,7 +6,7 @@ ghost use Rattle.plant_config.specs.Refusals.{IsRefused};
 ghost use Rattle.plant_config.specs.Stages.{Accepted};
 
 use crate::folder::Folder;
-use plant_config::{ConfigFault, Plant};
+use plant_config::{ConfigFault, Observer, Plant, Unit};
 use std::alloc::Global;
 use std::marker::Model;
 
@@ -29,8 +29,8 @@ impl<'a> Model for PlantTexts<'a> {
 }
 
 /// Who hears what becomes of a plant, with the very texts that were judged, and the plant where it is accepted: so nothing is read twice for what a person
-/// is told. What a listener does changes no verdict.
-pub trait Listener {
+/// is told. He also sees the units of its sources. What a listener does changes no verdict.
+pub trait Listener: Observer {
     /// Hears of a plant that is accepted: of its texts, and the plant that they are.
     fn accepted(&mut self, alloc: Global, texts: &PlantTexts<'_>, plant: &Plant)
         requires { Accepted texts.now plant.now };
@@ -48,6 +48,10 @@ pub trait Listener {
 /// The listener where nobody listens.
 #[derive(Clone, Copy, Drop)]
 pub struct Deaf;
+
+impl Observer for Deaf {
+    fn typed(&mut self, _alloc: Global, _sources: &[(&str, &[u8])], _units: &[Unit]) {}
+}
 
 impl Listener for Deaf {
     fn accepted(&mut self, _alloc: Global, _texts: &PlantTexts<'_>, _plant: &Plant) {}

@@ -55,7 +55,14 @@ pub fn verdict<H: Threads + Sync, L: Listener>(
 ) -> Result<(Option<Plant>, String), AllocError>
     ensures { IfOk result (λ v. IsVerdict texts.now false v.0 (string_bytes v.1)) }
 {
-    match Plant::read(rt, alloc, texts.plant, texts.sources, texts.alarms) {
+    match Plant::read_observed(
+        rt,
+        alloc,
+        texts.plant,
+        texts.sources,
+        texts.alarms,
+        listener,
+    ) {
         Ok(plant) => {
             listener.accepted(alloc, texts, &plant);
             Ok((Some(plant), String::new(alloc)))

@@ -124,6 +124,22 @@ fn take_hole(
     Ok(Some(until))
 }
 
+/// Adds the tokens of what stands from a byte of a text on.
+fn add_tokens(tokens: &mut Vec<Token>, more: Vec<Token>, at: usize) -> Result<(), AllocError> {
+    if at == 0 {
+        *tokens = more;
+        return Ok(());
+    }
+    for token in more.as_slice() {
+        tokens.push(Token {
+            kind: token.kind,
+            from: token.from.saturating_add(at),
+            until: token.until.saturating_add(at),
+        })?;
+    }
+    Ok(())
+}
+
 /// Takes what stands from a byte of a text on, up to where no token begins; where to go on behind that, or `None`.
 fn take(
     alloc: Global,
@@ -132,18 +148,15 @@ fn take(
     at: usize,
 ) -> Result<Option<usize>, AllocError> {
     let rest = part(text, at, text.len());
-    let end = match lex(alloc, rest) {
-        Ok(_) => rest.len(),
+    let (tokens, end) = match lex(alloc, rest) {
+        Ok(tokens) => (tokens, rest.len()),
         Err(LexFault::Memory) => return Err(AllocError),
-        Err(LexFault::Bad { line, column }) => byte_at(rest, line, column),
+        Err(LexFault::Bad { line, column }) => {
+            let end = byte_at(rest, line, column);
+            (tokens_of(alloc, part(rest, 0, end))?, end)
+        }
     };
-    for token in tokens_of(alloc, part(rest, 0, end))?.as_slice() {
-        lexed.tokens.push(Token {
-            kind: token.kind,
-            from: token.from.saturating_add(at),
-            until: token.until.saturating_add(at),
-        })?;
-    }
+    add_tokens(&mut lexed.tokens, tokens, at)?;
     if end == rest.len() {
         return Ok(None);
     }
