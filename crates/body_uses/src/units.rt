@@ -157,7 +157,8 @@ impl<'p> Looking<'p> {
     /// Keeps a global, by the number of its entry.
     fn keep_global(&mut self, entry: &Entry<'_>, declared: &Declared<'_>, uses: Uses) {
         if let Sort::Kind(_) = declared.sort() {
-            let pushed = self.found.variables.push(self.found.globals.len());
+            let number = self.found.globals.len();
+            let pushed = self.found.variables.push(number);
             self.got(pushed);
         }
         let pushed = self.found.globals.push(Shared {
