@@ -70,6 +70,14 @@ fn lone_areas(alloc: Global, plant: &Plant) -> Result<Vec<bool>, AllocError> {
     Ok(lone)
 }
 
+/// A copy of the name of a number, and nothing where there is none. Fails if memory was refused.
+fn copied(alloc: Global, names: &Names, number: usize) -> Result<String, AllocError> {
+    match names.get(number) {
+        Some(name) => String::from_str(alloc, name),
+        None => Ok(String::new(alloc)),
+    }
+}
+
 impl<'p> Alarms<'p> {
     /// Keeps a warning at the field of a column of an alarm, by its number from 0, behind the one of the warning before: a text with a name in the place of its
     /// `@`.
@@ -128,7 +136,7 @@ impl<'p> Alarms<'p> {
             return Ok(());
         }
         let number = self.tags.find(tag).unwrap_or(0);
-        let other = String::from_str(self.alloc, self.tags.get(number).unwrap_or(""))?;
+        let other = copied(self.alloc, &self.tags, number)?;
         let text = "this tag differs from @ by letter case alone, and they are two alarms";
         self.warn((alarm, TAG), text, other.as_str());
         Ok(())
