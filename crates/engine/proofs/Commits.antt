@@ -11,6 +11,7 @@ use Rattle.plant_config.specs.Names.{globals_of}
 use Rattle.event_history.specs.declared.event.Event.{Event}
 use Rattle.event_history.specs.declared.event.Event.TheVariants as event
 use Rattle.event_history.specs.Reloads.{NoReload}
+use Rattle.event_history.proofs.Reloads.{stays_on}
 use Rattle.operator_orders.specs.declared.order.Order.{Order}
 use Rattle.plant_system.specs.declared.state.Effect.{Effect}
 use Rattle.alarm_bank.specs.Moves.{changes_from}
@@ -31,6 +32,12 @@ use Rattle.engine.proofs.Journals.{scan_journal, order_journal, until_after, las
 -- a scan leaves the state of the history with it
 pub scan_state : (e : PlainEngine) (p : PlainPrepared) (k : PlainState) → Fits e p → IsState (state_of e) k → IsState (system e.plant (e.history ++ p.event ∷ [])) (after_effect p.effect k)
 scan_state e p k fits held = subst (λ (s : System). IsState s (after_effect p.effect k)) (sym (system_next e.plant e.history p.event)) (fits.effect_is k held)
+
+-- and no reload in it
+pub scan_stays : (e : PlainEngine) (p : PlainPrepared) → Fits e p → NoReload e.history → NoReload (e.history ++ p.event ∷ [])
+scan_stays e p fits stays =
+    let one : NoReload (event.Scan fits.image p.report.moment ∷ []) = tt in
+    stays_on e.history (p.event ∷ []) stays (subst (λ (x : Event). NoReload (x ∷ [])) (sym fits.event_is) one)
 
 -- and the journal of that history
 pub scan_committed : (e : PlainEngine) (p : PlainPrepared) (log : PlainLog) → NoReload e.history → Fits e p → IsJournal e.plant e.history log.rows → IsJournal e.plant (e.history ++ p.event ∷ []) (after_entries p.report.moment log (scan_entries p.report)).rows
@@ -70,7 +77,11 @@ scan_in_order e p k rows fits held until =
     let forward = scan_forward e p k fits held in
     omega (arith, last, forward)
 
--- an order leaves the journal of the history with it
+-- an order leaves no reload in the history with it
+pub order_stays : (e : PlainEngine) (p : PlainPreparedOrder) → FitsOrder e p → NoReload e.history → NoReload (e.history ++ event.Order p.console p.order ∷ [])
+order_stays e p fits stays = stays_on e.history (event.Order p.console p.order ∷ []) stays tt
+
+-- and the journal of that history
 pub order_committed : (e : PlainEngine) (p : PlainPreparedOrder) (k : PlainState) (log : PlainLog) → NoReload e.history → IsState (state_of e) k → FitsOrder e p → IsJournal e.plant e.history log.rows
     → IsJournal e.plant (e.history ++ event.Order p.console p.order ∷ []) (after_entries k.moment log (order_entries p.console p.order p.done k.alarms)).rows
 order_committed e p k log stays held fits journal =
