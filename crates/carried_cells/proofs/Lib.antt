@@ -1,0 +1,15 @@
+pub mod Tables
+pub mod Added
+pub mod Numbering
+pub mod Naming
+pub mod Listing
+pub mod Keeping
+pub mod Stepping
+pub mod Empty
+pub mod Marking
+pub mod Placing
+pub mod Once
+pub mod Calls
+pub mod Copying
+pub mod Carried
+pub mod Shaping

@@ -1,0 +1,6 @@
+pub mod Paths
+pub mod Marks
+pub mod Shapes
+pub mod Lists
+pub mod Keeping
+pub mod Both
