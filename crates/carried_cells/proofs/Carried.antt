@@ -1,5 +1,5 @@
 -- Cells that were carried stand for the world that goes over.
-use Rattle.std.proofs.Common.{◌≡◌, ◌∙◌, ap, sym, subst, refl, arith, ℕ, ℤ, zero, suc, ◌<◌, ◌≤◌, true, false, Bool, List, [], ◌∷◌, length, map, get_or, slice_get, Option, Some, None}
+use Rattle.std.proofs.Common.{◌≡◌, ◌∙◌, ap, sym, refl, arith, ℕ, ℤ, zero, suc, ◌<◌, true, Bool, List, [], ◌∷◌, length, map, get_or, slice_get, Option, Some, None}
 use Rattle.std.specs.Prelude.{if◌then◌else◌}
 use Rattle.std.proofs.lemmas.List.{length-map}
 use Rattle.std.proofs.lemmas.Option.{get_or_from_slice_get}
@@ -9,7 +9,7 @@ use Rattle.plant_logic.specs.declared.logic.BlockRef.{BlockRef}
 use Rattle.plant_logic.specs.declared.logic.BlockRef.TheVariants.{Ton, Tof, RTrig, Declared}
 use Rattle.plant_logic.specs.Layout.{ClockAt, IsDistinctlyNamed, cell_paths, all_clocks}
 use Rattle.plant_logic.specs.Ranges.{KindAt, all_kinds}
-use Rattle.plant_logic.specs.Carried.{same_standard, keeps_value, carried}
+use Rattle.plant_logic.specs.Carried.{same_standard, carried}
 use Rattle.plant_logic.proofs.KindPaths.{path, paths_all}
 use Rattle.plant_cells.specs.declared.clock.Clock.{Clock}
 use Rattle.plant_cells.specs.Clocks.{clock_of}

@@ -18,7 +18,7 @@ module _ {A : Type 0} where
 
   push_long : (xs : List A) (x : A) → length (xs ++ x ∷ []) ≡ length xs + 1
   push_long [] x = refl
-  push_long (y ∷ ys) x = ap suc (push_long ys x)
+  push_long (y ∷ ys) x = let rest = push_long ys x in omega (arith, rest)
 
   module _ (before here : List A) (kept : List (Option ℕ)) where
     pub carried_none : AreCarried before here kept 0 []

@@ -1,5 +1,5 @@
 -- Block types that are marked have no values and no standard blocks.
-use Rattle.std.proofs.Common.{◌≡◌, ◌∙◌, ap, sym, subst, refl, arith, ℕ, zero, suc, Bool, true, false, List, [], ◌∷◌, ◌++◌, length, get_or, Option, Some, None, slice_get}
+use Rattle.std.proofs.Common.{◌≡◌, ◌∙◌, ap, sym, refl, arith, ℕ, zero, suc, Bool, true, false, List, [], ◌∷◌, ◌++◌, length, get_or, Option, Some, None, slice_get}
 use Rattle.std.specs.Prelude.{◌==◌, ◌&&◌}
 use Rattle.std.specs.List.{list_all}
 use Rattle.std.proofs.lemmas.Bool.{and_parts}
@@ -13,14 +13,14 @@ use Rattle.plant_logic.specs.declared.logic.BlockRef.TheVariants.{Ton, Tof, RTri
 use Rattle.plant_logic.specs.Source.{PlainRoutine}
 use Rattle.plant_logic.specs.Worlds.{Path}
 use Rattle.plant_logic.specs.Layout.{ClockAt, block_clocks, instance_clocks, clocks_rule}
-use Rattle.plant_logic.specs.Ranges.{KindAt, local_kinds, row_kinds, own_kinds, block_kinds, instance_kinds, kinds_rule}
+use Rattle.plant_logic.specs.Ranges.{KindAt, local_kinds, row_kinds, block_kinds, instance_kinds, kinds_rule}
 use Rattle.carried_cells.specs.declared.words.Own.{Own}
 use Rattle.carried_cells.specs.declared.words.OwnRow.{OwnRow}
 use Rattle.carried_cells.specs.declared.words.Part.{Part}
 use Rattle.carried_cells.specs.declared.words.Shape.{Shape}
 use Rattle.carried_cells.specs.declared.lists.Table.{Table}
 use Rattle.carried_cells.specs.Marks.{is_marked, holds_nothing}
-use Rattle.carried_cells.specs.Shapes.{AreOwn, AreRows, IsPart, AreParts, IsShape, AreTable}
+use Rattle.carried_cells.specs.Shapes.{AreOwn, AreRows, AreParts, IsShape, AreTable}
 use Rattle.carried_cells.proofs.Naming.{shape_of, own_count, rows_count}
 use Rattle.carried_cells.proofs.Stepping.{deep_kinds, deep_clocks, kinds_deeper, clocks_deeper, kinds_past, clocks_past}
 

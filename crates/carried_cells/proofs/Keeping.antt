@@ -1,19 +1,17 @@
 -- What goes over by the numbers of paths is what goes over by paths.
-use Rattle.std.proofs.Common.{◌≡◌, ◌∙◌, ap, sym, subst, refl, arith, ℕ, ℤ, zero, suc, pos, negsuc, ◌+◌, ◌+ℤ◌, true, false, Bool, ◌&&◌, List, [], ◌∷◌, map, Option, Some, None, slice_get, inl, inr}
+use Rattle.std.proofs.Common.{◌≡◌, ◌∙◌, ap, sym, subst, refl, arith, ℕ, ℤ, zero, suc, pos, negsuc, true, false, Bool, ◌&&◌, List, [], ◌∷◌, Option, Some, None, slice_get, inl, inr}
 use Rattle.std.proofs.lemmas.Int.{ints}
 use Rattle.std.proofs.lemmas.Bool.{cases_Bool}
-use Rattle.std.specs.Prelude.{if◌then◌else◌}
 use Rattle.block_order.specs.Chains.{Among}
 use Rattle.plant_types.specs.declared.values.Bounds.{Bounds}
-use Rattle.plant_types.specs.declared.values.Kind.{Kind}
 use Rattle.st_tree.specs.Kinds.{same_kind}
 use Rattle.plant_logic.specs.Source.{Source}
 use Rattle.plant_logic.specs.Worlds.{Path, same_path, index_word}
-use Rattle.plant_logic.specs.Layout.{IsDistinctlyNamed, NoneTwice}
+use Rattle.plant_logic.specs.Layout.{IsDistinctlyNamed}
 use Rattle.plant_logic.specs.Ranges.{KindAt, all_kinds}
 use Rattle.plant_logic.specs.Carried.{both_same, same_array, same_value, value_by_path, keeps_value}
-use Rattle.plant_logic.proofs.Paths.{path_is, path_same}
-use Rattle.plant_logic.proofs.KindPaths.{path, kinds_once}
+use Rattle.plant_logic.proofs.Paths.{path_is}
+use Rattle.plant_logic.proofs.KindPaths.{kinds_once}
 use Rattle.plant_logic.proofs.Carrying.{found_by, kind_found}
 use Rattle.carried_cells.specs.declared.lists.ValueAt.{ValueAt}
 use Rattle.carried_cells.specs.Paths.{AreNumbered, IsIndex, IsAt, IsElement, IsPlace, Respects, TellsWords, path_key, element_word}

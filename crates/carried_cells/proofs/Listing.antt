@@ -1,5 +1,5 @@
 -- Values and standard blocks that are listed one after another.
-use Rattle.std.proofs.Common.{◌≡◌, ◌<◌, ◌∙◌, ap, sym, subst, refl, arith, ℕ, ℤ, zero, suc, pos, ◌+◌, ◌+ℤ◌, List, [], ◌∷◌, ◌++◌, map, take, length, Option, Some, None, slice_get, append-nil, append_assoc}
+use Rattle.std.proofs.Common.{◌≡◌, ◌∙◌, ap, sym, subst, refl, arith, ℕ, ℤ, zero, suc, pos, ◌+◌, ◌+ℤ◌, List, [], ◌∷◌, ◌++◌, map, take, Option, Some, slice_get, append-nil, append_assoc}
 use Rattle.std.proofs.lemmas.Int.{ints}
 use Rattle.std.proofs.lemmas.List.{map-append}
 use Rattle.plant_types.specs.Words.{folded}
@@ -14,7 +14,7 @@ use Rattle.plant_logic.specs.Layout.{ClockAt, elements_from, element_values, blo
 use Rattle.plant_logic.specs.Ranges.{KindAt, kind_at, element_at, local_kinds, row_kinds, block_kinds, instance_kinds, kinds_rule, routine_kinds, program_kinds}
 use Rattle.carried_cells.specs.declared.lists.ValueAt.{ValueAt}
 use Rattle.carried_cells.specs.declared.lists.StandardAt.{StandardAt}
-use Rattle.carried_cells.specs.Paths.{Grows, path_key, element_word, HasWord, IsAt, IsPlace}
+use Rattle.carried_cells.specs.Paths.{Grows, path_key, IsAt, IsPlace}
 use Rattle.carried_cells.specs.Shapes.{IsNumbered}
 use Rattle.carried_cells.specs.Lists.{AreValues, AreStandards, Lists}
 use Rattle.carried_cells.proofs.Tables.{grows_on, grows_none, at_later, place_later}

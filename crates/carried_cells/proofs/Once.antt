@@ -1,10 +1,10 @@
 -- No path has two places, and no number of a path stands twice.
-use Rattle.std.proofs.Common.{◌≡◌, ◌∙◌, ap, sym, subst, refl, arith, ℕ, zero, suc, ◌≤◌, true, false, List, [], ◌∷◌, map, Option, Some, None, slice_get}
+use Rattle.std.proofs.Common.{◌≡◌, ◌∙◌, ap, sym, subst, refl, arith, ℕ, zero, suc, ◌≤◌, false, List, [], ◌∷◌, map, Option, Some, None, slice_get}
 use Rattle.std.proofs.lemmas.Bool.{both_ways}
 use Rattle.plant_logic.specs.Worlds.{Path, same_path}
 use Rattle.plant_logic.specs.Source.{Source}
 use Rattle.plant_logic.specs.Layout.{ClockAt, Absent, NoneTwice, IsDistinctlyNamed, clock_paths, all_clocks}
-use Rattle.plant_logic.specs.Ranges.{KindAt, all_kinds}
+use Rattle.plant_logic.specs.Ranges.{all_kinds}
 use Rattle.plant_logic.proofs.Paths.{path_same}
 use Rattle.plant_logic.proofs.KindPaths.{path, kinds_once}
 use Rattle.plant_logic.proofs.Layouts.{clocks_once}

@@ -1,5 +1,5 @@
 -- One more of a list is listed.
-use Rattle.std.proofs.Common.{◌≡◌, ◌≤◌, ◌<◌, ◌∙◌, ap, sym, subst, refl, arith, ℕ, zero, suc, pos, ◌+◌, ◌+ℤ◌, List, [], ◌∷◌, ◌++◌, map, take, length, Option, Some, None, slice_get, append-nil, append_assoc}
+use Rattle.std.proofs.Common.{◌≡◌, ◌≤◌, ◌<◌, ◌∙◌, ap, sym, refl, arith, ℕ, zero, suc, pos, ◌+◌, ◌+ℤ◌, List, [], ◌∷◌, ◌++◌, map, take, length, Option, Some, None, slice_get, append_assoc}
 use Rattle.std.specs.Option.{option_map_or}
 use Rattle.std.proofs.lemmas.Int.{ints}
 use Rattle.std.proofs.lemmas.List.{take_all}
@@ -10,7 +10,6 @@ use Rattle.plant_logic.specs.declared.logic.Local.{Local}
 use Rattle.plant_logic.specs.declared.logic.Row.{Row}
 use Rattle.plant_logic.specs.declared.logic.Instance.{Instance}
 use Rattle.plant_logic.specs.declared.logic.Variable.{Variable}
-use Rattle.plant_logic.specs.declared.logic.BlockRef.{BlockRef}
 use Rattle.plant_logic.specs.Source.{PlainRoutine}
 use Rattle.plant_logic.specs.Blocks.{levels}
 use Rattle.plant_logic.specs.Worlds.{Path, index_word, path_of}
@@ -27,7 +26,7 @@ use Rattle.carried_cells.specs.Shapes.{AreOwn, IsMeasured, AreRows, IsPart, AreP
 use Rattle.carried_cells.specs.Lists.{Lists}
 use Rattle.carried_cells.proofs.Tables.{grows_on, grows_none, at_later}
 use Rattle.carried_cells.proofs.Naming.{own_at, row_at, part_at, program_at, own_count, rows_count, parts_count, programs_count}
-use Rattle.carried_cells.proofs.Listing.{lists_on, lists_grown, list_value, list_block_at, path_below, local_kinds_next, row_kinds_next, instance_kinds_next, instance_clocks_next, program_kinds_next, program_clocks_next, element_kinds_more}
+use Rattle.carried_cells.proofs.Listing.{lists_grown, list_value, path_below, local_kinds_next, row_kinds_next, instance_kinds_next, instance_clocks_next, program_kinds_next, program_clocks_next, element_kinds_more}
 
 -- the kinds of an instance, and its standard blocks, so many levels deep
 abbrev pub deep_kinds : List PlainRoutine → ℕ → ℕ → Path → List KindAt

@@ -8,7 +8,7 @@ use Rattle.plant_types.specs.Words.{folded, same_word}
 use Rattle.word_index.specs.Names.{find_name}
 use Rattle.plant_logic.specs.Worlds.{Path}
 use Rattle.plant_types.specs.declared.values.Bounds.{Bounds}
-use Rattle.carried_cells.specs.Paths.{Grows, Respects, TellsWords, path_key, element_word, AreNumbered, HasWord, IsAt, IsElement, IsPlace}
+use Rattle.carried_cells.specs.Paths.{Grows, Respects, TellsWords, path_key, element_word, AreNumbered, HasWord, IsAt, IsPlace}
 
 pub grows_on : {K : Type 0} (a b c : K → Option ℕ) → Grows a b → Grows b c → Grows a c
 grows_on a b c first next k n is = next k n (first k n is)

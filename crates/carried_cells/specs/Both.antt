@@ -8,14 +8,14 @@ use Rattle.plant_logic.specs.Ranges.{all_kinds}
 use Rattle.plant_logic.specs.Carried.{carried}
 use Rattle.plant_cells.specs.declared.clock.Clock.{Clock}
 use Rattle.block_frames.specs.Stands.{clock_in}
-use Rattle.carried_cells.specs.declared.both.Listing.{Listing}
+use Rattle.carried_cells.specs.declared.both.SourceList.{SourceList}
 use Rattle.carried_cells.specs.declared.both.Both.{Both}
 use Rattle.carried_cells.specs.declared.lists.Listed.{Listed}
 use Rattle.carried_cells.specs.Paths.{Grows, AreNumbered}
 use Rattle.carried_cells.specs.Lists.{AreValues, AreStandards, numbers_in}
 
 -- these are all values and all standard blocks of a source, by the numbers of their paths
-pub record IsListing (words : List ℕ → Option ℕ) (numbers : ℕ → Option ℕ) (listing : Listing) (source : Source) : Type 0 where
+pub record IsListing (words : List ℕ → Option ℕ) (numbers : ℕ → Option ℕ) (listing : SourceList) (source : Source) : Type 0 where
   pub values_are : AreValues words numbers listing.values.items (all_kinds source)
   pub standards_are : AreStandards words numbers listing.standards.items (all_clocks source)
 

@@ -14,7 +14,7 @@ use std::collections::HashMap;
 
 /// All values and all standard blocks of a source in order, each with the number of its path.
 #[derive(Drop)]
-pub struct Listing {
+pub struct SourceList {
     pub values: Vec<ValueAt>,
     pub standards: Vec<StandardAt>,
 }
@@ -22,8 +22,8 @@ pub struct Listing {
 /// Those of an old source and of a new one. The numbers of paths are below the number of paths.
 #[derive(Drop)]
 pub struct Both {
-    pub old: Listing,
-    pub new: Listing,
+    pub old: SourceList,
+    pub new: SourceList,
     pub paths: usize,
 }
 
@@ -58,12 +58,12 @@ pub fn both_of(alloc: Global, old: &SourceShape, new: &SourceShape) -> Result<Bo
     } = first;
     let second = listed_on(alloc, numbers, new)?;
     let paths = second.numbers.len() + 1;
-    let old = Listing { values, standards };
+    let old = SourceList { values, standards };
     let Listed {
         numbers: _,
         values,
         standards,
     } = second;
-    let new = Listing { values, standards };
+    let new = SourceList { values, standards };
     Ok(Both { old, new, paths })
 }

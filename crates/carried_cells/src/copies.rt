@@ -1,21 +1,22 @@
 //! Cells after what goes over was carried to them.
 
-ghost use Rattle.std.specs.Prelude.{◌≡◌, IfOk, length};
+ghost use Rattle.std.specs.Prelude.{◌≡◌, ◌<◌, IfOk, get_or, length, pos};
 ghost use Rattle.carried_cells.specs.Keeping.{carried_one, AreCarried};
 
 use crate::kept::place_of;
 use plant_cells::Clock;
 use std::alloc::{AllocError, Global};
 
-/// The old value of a number, or else the one that is here.
-fn carried_value(before: &[i64], here: i64, kept: Option<usize>) -> i64
-    ensures { result ≡ carried_one before.now here kept }
+/// The old value of a number, or else the one at a place here.
+fn carried_value(before: &[i64], here: &[i64], place: usize, kept: Option<usize>) -> i64
+    requires { place < length here.now }
+    ensures { result ≡ carried_one before.now (get_or here.now place (pos 0)) kept }
 {
     match kept {
-        None => here,
+        None => here[place],
         Some(number) => match before.get(number) {
             Some(value) => *value,
-            None => here,
+            None => here[place],
         },
     }
 }
@@ -45,7 +46,8 @@ pub fn carried_values(
     let mut after = Vec::with_capacity(alloc, here.len())?;
     for number in 0..here.len() {
         let old = place_of(kept, number);
-        after.push(carried_value(before, here[number], old))?;
+        let value = carried_value(before, here, number, old);
+        after.push(value)?;
     }
     Ok(after)
 }

@@ -1,4 +1,4 @@
-use Rattle.std.proofs.Common.{◌≡◌, ◌∙◌, ap, subst, arith, ℕ, ℤ, ◌<◌, List, Option, map, length}
+use Rattle.std.proofs.Common.{◌≡◌, ◌∙◌, ap, subst, arith, ℕ, ℤ, List, Option, map, length}
 use Rattle.std.proofs.lemmas.List.{length-map}
 use Rattle.word_index.specs.Names.{find_name}
 use Rattle.plant_logic.specs.Worlds.{opening}

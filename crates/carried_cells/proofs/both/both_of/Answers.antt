@@ -1,4 +1,4 @@
-use Rattle.std.proofs.Common.{◌≡◌, ◌<◌, ◌+◌, arith, List}
+use Rattle.std.proofs.Common.{arith}
 use Rattle.std.specs.HashMap.{hash_map_len}
 use Rattle.plant_logic.specs.Layout.{all_clocks}
 use Rattle.plant_logic.specs.Ranges.{all_kinds}
@@ -22,7 +22,7 @@ returns c = λ words before after old_is new_is.
       numbers = all;
       count = hash_map_len second.numbers;
       numbered = c.in_ok-second.ensures.numbered;
-      below = (let long = c.len.ensures.len in omega (arith, long));
+      below = (let long = c.len-paths.ensures.len in omega (arith, long));
       old_is = record {
         values_are = values_later words older all two.grows first.values.items (all_kinds before) one.values_are;
         standards_are = standards_later words older all two.grows first.standards.items (all_clocks before) one.standards_are;

@@ -1,4 +1,4 @@
-use Rattle.std.proofs.Common.{◌≡◌, sym, subst, List, []}
+use Rattle.std.proofs.Common.{sym, subst, List, []}
 use Rattle.std.specs.Prelude.{nat_eq}
 use Rattle.std.specs.HashMap.{get}
 use Rattle.carried_cells.specs.declared.lists.ValueAt.{ValueAt}

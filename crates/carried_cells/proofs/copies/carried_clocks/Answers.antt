@@ -1,4 +1,4 @@
-use Rattle.std.proofs.Common.{◌≡◌, ◌∙◌, ◌+◌, ap, sym, subst, List, [], ◌∷◌, ◌++◌, ◌<◌, length, get_or, arith, ℕ, pos}
+use Rattle.std.proofs.Common.{◌≡◌, ◌∙◌, ap, sym, subst, [], ◌∷◌, ◌++◌, ◌<◌, length, arith, ℕ}
 use Rattle.carried_cells.specs.Keeping.{carried_one, AreCarried}
 use Rattle.carried_cells.proofs.Copying.{carried_none, carried_step}
 use Rattle.carried_cells.proofs.copies.carried_clocks.Goals as goal

@@ -1,4 +1,4 @@
-use Rattle.std.proofs.Common.{◌≡◌, ◌≤◌, length}
+use Rattle.std.proofs.Common.{◌≤◌, length}
 use Rattle.carried_cells.specs.Keeping.{AreCarried}
 use Rattle.carried_cells.proofs.copies.carried_clocks.Given as goal
 

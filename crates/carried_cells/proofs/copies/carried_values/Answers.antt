@@ -1,4 +1,5 @@
-use Rattle.std.proofs.Common.{◌≡◌, ◌∙◌, ◌+◌, ap, sym, subst, List, [], ◌∷◌, ◌++◌, ◌<◌, length, get_or, arith, ℕ, pos}
+use Rattle.std.proofs.Common.{◌≡◌, ◌∙◌, ap, sym, subst, [], ◌∷◌, ◌++◌, ◌<◌, length, FitsSigned, w64, rules, arith, ℕ, pos}
+use Rattle.std.proofs.lemmas.Int.{to_z-of_z}
 use Rattle.carried_cells.specs.Keeping.{AreCarried}
 use Rattle.carried_cells.proofs.Copying.{carried_none, carried_step}
 use Rattle.carried_cells.proofs.copies.carried_values.Goals as goal
@@ -17,8 +18,9 @@ loop-number-preserved c =
     let n = c.loop-number.number in
     let test = c.loop-number-test.true in
     let less : n < length here = omega (arith, test) in
+    let fits : FitsSigned w64 c.carried_value-value.result = search rules in
     record {
-      so_far = carried_step before here kept n c.loop-number.after.items c.push.new.self.items (pos 0) c.place_of-old.result less c.place_of-old.ensures (c.in_ok-push.ensures.items ∙ ap (λ v. c.loop-number.after.items ++ v ∷ []) c.carried_value.ensures) c.loop-number.invariant.so_far;
+      so_far = carried_step before here kept n c.loop-number.after.items c.push.new.self.items (pos 0) c.place_of-old.result less c.place_of-old.ensures (c.in_ok-push.ensures.items ∙ ap (λ v. c.loop-number.after.items ++ v ∷ []) (to_z-of_z w64 c.carried_value-value.result fits ∙ c.carried_value-value.ensures)) c.loop-number.invariant.so_far;
       within = omega (arith, less);
     }
 

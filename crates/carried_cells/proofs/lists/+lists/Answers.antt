@@ -1,20 +1,17 @@
-use Rattle.std.proofs.Common.{◌≡◌, ◌∙◌, ◌+◌, ◌-◌, ◌<◌, ◌++◌, ℕ, suc, List, [], Some, None, take, length, slice_get, slice_index_or, arith, append-nil, ap, sym, subst, refl}
+use Rattle.std.proofs.Common.{◌≡◌, ◌∙◌, ◌+◌, ◌-◌, ◌<◌, ◌++◌, suc, List, [], ◌∷◌, Some, None, length, slice_get, slice_index_or, arith, append-nil, ap, sym, subst, refl}
 use Rattle.std.proofs.lemmas.Result.{on_ok_weaker}
 use Rattle.std.proofs.lemmas.Option.{slice_get-get_or}
 use Rattle.plant_types.specs.Words.{folded}
-use Rattle.plant_logic.specs.declared.logic.BlockRef.{BlockRef}
-use Rattle.plant_logic.specs.declared.logic.BlockRef.TheVariants.{Ton, Declared}
+use Rattle.plant_logic.specs.declared.logic.BlockRef.TheVariants.{Ton}
 use Rattle.plant_logic.specs.declared.logic.Instance.{Instance}
-use Rattle.plant_logic.specs.Source.{PlainRoutine}
-use Rattle.plant_logic.specs.Worlds.{Path}
-use Rattle.plant_logic.specs.Layout.{ClockAt, block_clocks, instance_clocks, clocks_rule}
-use Rattle.plant_logic.specs.Ranges.{KindAt, local_kinds, row_kinds, own_kinds, block_kinds, instance_kinds, kinds_rule}
+use Rattle.plant_logic.specs.Layout.{block_clocks, instance_clocks, clocks_rule}
+use Rattle.plant_logic.specs.Ranges.{local_kinds, row_kinds, own_kinds, block_kinds, instance_kinds, kinds_rule}
 use Rattle.carried_cells.specs.declared.words.Own.{Own}
 use Rattle.carried_cells.specs.declared.words.OwnRow.{OwnRow}
 use Rattle.carried_cells.specs.declared.words.Part.{Part}
 use Rattle.carried_cells.specs.Marks.{is_marked}
 use Rattle.carried_cells.specs.Shapes.{AreOwn, AreRows, AreParts}
-use Rattle.carried_cells.specs.Lists.{Lists, Adds, numbers_in}
+use Rattle.carried_cells.specs.Lists.{Adds, numbers_in}
 use Rattle.carried_cells.proofs.Tables.{grows_none, at_later}
 use Rattle.carried_cells.proofs.Naming.{shape_at, shapes_count}
 use Rattle.carried_cells.proofs.Listing.{lists_none, lists_grown, path_below}
@@ -92,7 +89,7 @@ list_routine-loop-part-preserved t c =
 pub list_part-returns-then-is_marked-clause-lists : goal.list_part-returns-then-is_marked-clause-lists
 list_part-returns-then-is_marked-clause-lists t c = λ words blocks i q are it at_q.
     let before = c.args.listed.now in
-    let nothing = part_none words c.args.table.now blocks are c.args.depth i.of (folded i.name ∷ q) (ap (is_marked c.args.table.now.marks.items) (sym it.of_is) ∙ c.if-is_marked.true) in
+    let nothing = part_none words c.args.table.now blocks are c.args.depth i.of (folded i.name ∷ q) (ap (is_marked c.args.table.now.marks.items) (sym it.of_is) ∙ ap (λ marks. is_marked marks c.args.part.of) (sym c.deref.ensures.value) ∙ sym c.is_marked.ensures ∙ c.if-is_marked.true) in
     subst (λ ks. Adds words before before ks (block_clocks (deep_clocks blocks c.args.depth) i.of (folded i.name ∷ q))) (sym nothing.0)
     (subst (λ cs. Adds words before before [] cs) (sym nothing.1) (lists_none words (numbers_in before) before.values.items before.standards.items))
 

@@ -1,4 +1,4 @@
-use Rattle.std.proofs.Common.{◌≡◌, ℕ, List, [], ◌∷◌, ◌++◌, ◌+◌, Option, Some, None, take, slice_get, slice_index_or, arith, sym, subst}
+use Rattle.std.proofs.Common.{◌≡◌, List, [], ◌+◌, Some, take, slice_get, slice_index_or, arith, sym, subst}
 use Rattle.std.proofs.lemmas.Option.{slice_get-get_or}
 use Rattle.plant_types.specs.declared.values.Kind.TheVariants as kind
 use Rattle.plant_logic.specs.declared.logic.Local.{Local}

@@ -1,4 +1,4 @@
-use Rattle.std.proofs.Common.{◌≡◌, ℕ, List, Option, take}
+use Rattle.std.proofs.Common.{ℕ, List, Option, take}
 use Rattle.plant_logic.specs.Source.{PlainRoutine}
 use Rattle.plant_logic.specs.Layout.{program_clocks}
 use Rattle.plant_logic.specs.Ranges.{program_kinds}

@@ -1,4 +1,4 @@
-use Rattle.std.proofs.Common.{◌≡◌, ℕ, List, [], ◌+◌, map, arith, sym, subst}
+use Rattle.std.proofs.Common.{List, [], ◌+◌, map, arith, sym, subst}
 use Rattle.plant_logic.specs.Layout.{elements_from}
 use Rattle.plant_logic.specs.Ranges.{element_at}
 use Rattle.carried_cells.specs.declared.lists.ValueAt.{ValueAt}

@@ -1,4 +1,4 @@
-use Rattle.std.proofs.Common.{◌≡◌, ℕ, List, [], Option, map}
+use Rattle.std.proofs.Common.{ℕ, List, [], Option, map}
 use Rattle.plant_logic.specs.Worlds.{Path}
 use Rattle.plant_logic.specs.Layout.{elements_from}
 use Rattle.plant_logic.specs.Ranges.{element_at}

@@ -1,4 +1,4 @@
-use Rattle.std.proofs.Common.{◌≡◌, ℕ, List, [], Option, take}
+use Rattle.std.proofs.Common.{ℕ, List, [], Option, take}
 use Rattle.plant_logic.specs.declared.logic.Row.{Row}
 use Rattle.plant_logic.specs.Worlds.{Path}
 use Rattle.plant_logic.specs.Ranges.{row_kinds}

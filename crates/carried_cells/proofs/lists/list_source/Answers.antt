@@ -1,4 +1,4 @@
-use Rattle.std.proofs.Common.{◌≡◌, ◌++◌, ℕ, List, [], map, ap, sym, subst, refl}
+use Rattle.std.proofs.Common.{◌++◌, List, [], map, ap, sym, subst, refl}
 use Rattle.std.proofs.lemmas.Result.{on_ok_weaker}
 use Rattle.plant_logic.specs.Layout.{all_clocks, program_clocks}
 use Rattle.plant_logic.specs.Ranges.{local_kinds, row_kinds, global_kinds, program_kinds, all_kinds}

@@ -1,4 +1,4 @@
-use Rattle.std.proofs.Common.{◌≡◌, ℕ, List, [], ◌∷◌, ◌++◌, append-nil, sym, subst, refl}
+use Rattle.std.proofs.Common.{List, [], ◌∷◌, ◌++◌, append-nil, sym, subst, refl}
 use Rattle.plant_logic.specs.Layout.{ClockAt}
 use Rattle.plant_logic.specs.Ranges.{local_kinds}
 use Rattle.carried_cells.specs.declared.lists.StandardAt.{StandardAt}

@@ -10,6 +10,5 @@ loop-number-preserved c =
     let shape = c.index-shapes-number.result in
     let n = c.loop-number.number in
     let test = c.loop-number-test.true in
-    let end = c.len-number-end.ensures in
-    let at : slice_get shapes n ≡ Some shape = slice_get-get_or shapes n shape (omega (arith, test, end)) ∙ ap Some (sym c.index-shapes-number.is) in
+    let at : slice_get shapes n ≡ Some shape = slice_get-get_or shapes n shape (omega (arith, test)) ∙ ap Some (sym c.index-shapes-number.is) in
     subst (λ (marks : List Bool). AreMarked marks shapes) (sym c.mark_one.ensures) (marked_more c.loop-number.marks.items n shapes shape at c.loop-number.invariant)

@@ -1,4 +1,3 @@
-use Rattle.std.proofs.Common.{◌≡◌}
 use Rattle.carried_cells.specs.Marks.{AreMarked}
 use Rattle.carried_cells.proofs.marks.mark_more.Given as goal
 

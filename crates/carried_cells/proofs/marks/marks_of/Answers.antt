@@ -1,4 +1,4 @@
-use Rattle.std.proofs.Common.{◌≡◌, sym, subst, List, Bool, length}
+use Rattle.std.proofs.Common.{sym, subst, List, Bool}
 use Rattle.carried_cells.specs.Marks.{AreMarked}
 use Rattle.carried_cells.proofs.Marking.{none_marked}
 use Rattle.carried_cells.proofs.marks.marks_of.Goals as goal

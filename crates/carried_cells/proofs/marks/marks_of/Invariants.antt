@@ -1,4 +1,3 @@
-use Rattle.std.proofs.Common.{◌≡◌}
 use Rattle.carried_cells.specs.Marks.{AreMarked}
 use Rattle.carried_cells.proofs.marks.marks_of.Given as goal
 

@@ -1,7 +1,7 @@
-use Rattle.std.proofs.Common.{◌≡◌, ◌+◌, ◌∙◌, ap, sym, subst, refl, arith, Some, take, slice_get}
+use Rattle.std.proofs.Common.{◌≡◌, ◌∙◌, ap, sym, subst, refl, arith, Some, slice_get}
 use Rattle.std.proofs.lemmas.Option.{slice_get-get_or}
 use Rattle.word_index.specs.Names.{find_name}
-use Rattle.carried_cells.specs.Shapes.{IsNumbered, AreOwn}
+use Rattle.carried_cells.specs.Shapes.{IsNumbered}
 use Rattle.carried_cells.proofs.Tables.{grows_on}
 use Rattle.carried_cells.proofs.Naming.{own_next}
 use Rattle.carried_cells.proofs.words.own_of.Goals as goal

@@ -1,8 +1,8 @@
-use Rattle.std.proofs.Common.{◌≡◌, ◌+◌, ◌∙◌, ap, sym, subst, refl, arith, Some, take, slice_get}
+use Rattle.std.proofs.Common.{◌≡◌, ◌∙◌, ap, sym, subst, refl, arith, Some, slice_get}
 use Rattle.std.proofs.lemmas.Int.{ints}
 use Rattle.std.proofs.lemmas.Option.{slice_get-get_or}
 use Rattle.word_index.specs.Names.{find_name}
-use Rattle.carried_cells.specs.Shapes.{IsNumbered, AreRows}
+use Rattle.carried_cells.specs.Shapes.{IsNumbered}
 use Rattle.carried_cells.proofs.Tables.{grows_on}
 use Rattle.carried_cells.proofs.Naming.{rows_next}
 use Rattle.carried_cells.proofs.words.rows_of.Goals as goal
