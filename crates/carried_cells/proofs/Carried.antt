@@ -87,16 +87,16 @@ module _ (words : List ℕ → Option ℕ) (numbers : ℕ → Option ℕ) (count
         let count_is : length (all_kinds new) ≡ length paths = sym (length-map (all_kinds new) path) ∙ ap length (paths_all new) in
         let many : length (map f paths) ≡ length paths = length-map paths f in
         same_lists after (map f paths) (carries.long ∙ as_many ∙ sym many) (λ m less.
-            let k = stands_there (all_kinds new) m (omega (arith, less, many, count_is)) in
-            let v = value_there words numbers ws (all_kinds new) m k.0 ws_are k.1 in
-            let most = place_most words numbers count are v.0.path k.0.path k.0.bounds v.2.at in
-            let keeps = value_kept vs places v.0 placed once (omega (arith, most, small)) in
-            let here_is : slice_get here m ≡ Some ((opening new).values k.0.path) = value_of new (opening new).values m k.0 k.1 in
-            let number : get_or (map (kept_value vs places) ws) m None ≡ kept_value vs places v.0 = get_or_from_slice_get (map (kept_value vs places) ws) m (kept_value vs places v.0) None (mapped_at (kept_value vs places) ws m v.0 v.1) in
-            carries.each m ((opening new).values k.0.path) (omega (arith, less, many, as_many)) here_is
-            ∙ ap (λ (o : Option ℕ). Some (carried_one (map w.values (cell_paths old)) ((opening new).values k.0.path) o)) number
-            ∙ ap Some (by_kept m k.0 v.0 k.1 v.2 (kept_value vs places v.0) keeps)
-            ∙ sym (value_of new f m k.0 k.1))
+        let k = stands_there (all_kinds new) m (omega (arith, less, many, count_is)) in
+        let v = value_there words numbers ws (all_kinds new) m k.0 ws_are k.1 in
+        let most = place_most words numbers count are v.0.path k.0.path k.0.bounds v.2.at in
+        let keeps = value_kept vs places v.0 placed once (omega (arith, most, small)) in
+        let here_is : slice_get here m ≡ Some ((opening new).values k.0.path) = value_of new (opening new).values m k.0 k.1 in
+        let number : get_or (map (kept_value vs places) ws) m None ≡ kept_value vs places v.0 = get_or_from_slice_get (map (kept_value vs places) ws) m (kept_value vs places v.0) None (mapped_at (kept_value vs places) ws m v.0 v.1) in
+        carries.each m ((opening new).values k.0.path) (omega (arith, less, many, as_many)) here_is
+        ∙ ap (λ (o : Option ℕ). Some (carried_one (map w.values (cell_paths old)) ((opening new).values k.0.path) o)) number
+        ∙ ap Some (by_kept m k.0 v.0 k.1 v.2 (kept_value vs places v.0) keeps)
+        ∙ sym (value_of new f m k.0 k.1))
 
   module _ (ss ts : List StandardAt) (ss_are : AreStandards words numbers ss (all_clocks old)) (ts_are : AreStandards words numbers ts (all_clocks new)) where
     by_calls : (m : ℕ) (c : ClockAt) (t : StandardAt) → slice_get (all_clocks new) m ≡ Some c → Standing words numbers t c → (o : Option ℕ) → KeepsCalls ss t o
@@ -119,13 +119,13 @@ module _ (words : List ℕ → Option ℕ) (numbers : ℕ → Option ℕ) (count
         let as_many : length here ≡ length clocks = length-map clocks (clock_in (opening new)) in
         let many : length (map (clock_in (carried old new w)) clocks) ≡ length clocks = length-map clocks (clock_in (carried old new w)) in
         same_lists after (map (clock_in (carried old new w)) clocks) (carries.long ∙ as_many ∙ sym many) (λ m less.
-            let c = stands_there clocks m (omega (arith, less, many)) in
-            let t = standard_there words numbers ts clocks m c.0 ts_are c.1 in
-            let most = standing_most words numbers count are t.0 c.0 t.2 in
-            let keeps = call_kept ss places t.0 placed once (omega (arith, most, small)) in
-            let here_is : slice_get here m ≡ Some (clock_in (opening new) c.0) = mapped_at (clock_in (opening new)) clocks m c.0 c.1 in
-            let number : get_or (map (kept_call ss places) ts) m None ≡ kept_call ss places t.0 = get_or_from_slice_get (map (kept_call ss places) ts) m (kept_call ss places t.0) None (mapped_at (kept_call ss places) ts m t.0 t.1) in
-            carries.each m (clock_in (opening new) c.0) (omega (arith, less, many, as_many)) here_is
-            ∙ ap (λ (o : Option ℕ). Some (carried_one (map (clock_in w) (all_clocks old)) (clock_in (opening new) c.0) o)) number
-            ∙ ap Some (by_calls m c.0 t.0 c.1 t.2 (kept_call ss places t.0) keeps)
-            ∙ sym (mapped_at (clock_in (carried old new w)) clocks m c.0 c.1))
+        let c = stands_there clocks m (omega (arith, less, many)) in
+        let t = standard_there words numbers ts clocks m c.0 ts_are c.1 in
+        let most = standing_most words numbers count are t.0 c.0 t.2 in
+        let keeps = call_kept ss places t.0 placed once (omega (arith, most, small)) in
+        let here_is : slice_get here m ≡ Some (clock_in (opening new) c.0) = mapped_at (clock_in (opening new)) clocks m c.0 c.1 in
+        let number : get_or (map (kept_call ss places) ts) m None ≡ kept_call ss places t.0 = get_or_from_slice_get (map (kept_call ss places) ts) m (kept_call ss places t.0) None (mapped_at (kept_call ss places) ts m t.0 t.1) in
+        carries.each m (clock_in (opening new) c.0) (omega (arith, less, many, as_many)) here_is
+        ∙ ap (λ (o : Option ℕ). Some (carried_one (map (clock_in w) (all_clocks old)) (clock_in (opening new) c.0) o)) number
+        ∙ ap Some (by_calls m c.0 t.0 c.1 t.2 (kept_call ss places t.0) keeps)
+        ∙ sym (mapped_at (clock_in (carried old new w)) clocks m c.0 c.1))

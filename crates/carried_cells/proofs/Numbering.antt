@@ -55,7 +55,6 @@ same_count f a b same are = record {
   once = are.once;
 }
 
-
 -- an empty table has no numbers
 module _ {S : Type 0} (m : HashMap ℕ ℕ S) (empty : m.entries ≡ []) where
   none_there : (k n : ℕ) → get nat_eq m k ≡ Some n → ⊥

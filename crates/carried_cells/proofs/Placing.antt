@@ -62,12 +62,12 @@ module _ (paths : List ℕ) (n path : ℕ) (places : List (Option ℕ)) (here : 
     told_now k q less at short = elim (same_or_not path q) [
       | inl same ↦ (n, subst (λ (x : ℕ). slice_get (slice_set places path (Some n)) x ≡ Some (Some n)) same (set_here places path (Some n) small))
       | inr other ↦ elim (same_or_not k n) [
-          | inl last ↦ (let both : Some path ≡ Some q = sym here ∙ ap (slice_get paths) (sym last) ∙ at in absurd (other cc))
-          | inr before ↦
-              let long = set_long places path (Some n) in
-              let was = are.told k q (omega (arith, less, before)) at (omega (arith, short, long)) in
-              (was.0, set_other places path q (Some n) other ∙ was.1)
-        ]
+        | inl last ↦ (let both : Some path ≡ Some q = sym here ∙ ap (slice_get paths) (sym last) ∙ at in absurd (other cc))
+        | inr before ↦
+            let long = set_long places path (Some n) in
+            let was = are.told k q (omega (arith, less, before)) at (omega (arith, short, long)) in
+            (was.0, set_other places path q (Some n) other ∙ was.1)
+      ]
     ]
 
     pub placed : ArePlaces paths (n + 1) (slice_set places path (Some n))

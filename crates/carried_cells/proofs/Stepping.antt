@@ -93,7 +93,7 @@ module _ (words : List ℕ → Option ℕ) (start now new : ℕ → Option ℕ) 
         let ks = block_kinds (deep_kinds blocks depth) i.0.of inside in
         let cs = block_clocks (deep_clocks blocks depth) i.0.of inside in
         let kinds : own ++ instance_kinds (deep_kinds blocks depth) (take (n + 1) r.instances) q ≡ (own ++ before) ++ ks =
-            ap (λ xs. own ++ xs) (instance_kinds_next (deep_kinds blocks depth) r.instances n i.0 q i.1) ∙ sym (append_assoc own before ks) in
+        ap (λ xs. own ++ xs) (instance_kinds_next (deep_kinds blocks depth) r.instances n i.0 q i.1) ∙ sym (append_assoc own before ks) in
         let clocks : instance_clocks (deep_clocks blocks depth) (take (n + 1) r.instances) q ≡ cut ++ cs = instance_clocks_next (deep_clocks blocks depth) r.instances n i.0 q i.1 in
         lists_grown words start now now later vs vs' vs'' ss ss' ss'' (own ++ before) ks (own ++ instance_kinds (deep_kinds blocks depth) (take (n + 1) r.instances) q) cut cs (instance_clocks (deep_clocks blocks depth) (take (n + 1) r.instances) q) so_far (grows_none now) more kinds clocks
 
@@ -110,8 +110,8 @@ module _ (words : List ℕ → Option ℕ) (start now new later : ℕ → Option
       let here = path_below words start new 0 below [] r.0.name p.word top r.2 (grows_on start now new so_far.grows grows) key in
       let more = lists r.0 (folded r.0.name ∷ []) r.3 here in
       lists_grown words start now new later vs vs' vs'' ss ss' ss'' (program_kinds blocks (take n routines)) (kinds_rule (routine_kinds blocks) r.0 (folded r.0.name ∷ [])) (program_kinds blocks (take (n + 1) routines))
-          (program_clocks blocks (take n routines)) (clocks_rule (routine_clocks blocks) r.0 (folded r.0.name ∷ [])) (program_clocks blocks (take (n + 1) routines)) so_far grows more
-          (program_kinds_next blocks routines n r.0 r.1) (program_clocks_next blocks routines n r.0 r.1)
+      (program_clocks blocks (take n routines)) (clocks_rule (routine_clocks blocks) r.0 (folded r.0.name ∷ [])) (program_clocks blocks (take (n + 1) routines)) so_far grows more
+      (program_kinds_next blocks routines n r.0 r.1) (program_clocks_next blocks routines n r.0 r.1)
 
 -- ---- all of a list
 pub own_all : (words : List ℕ → Option ℕ) (own : List Own) (locals : List Local) (n : ℕ) → AreOwn words own locals → length own ≤ n → take n locals ≡ locals

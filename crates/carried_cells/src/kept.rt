@@ -131,7 +131,11 @@ fn judged_value(old: &[ValueAt], number: usize, value: ValueAt) -> Option<usize>
     match old.get(number) {
         None => None,
         Some(other) => {
-            if same_listed(*other, value) { Some(number) } else { None }
+            if same_listed(*other, value) {
+                Some(number)
+            } else {
+                None
+            }
         }
     }
 }
@@ -153,17 +157,17 @@ fn judged_call(old: &[StandardAt], number: usize, standard: StandardAt) -> Optio
     match old.get(number) {
         None => None,
         Some(other) => {
-            if same_standard(other.of, standard.of) { Some(number) } else { None }
+            if same_standard(other.of, standard.of) {
+                Some(number)
+            } else {
+                None
+            }
         }
     }
 }
 
 /// The number of the old standard block whose calls go over to a standard block, by the places of the old ones.
-fn kept_call(
-    old: &[StandardAt],
-    places: &[Option<usize>],
-    standard: StandardAt,
-) -> Option<usize>
+fn kept_call(old: &[StandardAt], places: &[Option<usize>], standard: StandardAt) -> Option<usize>
     ensures { result ≡ kept_call old.now places.now standard }
 {
     match place_of(places, standard.path) {

@@ -213,11 +213,7 @@ fn list_routine(
 }
 
 /// Lists programs, one after another. Fails if allocation fails.
-fn list_programs(
-    table: &Table,
-    programs: &[Program],
-    listed: &mut Listed,
-) -> Result<(), AllocError>
+fn list_programs(table: &Table, programs: &[Program], listed: &mut Listed) -> Result<(), AllocError>
     requires { IsListing listed.old }
     ensures numbered { OnOk result (IsListing listed.new) }
     ensures lists { OnOk result ((words : List ℕ → Option ℕ) (blocks routines : List PlainRoutine) → AreTable words table.now blocks → ArePrograms words programs.now routines

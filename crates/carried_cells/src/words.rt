@@ -67,11 +67,7 @@ pub fn word_number(alloc: Global, names: &mut Names, name: &str) -> Result<usize
 }
 
 /// Variables of a routine's own by the numbers of their words. Fails if allocation fails.
-pub fn own_of(
-    alloc: Global,
-    names: &mut Names,
-    locals: &[Local],
-) -> Result<Vec<Own>, AllocError>
+pub fn own_of(alloc: Global, names: &mut Names, locals: &[Local]) -> Result<Vec<Own>, AllocError>
     ensures are { IfOk result (λ own. AreOwn (find_name names.new) own.items locals.now) }
     ensures grows { OnOk result (Grows (find_name names.old) (find_name names.new)) }
 {
@@ -107,11 +103,7 @@ pub fn globals_of(
 }
 
 /// Arrays by the numbers of their words. Fails if allocation fails.
-pub fn rows_of(
-    alloc: Global,
-    names: &mut Names,
-    rows: &[Row],
-) -> Result<Vec<OwnRow>, AllocError>
+pub fn rows_of(alloc: Global, names: &mut Names, rows: &[Row]) -> Result<Vec<OwnRow>, AllocError>
     ensures are { IfOk result (λ own. AreRows (find_name names.new) own.items rows.now) }
     ensures grows { OnOk result (Grows (find_name names.old) (find_name names.new)) }
 {

@@ -18,12 +18,12 @@ returns c = λ old new w pair before_is here_is.
     let after = c.in_ok-after.after.items in
     let paths_are : c.deref-2.result.now ≡ map value_path vs = c.deref-2.ensures.value ∙ c.in_ok-paths.ensures ∙ ap (map value_path) c.deref.ensures.value in
     let placed : ArePlaces (map value_path vs) (length vs) places =
-        subst (λ (n : ℕ). ArePlaces (map value_path vs) n places) (length-map vs value_path) (subst (λ (ps : List ℕ). ArePlaces ps (length ps) places) paths_are c.in_ok-places.ensures.places) in
+    subst (λ (n : ℕ). ArePlaces (map value_path vs) n places) (length-map vs value_path) (subst (λ (ps : List ℕ). ArePlaces ps (length ps) places) paths_are c.in_ok-places.ensures.places) in
     let size = c.in_ok-places.ensures.size in
     let kept_are : c.deref-6.result.now ≡ map (kept_value vs places) ws =
-        c.deref-6.ensures.value ∙ c.in_ok-kept.ensures ∙ (λ i. map (kept_value (c.deref-3.ensures.value i) (c.deref-4.ensures.value i)) (c.deref-5.ensures.value i)) in
+    c.deref-6.ensures.value ∙ c.in_ok-kept.ensures ∙ (λ i. map (kept_value (c.deref-3.ensures.value i) (c.deref-4.ensures.value i)) (c.deref-5.ensures.value i)) in
     let own : AreCarried (map w.values (cell_paths old)) (map (opening new).values (cell_paths new)) (map (kept_value vs places) ws) (length (map (opening new).values (cell_paths new))) after =
-        subst (λ (b : List ℤ). AreCarried b (map (opening new).values (cell_paths new)) (map (kept_value vs places) ws) (length (map (opening new).values (cell_paths new))) after) before_is
-        (subst (λ (h : List ℤ). AreCarried c.args.before.now h (map (kept_value vs places) ws) (length h) after) here_is
-        (subst (λ (k : List (Option ℕ)). AreCarried c.args.before.now c.args.here.now k (length c.args.here.now) after) kept_are c.in_ok-after.ensures)) in
+    subst (λ (b : List ℤ). AreCarried b (map (opening new).values (cell_paths new)) (map (kept_value vs places) ws) (length (map (opening new).values (cell_paths new))) after) before_is
+    (subst (λ (h : List ℤ). AreCarried c.args.before.now h (map (kept_value vs places) ws) (length h) after) here_is
+    (subst (λ (k : List (Option ℕ)). AreCarried c.args.before.now c.args.here.now k (length c.args.here.now) after) kept_are c.in_ok-after.ensures)) in
     values_carried (find_name pair.names) are.numbers are.count (names_respect pair.names) (names_tell pair.names) are.numbered old new pair.old_named pair.new_named w vs ws are.old_is.values_are are.new_is.values_are places after placed (omega (arith, are.below, size)) own

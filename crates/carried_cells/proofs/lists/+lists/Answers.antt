@@ -49,9 +49,9 @@ list_block-returns-else-number-len-clause-lists t c = on_ok_weaker c.list_routin
     let r = shape_at words shapes blocks n c.index.result.now are.blocks_are at in
     let depth : suc (c.args.depth - 1) ≡ c.args.depth = omega (arith, less) in
     let kinds : kinds_rule (deep_kinds blocks (c.args.depth - 1)) r.0 q ≡ block_kinds (deep_kinds blocks c.args.depth) c.args.of q =
-        sym (kinds_deeper blocks (c.args.depth - 1) n r.0 q r.1) ∙ kinds_at_depth blocks (suc (c.args.depth - 1)) c.args.depth n q depth ∙ ap (λ of. block_kinds (deep_kinds blocks c.args.depth) of q) (sym c.in-Declared.is) in
+    sym (kinds_deeper blocks (c.args.depth - 1) n r.0 q r.1) ∙ kinds_at_depth blocks (suc (c.args.depth - 1)) c.args.depth n q depth ∙ ap (λ of. block_kinds (deep_kinds blocks c.args.depth) of q) (sym c.in-Declared.is) in
     let clocks : clocks_rule (deep_clocks blocks (c.args.depth - 1)) r.0 q ≡ block_clocks (deep_clocks blocks c.args.depth) c.args.of q =
-        sym (clocks_deeper blocks (c.args.depth - 1) n r.0 q r.1) ∙ clocks_at_depth blocks (suc (c.args.depth - 1)) c.args.depth n q depth ∙ ap (λ of. block_clocks (deep_clocks blocks c.args.depth) of q) (sym c.in-Declared.is) in
+    sym (clocks_deeper blocks (c.args.depth - 1) n r.0 q r.1) ∙ clocks_at_depth blocks (suc (c.args.depth - 1)) c.args.depth n q depth ∙ ap (λ of. block_clocks (deep_clocks blocks c.args.depth) of q) (sym c.in-Declared.is) in
     subst (λ ks. Adds words before later ks (block_clocks (deep_clocks blocks c.args.depth) c.args.of q)) kinds
     (subst (λ cs. Adds words before later (kinds_rule (deep_kinds blocks (c.args.depth - 1)) r.0 q) cs) clocks (f words blocks r.0 q are r.2 at_q))) c.list_routine.ensures.lists
 

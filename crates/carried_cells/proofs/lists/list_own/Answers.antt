@@ -23,7 +23,7 @@ loop-variable-preserved c =
       lists = λ words locals q are at_q.
           subst (λ (vs : List ValueAt). Lists words (numbers_in before) new before.values.items vs before.standards.items old.standards.items (local_kinds (take (n + 1) locals) q) []) (sym c.in_ok-push.ensures.items)
           (own_step words (numbers_in before) (numbers_in old) new before.values.items old.values.items before.standards.items old.standards.items c.args.path c.in_ok-below.below q n own locals o are at at_q
-              (c.loop-variable.invariant.lists words locals q are at_q) c.in_ok-below.ensures.grows c.in_ok-below.ensures.number);
+          (c.loop-variable.invariant.lists words locals q are at_q) c.in_ok-below.ensures.grows c.in_ok-below.ensures.number);
     }
 
 pub returns-clause-lists : goal.returns-clause-lists

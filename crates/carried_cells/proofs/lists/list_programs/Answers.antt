@@ -25,7 +25,7 @@ loop-program-preserved c =
           program_step words (numbers_in before) (numbers_in old) new (numbers_in later) before.values.items old.values.items later.values.items before.standards.items old.standards.items later.standards.items c.in_ok-path.path n blocks routines programs p programs_are at
           (c.loop-program.invariant.lists words blocks routines are programs_are) c.in_ok-path.ensures.grows c.in_ok-path.ensures.number
           (λ r inside is here. subst (λ (d : ℕ). Lists words new (numbers_in later) old.values.items later.values.items old.standards.items later.standards.items (kinds_rule (deep_kinds blocks d) r inside) (clocks_rule (deep_clocks blocks d) r inside)) depth
-              (c.in_ok-list_routine.ensures.lists words blocks r inside are is here));
+          (c.in_ok-list_routine.ensures.lists words blocks r inside are is here));
     }
 
 pub returns-clause-lists : goal.returns-clause-lists

@@ -18,5 +18,5 @@ loop-step-preserved c =
       lists = λ words q measured at_q.
           subst (λ (vs : List ValueAt). Lists words (numbers_in before) new before.values.items vs before.standards.items old.standards.items (map (element_at row.kind row.bounds) (elements_from row.bounds.low (n + 1) q)) []) (sym c.in_ok-push.ensures.items)
           (element_step words (numbers_in before) (numbers_in old) new before.values.items old.values.items before.standards.items old.standards.items c.args.path c.in_ok-below.below q n row.kind row.bounds row.first (9223372036854775808 + row.first + n) measured.first_is (omega arith) (omega arith) at_q
-              (c.loop-step.invariant.lists words q measured at_q) c.in_ok-below.ensures.grows c.in_ok-below.ensures.number);
+          (c.loop-step.invariant.lists words q measured at_q) c.in_ok-below.ensures.grows c.in_ok-below.ensures.number);
     }

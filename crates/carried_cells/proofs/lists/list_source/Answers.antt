@@ -23,6 +23,6 @@ returns-clause-lists c = on_ok_weaker c.list_programs.result (λ f. λ words sou
     let rows = c.in_ok-list_rows.ensures.lists words source.rows [] (subst (λ (xs : List OwnRow). AreRows words xs source.rows) (sym c.deref-2.ensures.value) is.rows) refl in
     let programs = f words source.blocks source.programs is.table (subst (λ (xs : List Program). ArePrograms words xs source.programs) (sym c.deref-3.ensures.value) is.programs) in
     let globals = lists_grown words (numbers_in a) (numbers_in b) (numbers_in b) (numbers_in d) a.values.items b.values.items d.values.items a.standards.items b.standards.items d.standards.items
-        (local_kinds locals []) (row_kinds source.rows []) (global_kinds source) [] [] [] own (grows_none (numbers_in b)) rows (ap (λ ks. ks ++ row_kinds source.rows []) (sym (globals_as_own source.globals))) refl in
+    (local_kinds locals []) (row_kinds source.rows []) (global_kinds source) [] [] [] own (grows_none (numbers_in b)) rows (ap (λ ks. ks ++ row_kinds source.rows []) (sym (globals_as_own source.globals))) refl in
     lists_grown words (numbers_in a) (numbers_in d) (numbers_in d) (numbers_in e) a.values.items d.values.items e.values.items a.standards.items d.standards.items e.standards.items
     (global_kinds source) (program_kinds source.blocks source.programs) (all_kinds source) [] (program_clocks source.blocks source.programs) (all_clocks source) globals (grows_none (numbers_in d)) programs refl refl) c.list_programs.ensures.lists

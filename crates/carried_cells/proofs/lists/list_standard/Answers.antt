@@ -18,4 +18,4 @@ returns-clause-lists c = λ words locals q are at_q.
     let more = list_block_at words new old.values.items old.standards.items s clock (at_later words words (numbers_in before) new (grows_none words) own.grows c.args.path q at_q) refl in
     subst (λ (ss : List StandardAt). Lists words (numbers_in before) new before.values.items old.values.items before.standards.items ss (local_kinds locals q) (clock ∷ [])) (sym c.in_ok-push.ensures.items)
     (lists_grown words (numbers_in before) new new new before.values.items old.values.items old.values.items before.standards.items old.standards.items (old.standards.items ++ s ∷ []) (local_kinds locals q) [] (local_kinds locals q) [] (clock ∷ []) (clock ∷ [])
-        own (grows_none new) more (sym (append-nil (local_kinds locals q))) refl)
+    own (grows_none new) more (sym (append-nil (local_kinds locals q))) refl)
