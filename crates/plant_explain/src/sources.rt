@@ -3,11 +3,10 @@
 use crate::finding::MOST_FAULTS;
 use crate::rows::spots_behind_sources;
 use crate::units::source_named;
-use grammar_causes::ungrammatical;
 use plant_folder::PlantTexts;
 use plant_places::text_of;
 use plant_types::Text;
-use source_causes::{Reading, Told, misspelled_at, tell};
+use source_causes::{Reading, Told, misspelled_at, tell, ungrammatical};
 use std::alloc::{AllocError, Global};
 use token_causes::{FileOf, Spot, byte_at};
 

@@ -31,35 +31,24 @@ pub fn cause_of(said: String, page: &'static str) -> Cause {
 
 /// The bytes of a text from one number to before another; none where these aren't in order in the text.
 pub fn part(text: &[u8], from: usize, until: usize) -> &[u8] {
-    match text.get(from..until) {
-        Some(part) => part,
-        None => b"",
-    }
+    text.get(from..until).unwrap_or(b"")
 }
 
 /// The number of the byte at a line and a column of a text, which count from 1; that of its end if it has no such line. A byte order mark at its start isn't
 /// counted.
 pub fn byte_at(text: &[u8], line: usize, column: usize) -> usize {
-    let mut lines = 1usize;
-    let mut start = if text.starts_with(&[0xEF, 0xBB, 0xBF]) {
+    let mark = if text.starts_with(&[0xEF, 0xBB, 0xBF]) {
         3
     } else {
         0
     };
-    for (i, byte) in text.iter().enumerate() {
-        if lines >= line {
-            break;
-        }
-        if *byte == b'\n' {
-            lines = lines.saturating_add(1);
-            start = i.saturating_add(1);
-        }
-    }
-    if lines < line {
-        return text.len();
-    }
-    start
-        .saturating_add(column)
-        .saturating_sub(1)
-        .min(text.len())
+    let mut ends = text.iter().enumerate().filter(|(_, byte)| **byte == b'\n');
+    let start = match line {
+        0 | 1 => Some(mark),
+        _ => ends
+            .nth(line.saturating_sub(2))
+            .map(|(end, _)| end.saturating_add(1)),
+    };
+    let at = start.map(|start| start.saturating_add(column).saturating_sub(1));
+    at.unwrap_or(text.len()).min(text.len())
 }

@@ -1,49 +1,46 @@
-//! A name that is near another one.
+//! Words in tables, and names that are near another one.
 
+use crate::cause::part;
 use plant_types::same_word;
 
-/// With how many letters two words both begin.
-fn same_len(a: &[u8], b: &[u8]) -> usize {
-    for number in 0..a.len() {
-        match (a.get(number), b.get(number)) {
-            (Some(x), Some(y)) if x.eq_ignore_ascii_case(y) => {}
-            _ => return number,
+/// What a table says of a word; empty where it has no such word. Each line has words with blanks between them, and behind `: ` what is said of these.
+pub fn said_in(table: &'static str, word: &str) -> &'static str {
+    for line in table.lines() {
+        if let Some((words, said)) = line.split_once(": ") {
+            if words
+                .split(" ")
+                .any(|one| same_word(one.as_bytes(), word.as_bytes()))
+            {
+                return said;
+            }
         }
     }
-    a.len()
+    ""
 }
 
 /// What is left of two words behind the letters that both begin with.
 fn rests<'a, 'b>(a: &'a [u8], b: &'b [u8]) -> (&'a [u8], &'b [u8]) {
-    let same = same_len(a, b);
-    (a.get(same..).unwrap_or(b""), b.get(same..).unwrap_or(b""))
+    let same = a
+        .iter()
+        .zip(b)
+        .take_while(|(x, y)| x.eq_ignore_ascii_case(*y))
+        .count();
+    (part(a, same, a.len()), part(b, same, b.len()))
 }
 
 /// A word without its first letter.
 fn tail(word: &[u8]) -> &[u8] {
-    match word {
-        [_, rest @ ..] => rest,
-        [] => word,
-    }
-}
-
-/// Whether two words begin with the same two letters, changed about, and are one word behind these.
-fn is_swapped(a: &[u8], b: &[u8]) -> bool {
-    match (a, b) {
-        ([p, q, a @ ..], [r, s, b @ ..]) => {
-            p.eq_ignore_ascii_case(s) && q.eq_ignore_ascii_case(r) && same_word(a, b)
-        }
-        _ => false,
-    }
+    part(word, 1, word.len())
 }
 
 /// Whether a letter put in, left out or changed, or two changed about, makes one word of another, or none.
 pub fn within_one(a: &[u8], b: &[u8]) -> bool {
     let (a, b) = rests(a, b);
-    same_word(tail(a), tail(b))
-        || same_word(tail(a), b)
-        || same_word(a, tail(b))
-        || is_swapped(a, b)
+    let is_swapped = match (a, b) {
+        ([p, q, a @ ..], [r, s, b @ ..]) => same_word(&[*p, *q], &[*s, *r]) && same_word(a, b),
+        _ => false,
+    };
+    is_swapped || same_word(tail(a), tail(b)) || same_word(tail(a), b) || same_word(a, tail(b))
 }
 
 /// The same of two letters.

@@ -1,15 +1,17 @@
 //! What is said of a token by where it stands and what stands beside it (C5).
 
-use crate::depth::is_least;
-use st_lexer::Token;
-use token_causes::{
-    head_of, open_bracket, open_parenthesis, opener_of, said_of, sign_at, sign_before,
-};
+use crate::patterns::{fits, said_of};
+use crate::place::Place;
+use st_lexer::TokenKind;
 
 /// Each rule has where the token stands, what opens the unit, the section or the statement in which it does, the token before it, the token itself and the one
-/// behind it, and then what is said. A word before it behind a point is an `output`; a `)` or `]` with nothing open to close is `unopened)` or `unopened]`, a
-/// comma between indexes `second`, the integer that may stand behind a minus alone `least`, and a `:=` in the head of a statement `within`.
+/// behind it, and then what is said. A word before it behind a point is an `output`, one behind an ELSE that seems to begin a condition `otherwise`; a `)` or `]` with
+/// nothing open to close is `unopened)` or `unopened]`, a comma between indexes `second`, one between digits `digits`, the integer that may stand behind a minus alone
+/// `least`, and a `:=` in a condition `condition` and in another head `within`.
 const RULES: &str = "\
+_ _ _ digits _ no comma stands in a number: underscores may part its digits, as in 1_000
+_ _ _ condition _ in a condition equal is written =
+begun _ otherwise <|>|<=|>=|<>|THEN|AND|OR|XOR|. _ behind ELSE stands no condition; behind ELSIF one does
 array _ ARRAY _ _ the bounds of an array stand in brackets, as in ARRAY[1..10] OF DINT
 array _ int|OF second|ARRAY _ an array has one index, and its elements are no arrays
 array _ int|[|..|- _ _ the bounds of an array are numbers, as in ARRAY[1..10] OF DINT
@@ -65,9 +67,9 @@ begun _ _ , _ a statement assigns one variable (or is VAR missing above?)
 begun _ _ word = an assignment is written :=, and S= and R= aren't part of the language
 begun _ _ NOT|TRUE|FALSE|int|literal _ a := is missing before it
 begun _ _ SECTION _ the word before it begins no statement and no declaration
-statement _ _ - - a remark is written // .. or (* .. *)
+statement|head _ _ - - a remark is written // .. or (* .. *)
 statement _ _ : _ no : stands here; statements begin at once
-statement _ _ KEYWORD :|:=|, it is a keyword, and can't be a name
+statement|control|taker|member _ _ KEYWORD :|:=|, it is a keyword, and can't be a name
 statement _ ELSE THEN _ behind ELSE stands no THEN
 statement IF _ ELSE|ELSIF _ the IF has its ELSE already, which is its last part
 statement CASE _ ELSE _ the CASE has its ELSE already, which is its last part
@@ -94,17 +96,14 @@ argued _ _ =|: _ an input is given with :=, as in t(IN := a)
 argued _ _ ( _ there are no functions, and an argument is written with its name, as in t(IN := a)
 argued _ _ >=|- _ an output is taken with =>, as in t(Q => b)
 taker _ _ int|literal|TRUE|FALSE|NOT|(|- _ the variable that takes an output stands behind =>, and an input is given with :=
-taker _ _ KEYWORD :|:=|, it is a keyword, and can't be a name
 taken _ _ .|[ _ an output is handed to a variable, which => has behind it alone
 member _ _ ( _ an instance is called by its name alone, as in t(IN := a);
-member _ _ KEYWORD :|:=|, it is a keyword, and can't be a name
 member _ _ int _ a bit of a number has no name
 member _ _ _ _ the name of an output is missing before it, as in t.Q
 labelled _ _ -|. _ labels from one to another are written 1..3
-control _ _ KEYWORD :|:=|, it is a keyword, and can't be a name
 controlled _ _ = _ a FOR is written FOR i := 1 TO 8 DO
 addressed _ _ , int the numbers of an address have points between them, as in %QX0.0
-declared _ _ -|/|. _ a name has letters, digits and underscores alone
+declared|head _ _ -|/|. _ a name has letters, digits and underscores alone
 declared|addressed _ _ KIND _ a : is missing before the kind
 declared VAR_GLOBAL _ AT _ an address has one global alone, as in pump AT %QX0.0 : BOOL
 declared _ _ AT _ globals alone have addresses
@@ -113,8 +112,7 @@ declared _ _ word ;|:= a declaration begins with the name, as in n : DINT;
 declared _ _ address _ AT is missing before it
 declaration|name|declared _ _ KEYWORD :|:=|, it is a keyword, and can't be a name
 declaration _ _ KIND _ a declaration begins with the name, as in n : DINT;
-declaration|kinded _ _ AT _ an address stands between the name and the kind, as in pump AT %QX0.0 : BOOL
-declaration|kinded|kind _ _ address _ an address stands between the name and the kind, as in pump AT %QX0.0 : BOOL
+declaration|kinded|kind _ _ AT|address _ an address stands between the name and the kind, as in pump AT %QX0.0 : BOOL
 kinded _ _ = _ an initial value is written :=
 kinded _ _ , _ a declaration ends with a ';'
 kinded _ KIND ( _ there are no subranges: behind a kind stands a ';' or an initial value
@@ -125,12 +123,10 @@ address _ _ word _ an address begins with %, as in %IX0.0
 kind _ _ word _ what has an address is a BOOL, a DINT or a TIME
 title _ _ SECTION _ the name of the unit is missing before it
 title _ _ KEYWORD _ it is a keyword, and can't be a name
-head _ _ - - a remark is written // .. or (* .. *)
 declaration|top|behind _ _ - _ a remark is written // .. or (* .. *)
 head _ _ ( _ a unit has no parentheses behind its name
 head _ _ := _ the word before it is the name of the unit: is that missing?
 head _ _ : _ a unit has no kind
-head _ _ -|/|. _ a name has letters, digits and underscores alone
 head _ _ VAR_GLOBAL _ globals stand above all blocks and programs of their source, and in none of them
 head PROGRAM _ SECTION _ a PROGRAM has no inputs and no outputs: it reads and assigns globals
 behind _ _ ; _ no ';' stands behind the END of a unit
@@ -142,31 +138,110 @@ behind _ _ word _ behind the END of a unit stands no name
 _ _ _ address _ an address stands in a declaration of VAR_GLOBAL alone: elsewhere stands the global's name
 ";
 
-/// The sign of the token before that of a number, as the rules tell it.
-fn told_before(tokens: &[Token], number: usize) -> &'static str {
-    match sign_before(tokens, number, 1) {
-        "word" if sign_before(tokens, number, 2) == "." => "output",
-        sign => sign,
+/// What is said of a token that might stand where it does, by the word for that, were it not too deep.
+const DEEP: &str = "\
+statement word|;|IF|CASE|FOR a statement stands in at most 63 others, and this one in more
+value word|int|literal|(|-|NOT|TRUE|FALSE an expression is at most 128 deep, and this one gets deeper here: each operator of a row is one more
+valued +|-|*|/|=|<>|<|>|<=|>=|&|AND|OR|XOR|MOD an expression is at most 128 deep, and this one gets deeper here: each operator of a row is one more
+";
+
+/// What is wanted where a token stands, by the word for that, what opens the statements around it, and the parenthesis or the head in which it stands.
+const WANTED: &str = "\
+top _ _ VAR_GLOBAL, FUNCTION_BLOCK or PROGRAM is wanted here
+behind _ _ FUNCTION_BLOCK, PROGRAM or the end of the source is wanted here
+title|name _ _ a name is wanted here
+head _ _ VAR, a statement or the END of the unit is wanted here
+declaration _ _ the name of a variable or END_VAR is wanted here
+declared _ _ a : and a kind are wanted here, as in n : DINT
+address _ _ an address is wanted here, as in pump AT %QX0.0 : BOOL
+addressed _ _ a : and a kind are wanted here, as in pump AT %QX0.0 : BOOL
+kind _ _ a kind is wanted here: BOOL, DINT, TIME or the name of a block
+array _ _ an array is declared as w : ARRAY[1..10] OF DINT
+kinded _ _ a ';', or := and an initial value, is wanted here
+statement IF _ a statement, ELSIF, ELSE or END_IF is wanted here
+statement CASE _ a statement, a label, ELSE or END_CASE is wanted here
+statement FOR _ a statement or END_FOR is wanted here
+statement FUNCTION_BLOCK _ a statement or END_FUNCTION_BLOCK is wanted here
+statement none|PROGRAM _ a statement or END_PROGRAM is wanted here
+begun _ _ a statement assigns or calls, as in n := 1; or t(IN := a);
+assigned _ _ a := and a value stand behind an element that is assigned, as in w[1] := 2;
+ended _ _ a ';' is wanted here
+control _ _ the name of a variable is wanted here, as in FOR i := 1 TO 8 DO
+controlled _ _ a := is wanted here, as in FOR i := 1 TO 8 DO
+label _ _ a label of a CASE is wanted here, a whole number as in 2: or -1:
+labelled _ _ a ':' is wanted here, or a ',' or '..' and another label
+argument _ _ the name of an argument is wanted here, as in t(IN := a, Q => b)
+argued _ _ a := or a => is wanted here, as in t(IN := a, Q => b)
+taker _ _ the name of the variable that takes the output is wanted here
+taken _ _ a ',' or a ')' is wanted here
+member _ _ the name of an output is wanted here, as in t.Q
+value _ _ a value is wanted here
+valued _ call an operator, a ',' or a ')' is wanted here
+valued _ ( an operator or a ')' is wanted here
+valued _ IF|ELSIF an operator or THEN is wanted here
+valued _ CASE an operator or OF is wanted here
+valued _ TO an operator, BY or DO is wanted here
+valued _ BY an operator or DO is wanted here
+valued _ FOR an operator or TO is wanted here
+valued _ _ an operator or a ';' is wanted here
+";
+
+/// Whether a comma parts the digits of a number, at a token or before it.
+fn parts_digits(place: Place<'_>) -> bool {
+    [place, place.previous()].into_iter().any(|comma| {
+        comma.sign() == ","
+            && [comma.before(1), comma.behind(1)] == ["int", "int"]
+            && comma.gap().is_empty()
+            && comma.next().gap().is_empty()
+    })
+}
+
+/// The sign of the token before another one, as the rules tell it.
+fn told_before(place: Place<'_>) -> &'static str {
+    let is_compared = place.sign() != "." || fits("KEYWORD|<|>|<=|>=|<>|=", place.behind(2));
+    match (place.before(1), place.before(2)) {
+        ("word", ".") => "output",
+        ("word", "ELSE") if is_compared => "otherwise",
+        (sign, _) => sign,
     }
 }
 
-/// The sign of the token of a number, as the rules tell it.
-fn told_sign(tokens: &[Token], number: usize) -> &'static str {
-    match sign_at(tokens, number) {
-        ")" if open_parenthesis(tokens, number).is_none() => "unopened)",
-        "]" if open_bracket(tokens, number).is_none() => "unopened]",
-        "," if open_bracket(tokens, number).is_some() => "second",
-        "int" if is_least(tokens, number) => "least",
-        ":=" if head_of(tokens, number).is_some() => "within",
-        sign => sign,
+/// The sign of a token, as the rules tell it.
+fn told_sign(place: Place<'_>, stand: &str) -> &'static str {
+    let is_index = place.bracket().is_some();
+    match (place.sign(), place.head()) {
+        _ if parts_digits(place) && stand != "addressed" && !is_index => "digits",
+        (")", _) if place.parenthesis().is_none() => "unopened)",
+        ("]", _) if !is_index => "unopened]",
+        (",", _) if is_index => "second",
+        ("int", _) if place.kind() == Some(TokenKind::Integer(2147483648)) => "least",
+        (":=", "IF" | "ELSIF") => "condition",
+        (":=", head) if !head.is_empty() => "within",
+        (sign, _) => sign,
     }
 }
 
-/// What is said of the token of a number, by where it stands and what stands beside it; empty where that says nothing.
-pub fn told_by_place(tokens: &[Token], number: usize, stand: &'static str) -> &'static str {
-    let after = sign_at(tokens, number.saturating_add(1));
-    let opener = opener_of(tokens, number);
-    let before = told_before(tokens, number);
-    let signs = [stand, opener, before, told_sign(tokens, number), after];
-    said_of(RULES, signs)
+/// What is said of a token where it is too deep; empty of any other one.
+pub fn too_deep(place: Place<'_>) -> &'static str {
+    let stand = place.stand();
+    said_of(DEEP, &[stand, told_sign(place, stand)])
+}
+
+/// What is said of a token by where it stands and what stands beside it; empty where that says nothing.
+pub fn told_by_place(place: Place<'_>) -> &'static str {
+    let (stand, behind) = (place.stand(), place.behind(1));
+    let (before, sign) = (told_before(place), told_sign(place, stand));
+    let is_named = fits("none|;|=|:|OF|OUTER", sign)
+        || fits("KEYWORD", sign) && fits(":=|=>", behind);
+    match said_of(RULES, &[stand, place.opener(), before, sign, behind]) {
+        "" if fits("argument|argued", stand) && !is_named => {
+            "an argument is written with its name, as in t(IN := a, Q => b)"
+        }
+        told => told,
+    }
+}
+
+/// What may stand in the place of a token.
+pub fn wanted(place: Place<'_>) -> &'static str {
+    said_of(WANTED, &[place.stand(), place.opener(), place.within()])
 }
