@@ -1,13 +1,11 @@
 //! The token with which no source can go on (C5).
 
-use crate::patterns::{closing_of, fits};
-use crate::place::Place;
 use crate::rules::{told_by_place, too_deep, wanted};
 use crate::words::misnomer;
 use plant_types::same_word;
 use st_lexer::place_of;
 use std::alloc::{AllocError, Global};
-use token_causes::{Cause, cause_at, tokens_of};
+use token_causes::{Cause, Place, cause_at, closing_of, fits, tokens_of};
 
 /// Where the grammar stands.
 pub const GRAMMAR: &str = "docs/LANGUAGE.md, \"Grammar\"";

@@ -22,15 +22,10 @@ pub struct Lexed<'a> {
 /// How many bytes stand up to a mark that closes what the first byte opens, with both; 1 where the line hasn't it.
 fn closed_len(bytes: &[u8], mark: u8) -> usize {
     let inside = part(bytes, 1, bytes.len());
-    let len = inside
-        .iter()
-        .take_while(|byte| **byte != mark && **byte != b'\n')
-        .count();
-    if inside.get(len) == Some(&mark) {
-        len.saturating_add(2)
-    } else {
-        1
-    }
+    let is_inside = |byte: &u8| *byte != mark && *byte != b'\n';
+    let len = inside.iter().take_while(|byte| is_inside(*byte)).count();
+    let is_closed = inside.get(len) == Some(&mark);
+    if is_closed { len.saturating_add(2) } else { 1 }
 }
 
 /// How many bytes belong together that begin no token, and what may stand in their place; `None` where what follows can't be told.
@@ -90,6 +85,7 @@ pub fn tokens_with_holes(alloc: Global, text: &[u8]) -> Result<Lexed<'_>, AllocE
         holes.push((at, until))?;
     }
     let tokens = tokens_of(alloc, read.as_slice())?;
+    is_cut = is_cut || tokens.is_empty() && !holes.is_empty();
     Ok(Lexed {
         text,
         tokens,

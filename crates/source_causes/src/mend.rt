@@ -1,12 +1,10 @@
 //! How a source is read on behind a token with which it can't go on: what is left out, and what is put in its place.
 
 use crate::grammar::unopened;
-use crate::patterns::{closing_of, fits};
-use crate::place::Place;
 use crate::words::misnomer;
 use plant_types::same_word;
 use std::cmp::Ordering;
-use token_causes::{opens_section, sign_of};
+use token_causes::{Place, closing_of, fits, opens_section, sign_of};
 
 /// What is left out of tokens, from the one of a number to before another, and what is put in its place, as it is written.
 #[derive(Clone, Copy, Drop)]

@@ -1,8 +1,7 @@
 //! What is said of a token by where it stands and what stands beside it (C5).
 
-use crate::patterns::{fits, said_of};
-use crate::place::Place;
-use st_lexer::TokenKind;
+use st_lexer::{Token, TokenKind};
+use token_causes::{Place, fits, said_of};
 
 /// Each rule has where the token stands, what opens the unit, the section or the statement in which it does, the token before it, the token itself and the one
 /// behind it, and then what is said. A word before it behind a point is an `output`, one behind an ELSE that seems to begin a condition `otherwise`; a `)` or `]` with
@@ -209,12 +208,13 @@ fn told_before(place: Place<'_>) -> &'static str {
 /// The sign of a token, as the rules tell it.
 fn told_sign(place: Place<'_>, stand: &str) -> &'static str {
     let is_index = place.bracket().is_some();
+    let is_least = |token: &Token| token.kind == TokenKind::Integer(2147483648);
     match (place.sign(), place.head()) {
         _ if parts_digits(place) && stand != "addressed" && !is_index => "digits",
         (")", _) if place.parenthesis().is_none() => "unopened)",
         ("]", _) if !is_index => "unopened]",
         (",", _) if is_index => "second",
-        ("int", _) if place.kind() == Some(TokenKind::Integer(2147483648)) => "least",
+        ("int", _) if place.tokens.get(place.number).is_some_and(is_least) => "least",
         (":=", "IF" | "ELSIF") => "condition",
         (":=", head) if !head.is_empty() => "within",
         (sign, _) => sign,

@@ -1,10 +1,9 @@
 //! What begins no token (C4).
 
-use crate::patterns::fits;
 use plant_types::{is_name_byte, same_word};
 use std::alloc::{AllocError, Global};
 use std::str;
-use token_causes::{Cause, cause_at, part};
+use token_causes::{Cause, cause_at, fits, part};
 
 /// Where the rules of spelling stand.
 const SPELLING: &str = "docs/LANGUAGE.md, \"Spelling\"";
@@ -107,14 +106,8 @@ fn number_fault(word: &[u8]) -> &'static str {
         (_, []) => "' is too large: an integer is at most 2147483648",
         (_, [b'#', ..]) =>
             "' is no number: before a # stand 2, 8 or 16, and behind it digits to that base",
-        (
-            _,
-            [
-                b'a'..=b'z' | b'A'..=b'Z',
-                b'a'..=b'z' | b'A'..=b'Z' | b'_',
-                ..
-            ],
-        ) =>
+        (_, [first, next, ..])
+            if first.is_ascii_alphabetic() && !next.is_ascii_digit() && is_name_byte(*next) =>
             "' is no number, since letters stand in it, and no name, since that begins with a letter",
         _ => "' is no number: single underscores may part its digits, and no letter may follow it",
     }

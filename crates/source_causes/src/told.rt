@@ -3,13 +3,11 @@
 use crate::grammar::cause_at_token;
 use crate::holes::{Lexed, tokens_with_holes};
 use crate::mend::{Mend, statement_start, way_on};
-use crate::patterns::fits;
-use crate::place::Place;
 use crate::spelling::misspelled_at;
 use st_lexer::Token;
 use st_parser::{ParseFault, parse};
 use std::alloc::{AllocError, Global};
-use token_causes::{Cause, tokens_of};
+use token_causes::{Cause, Place, fits, tokens_of};
 
 /// A unit is read at most so often.
 const MOST_READINGS: usize = 40;

@@ -1,10 +1,8 @@
 //! Words that are written otherwise here: those of other dialects, and words that are nearly a keyword (C5).
 
 use crate::grammar::GRAMMAR;
-use crate::patterns::{closing_of, fits, said_of};
-use crate::place::Place;
 use plant_types::same_word;
-use token_causes::{part, within_one};
+use token_causes::{Place, closing_of, fits, part, said_of, within_one};
 
 /// Where it stands what of the standard isn't there.
 const STANDARD: &str = "docs/LANGUAGE.md, \"What of IEC 61131-3 is here\"";

@@ -1,22 +1,7 @@
-//! Words in tables, and names that are near another one.
+//! A name that is near another one.
 
 use crate::cause::part;
 use plant_types::same_word;
-
-/// What a table says of a word; empty where it has no such word. Each line has words with blanks between them, and behind `: ` what is said of these.
-pub fn said_in(table: &'static str, word: &str) -> &'static str {
-    for line in table.lines() {
-        if let Some((words, said)) = line.split_once(": ") {
-            if words
-                .split(" ")
-                .any(|one| same_word(one.as_bytes(), word.as_bytes()))
-            {
-                return said;
-            }
-        }
-    }
-    ""
-}
 
 /// What is left of two words behind the letters that both begin with.
 fn rests<'a, 'b>(a: &'a [u8], b: &'b [u8]) -> (&'a [u8], &'b [u8]) {

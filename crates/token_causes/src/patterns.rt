@@ -1,7 +1,7 @@
 //! Tables of what is said. They are texts, and each of their lines is a rule; the first that fits tells.
 
+use crate::tokens::opens_section;
 use plant_types::same_word;
-use token_causes::opens_section;
 
 /// The keyword that closes what a keyword opens; empty for what opens nothing.
 pub fn closing_of(sign: &str) -> &'static str {
@@ -62,4 +62,19 @@ pub fn said_of(table: &'static str, signs: &[&str]) -> &'static str {
         Some(rest)
     });
     said.unwrap_or("")
+}
+
+/// What a table of words says of one; empty where it has no such word. Each line has words with blanks between them, and behind `: ` what is said of these.
+pub fn said_in(table: &'static str, word: &str) -> &'static str {
+    for line in table.lines() {
+        if let Some((words, said)) = line.split_once(": ") {
+            if words
+                .split(" ")
+                .any(|one| same_word(one.as_bytes(), word.as_bytes()))
+            {
+                return said;
+            }
+        }
+    }
+    ""
 }

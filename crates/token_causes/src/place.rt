@@ -1,8 +1,9 @@
 //! The tokens of a source, what they stand in, and what may stand there.
 
+use crate::cause::part;
 use crate::patterns::{fits, said_of};
-use st_lexer::{Token, TokenKind, place_of};
-use token_causes::{opens_section, part, sign_at, sign_before, span_of, word_at};
+use crate::tokens::{opens_section, sign_at, sign_before, span_of, word_at};
+use st_lexer::{Token, place_of};
 
 /// Where a token stands, by what opens that in which it does, what is known of the token before it (`role`), the one before that and the one before it. It is one of
 /// these words:
@@ -113,11 +114,6 @@ impl<'a> Place<'a> {
     pub fn mark(self) -> (usize, usize) {
         let next = self.number.saturating_add(1);
         span_of(self.text, self.tokens, self.number, next)
-    }
-
-    /// The kind of the token; `None` where there is none.
-    pub fn kind(self) -> Option<TokenKind> {
-        self.tokens.get(self.number).map(|token| token.kind)
     }
 
     /// The bytes between the token before it and this one.
