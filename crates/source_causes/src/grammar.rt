@@ -24,8 +24,8 @@ fn has_nested(gap: &[u8]) -> bool {
     false
 }
 
-/// What opens something that should be closed before a token: that closes something else, goes on with an IF or a CASE around it, or begins a unit or globals; or it begins
-/// a statement among declarations. `None` where nothing is left open.
+/// What opens something that should be closed before a token: that closes something else, parts an IF or a CASE around it, begins a unit or globals, or begins
+/// a statement among declarations.
 fn left_open(place: Place<'_>) -> Option<Place<'_>> {
     let opened = place.opened()?;
     let closing = closing_of(opened.sign());
@@ -40,7 +40,7 @@ fn left_open(place: Place<'_>) -> Option<Place<'_>> {
     Some(opened).filter(|_| is_left)
 }
 
-/// What may have led to something that isn't closed before a token: an `ELSE IF`, or a comment that has swallowed its end. Fails if allocation fails.
+/// What may have led to something that isn't closed before a token: an `ELSE IF`, or a comment that has swallowed its end.
 fn led_to(alloc: Global, place: Place<'_>, opened: Place<'_>) -> Result<String, AllocError> {
     let mut behind = (opened.number..place.number.saturating_add(1)).map(|number| place.at(number));
     if let Some(behind) = behind.find(|place| has_nested(place.gap())) {
@@ -59,8 +59,7 @@ fn led_to(alloc: Global, place: Place<'_>, opened: Place<'_>) -> Result<String, 
     }
 }
 
-/// What is said where something is open that should be closed before a token: at that, or at the word before it, with which a call begins. Fails if allocation
-/// fails.
+/// What is said where something is open that should be closed before a token: at that, or at the word before it, with which a call begins.
 fn unclosed(alloc: Global, place: Place<'_>, opened: Place<'_>) -> Result<Cause, AllocError> {
     let (line, open, closing) = (opened.line(), opened.word(), closing_of(opened.sign()));
     let behind = led_to(alloc, place, opened)?;
@@ -74,7 +73,7 @@ fn unclosed(alloc: Global, place: Place<'_>, opened: Place<'_>) -> Result<Cause,
     Ok(cause_at(mark, said, GRAMMAR))
 }
 
-/// The `(` or the `[` that isn't closed before a token at which a value certainly ends; `None` where there is none.
+/// The `(` or the `[` that isn't closed before a token at which a value certainly ends.
 fn unpaired(place: Place<'_>) -> Option<Place<'_>> {
     let (stand, sign, is_call) = (place.stand(), place.sign(), place.within() == "call");
     let is_keyword = fits("KEYWORD", sign) && sign != "NOT";
@@ -104,7 +103,7 @@ fn is_doubled(place: Place<'_>) -> bool {
         && same_word(place.word().as_bytes(), word)
 }
 
-/// What is said behind a token. Fails if allocation fails.
+/// What is said behind a token.
 fn told(alloc: Global, place: Place<'_>) -> Result<String, AllocError> {
     let lacks = place.lacks_end();
     let told = match told_by_place(place) {
@@ -141,7 +140,7 @@ pub fn unopened(place: Place<'_>) -> &'static str {
     place.open(opening, closing, "").map_or(opening, |_| "")
 }
 
-/// The cause at a token, where no word of another dialect tells it. Fails if allocation fails.
+/// The cause at a token, where no word tells it.
 fn cause_of_token(alloc: Global, place: Place<'_>) -> Result<Cause, AllocError> {
     let (word, deep, unopened) = (place.word(), too_deep(place), unopened(place));
     let said = if has_nested(place.gap()) || has_nested(place.previous().gap()) {
@@ -161,8 +160,7 @@ fn cause_of_token(alloc: Global, place: Place<'_>) -> Result<Cause, AllocError> 
     Ok(cause_at(place.mark(), said, GRAMMAR))
 }
 
-/// The cause at a token: a word there or before it, of another dialect or nearly a keyword, or what it is itself; behind the last one, why the text ends too early. Fails
-/// if allocation fails.
+/// The cause at a token: a word there or before it that is written otherwise, or what it is itself; behind the last one, why the text ends too early.
 pub fn cause_at_token(alloc: Global, place: Place<'_>) -> Result<Cause, AllocError> {
     if let Some((place, _, [said, keyword, end], page)) = misnomer(place) {
         let word = place.word();
@@ -179,7 +177,7 @@ pub fn cause_at_token(alloc: Global, place: Place<'_>) -> Result<Cause, AllocErr
     Ok(cause_at(place.mark(), said, GRAMMAR))
 }
 
-/// The cause of a fault of grammar at a byte of a source: the token there, or the text's end. Fails if allocation fails.
+/// The cause of a fault of grammar at a byte of a source: the token there, or the text's end.
 pub fn ungrammatical(alloc: Global, text: &[u8], at: usize) -> Result<Cause, AllocError> {
     let tokens = tokens_of(alloc, text)?;
     let number = tokens.as_slice().iter().position(|token| token.from >= at);

@@ -55,7 +55,7 @@ fn hole_of(bytes: &[u8]) -> Option<(usize, &'static str)> {
     }
 }
 
-/// The tokens of a text, and what stands between them. Fails if memory was refused.
+/// The tokens of a text, and what stands between them.
 pub fn tokens_with_holes(alloc: Global, text: &[u8]) -> Result<Lexed<'_>, AllocError> {
     let mut read = Vec::new(alloc);
     let mut holes = Vec::new(alloc);

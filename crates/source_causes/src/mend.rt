@@ -47,8 +47,8 @@ fn next_end(place: Place<'_>) -> Place<'_> {
     })
 }
 
-/// The token behind the statement or the declaration in which a token stands: behind its `;`, or what ends the statements around it. It isn't the `;` where a `)` behind
-/// that closes what isn't open there. `None` where it isn't certain.
+/// The token behind the statement or the declaration in which a token stands: behind its `;`, unless a `)` follows that closes nothing, or what ends the
+/// statements around it. `None` where it isn't certain.
 fn statement_end(place: Place<'_>) -> Option<Place<'_>> {
     let mut end = next_end(place);
     for _ in 0..8 {

@@ -4,9 +4,9 @@ use st_lexer::{Token, TokenKind};
 use token_causes::{Place, fits, said_of};
 
 /// Each rule has where the token stands, what opens the unit, the section or the statement in which it does, the token before it, the token itself and the one
-/// behind it, and then what is said. A word before it behind a point is an `output`, one behind an ELSE that seems to begin a condition `otherwise`; a `)` or `]` with
-/// nothing open to close is `unopened)` or `unopened]`, a comma between indexes `second`, one between digits `digits`, the integer that may stand behind a minus alone
-/// `least`, and a `:=` in a condition `condition` and in another head `within`.
+/// behind it, and then what is said. A word before it behind a point is an `output`, one behind an ELSE that seems to begin a condition `otherwise`; a `)` or
+/// `]` with nothing open to close is `unopened)` or `unopened]`, a comma between indexes `second`, one between digits `digits`, the integer that may stand
+/// behind a minus alone `least`, and a `:=` in a condition `condition` and in another head `within`.
 const RULES: &str = "\
 _ _ _ digits _ no comma stands in a number: underscores may part its digits, as in 1_000
 _ _ _ condition _ in a condition equal is written =

@@ -113,8 +113,8 @@ fn number_fault(word: &[u8]) -> &'static str {
     }
 }
 
-/// Whether a quote that bytes begin with opens a name: what a name has stands in it, and behind it something goes on that does so behind a name, or before it stands what
-/// a unit begins with.
+/// Whether a quote that bytes begin with opens a name: nothing else stands in it, and behind it stands what may stand behind one, or before it PROGRAM or
+/// FUNCTION_BLOCK.
 fn quotes_name(before: &[u8], bytes: &[u8]) -> bool {
     let inside = part(bytes, 1, bytes.len());
     let is_of_name = |byte: &u8| is_name_byte(*byte) || *byte == b' ';
@@ -169,7 +169,7 @@ fn other_fault(before: &[u8], bytes: &[u8]) -> &'static str {
     }
 }
 
-/// The cause of a fault of spelling at a byte of a source. Fails if allocation fails.
+/// The cause of a fault of spelling at a byte of a source.
 pub fn misspelled_at(alloc: Global, text: &[u8], at: usize) -> Result<Cause, AllocError> {
     let bytes = part(text, at, text.len());
     let until = at.saturating_add(run_len(bytes));

@@ -66,8 +66,8 @@ impl Told {
         Ok(())
     }
 
-    /// Reads a unit, whose tokens stand before some that follow it, as often as it is mended; whether it ends before these. What is behind its end isn't told where the
-    /// unit above has none (`is_apart`).
+    /// Reads a unit, whose tokens stand before some that follow it, as often as it is mended; whether it ends before these. What is behind its end isn't told
+    /// where the unit above has none (`is_apart`).
     fn read_unit(
         &mut self,
         alloc: Global,
@@ -137,7 +137,7 @@ impl Told {
     }
 }
 
-/// What is wrong in the spelling and the grammar of a source, as far as that is left to be told and to be read. Fails if memory was refused.
+/// What is wrong in the spelling and the grammar of a source, as far as that is left to be told and to be read.
 pub fn tell(alloc: Global, text: &[u8], left: Reading) -> Result<Told, AllocError> {
     let lexed = tokens_with_holes(alloc, text)?;
     let first = Place::new(text, lexed.tokens.as_slice(), 0).ahead("UNIT");

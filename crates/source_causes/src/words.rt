@@ -7,8 +7,8 @@ use token_causes::{Place, closing_of, fits, part, said_of, within_one};
 /// Where it stands what of the standard isn't there.
 const STANDARD: &str = "docs/LANGUAGE.md, \"What of IEC 61131-3 is here\"";
 
-/// Words of other dialects beside something: behind a `number`, as an `operator` behind another value, in the place of a `kind`, behind the name of a `unit`, or in a
-/// `pair` with BLOCK. Behind each stands how a source is read on (`Misnomer`), and what is said.
+/// Words of other dialects beside something: behind a `number`, as an `operator` behind another value, in the place of a `kind`, behind the name of a `unit`,
+/// or in a `pair` with BLOCK. Behind each stands how a source is read on (`Misnomer`), and what is said.
 const BESIDE: &str = "\
 number s|ms|m|h|d part is no unit here: a duration is written as T#5s, without blanks
 number|operator DIV part isn't part of the language: a quotient is written n / 2
@@ -84,9 +84,9 @@ statement|label IF CASE FOR ELSE ELSIF END_IF END_CASE END_FOR END_PROGRAM END_F
 head VAR VAR_INPUT VAR_OUTPUT VAR_EXTERNAL END_VAR IF CASE FOR ELSE ELSIF END_IF END_CASE END_FOR END_PROGRAM END_FUNCTION_BLOCK
 ";
 
-/// A word that is written otherwise here; how a source is read on; what is said behind the word, in three parts; and where to read more. A source is read on with a keyword
-/// in its place, or behind what it ends with, END_WHILE or END_REPEAT; without it (`skip`), or without the statement or the declaration of which it is a `part`; where
-/// that isn't certain, there stands `_`.
+/// A word that is written otherwise here; how a source is read on; what is said behind the word, in three parts; and where to read more. A source is read on
+/// with a keyword in its place, or behind what it ends with, END_WHILE or END_REPEAT; without it (`skip`), or without the statement or the declaration of which
+/// it is a `part`; where that isn't certain, there stands `_`.
 pub type Misnomer<'a> = (Place<'a>, &'static str, [&'static str; 3], &'static str);
 
 /// The word of another dialect that a token is; `None` where it is none.
@@ -111,8 +111,8 @@ fn foreign(place: Place<'_>) -> Option<Misnomer<'_>> {
     Some((place, way, [said, "", ""], STANDARD))
 }
 
-/// The keyword that a word nearly is, but for one letter that isn't its first, or two that changed places: no assignment, no call, no declaration and no output goes on
-/// with that. `None` where it is none.
+/// The keyword that a word nearly is, but for one letter that isn't its first, or two that changed places: no assignment, no call, no declaration and no output
+/// goes on with that. `None` where it is none.
 fn meant(place: Place<'_>) -> Option<Misnomer<'_>> {
     let word = place.word().as_bytes();
     let mut keywords = said_of(KEYWORDS, &[place.stand()]).split(" ");

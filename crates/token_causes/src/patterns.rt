@@ -16,6 +16,11 @@ pub fn closing_of(sign: &str) -> &'static str {
     }
 }
 
+/// Whether a sign is that of a keyword which closes something.
+pub fn is_closing(sign: &str) -> bool {
+    sign.starts_with("END_")
+}
+
 /// Whether a sign is that of a keyword.
 fn is_keyword(sign: &str) -> bool {
     matches!(sign.as_bytes(), [b'A'..=b'Z', ..])
@@ -29,20 +34,19 @@ fn is_inner(sign: &str) -> bool {
     ) || matches!(sign, "MOD" | "AT" | "ARRAY" | "OF")
 }
 
-/// Whether one of the words of a pattern, which stand between `|`, is a sign or stands for it: `none` where there is no token, `_` for any sign, KEYWORD for those of
-/// keywords; for those of keywords that open or close something OPENING and CLOSING, and of these SECTION and UNIT; PART for those with which a statement begins or
-/// goes on, or which close something; KIND for those of kinds; and OUTER for those with which anything but a part of an expression or a declaration begins or goes on.
+/// Whether one of the words of a pattern, which stand between `|`, is a sign or stands for it: `none` where there is no token, `_` for any sign, KEYWORD for
+/// those of keywords; of these CLOSING for those that close something, SECTION and UNIT for those that open one, PART for those with which a statement begins
+/// or goes on or which close something, KIND for those of kinds, and OUTER for those with which anything but a part of an expression or a declaration begins or
+/// goes on.
 pub fn fits(pattern: &str, sign: &str) -> bool {
-    let is_closing = sign.starts_with("END_");
     pattern.split("|").any(|one| match one {
         "_" => true,
         "none" => sign.is_empty(),
         "KEYWORD" => is_keyword(sign),
-        "OPENING" => !closing_of(sign).is_empty(),
-        "CLOSING" => is_closing,
+        "CLOSING" => is_closing(sign),
         "SECTION" => opens_section(sign),
         "UNIT" => matches!(sign, "PROGRAM" | "FUNCTION_BLOCK"),
-        "PART" => is_closing || matches!(sign, "IF" | "CASE" | "FOR" | "ELSIF" | "ELSE"),
+        "PART" => is_closing(sign) || matches!(sign, "IF" | "CASE" | "FOR" | "ELSIF" | "ELSE"),
         "KIND" => matches!(sign, "BOOL" | "DINT" | "TIME"),
         "OUTER" => is_keyword(sign) && !is_inner(sign),
         _ => same_word(one.as_bytes(), sign.as_bytes()),
@@ -62,19 +66,4 @@ pub fn said_of(table: &'static str, signs: &[&str]) -> &'static str {
         Some(rest)
     });
     said.unwrap_or("")
-}
-
-/// What a table of words says of one; empty where it has no such word. Each line has words with blanks between them, and behind `: ` what is said of these.
-pub fn said_in(table: &'static str, word: &str) -> &'static str {
-    for line in table.lines() {
-        if let Some((words, said)) = line.split_once(": ") {
-            if words
-                .split(" ")
-                .any(|one| same_word(one.as_bytes(), word.as_bytes()))
-            {
-                return said;
-            }
-        }
-    }
-    ""
 }

@@ -1,12 +1,12 @@
 //! The tokens of a source, what they stand in, and what may stand there.
 
 use crate::cause::part;
-use crate::patterns::{fits, said_of};
+use crate::patterns::{closing_of, fits, is_closing, said_of};
 use crate::tokens::{opens_section, sign_at, sign_before, span_of, word_at};
 use st_lexer::{Token, place_of};
 
-/// Where a token stands, by what opens that in which it does, what is known of the token before it (`role`), the one before that and the one before it. It is one of
-/// these words:
+/// Where a token stands, by what opens that in which it does, what is known of the token before it (`role`), the one before that and the one before it. It is
+/// one of these words:
 ///
 /// - outside of units: `top` above all of them, `behind` one;
 /// - at the beginning of a unit: `title` behind PROGRAM or FUNCTION_BLOCK, `head` behind its name or a section of it;
@@ -153,7 +153,19 @@ impl<'a> Place<'a> {
 
     /// The keyword that opens what it stands in: a statement, a section of declarations or a unit.
     pub fn opened(self) -> Option<Place<'a>> {
-        self.open("OPENING", "CLOSING", "")
+        let mut closed = 0usize;
+        for number in (0..self.number).rev() {
+            let sign = sign_at(self.tokens, number);
+            if is_closing(sign) {
+                closed = closed.saturating_add(1);
+            } else if !closing_of(sign).is_empty() {
+                if closed == 0 {
+                    return Some(self.at(number));
+                }
+                closed = closed.saturating_sub(1);
+            }
+        }
+        None
     }
 
     /// The sign of what opens that in which it stands; empty outside of all.
@@ -177,8 +189,8 @@ impl<'a> Place<'a> {
         open.filter(|open| open.sign() == "[")
     }
 
-    /// In what an expression stands here: a `call`, other parentheses as `(`, or by its keyword the head of an IF, ELSIF, CASE or FOR, or behind these TO or BY; empty
-    /// where it stands in none.
+    /// In what an expression stands here: a `call`, other parentheses as `(`, or by its keyword the head of an IF, ELSIF, CASE or FOR, or behind these TO or
+    /// BY; empty where it stands in none.
     pub fn within(self) -> &'static str {
         match self.parenthesis() {
             Some(open) if open.before(1) == "word" => "call",
@@ -211,8 +223,8 @@ impl<'a> Place<'a> {
             && (is_behind_name || fits(";|:|THEN|DO|ELSE|END_VAR", self.before(2)))
     }
 
-    /// What is known of the token before it: it stands behind the ARRAY of its declaration (`array`), it is a `label` of a CASE, the `first` word of a statement or what
-    /// closes its `(` or `[`, or it stands among the arguments of a `call`.
+    /// What is known of the token before it: it stands behind the ARRAY of its declaration (`array`), it is a `label` of a CASE, the `first` word of a
+    /// statement or what closes its `(` or `[`, or it stands among the arguments of a `call`.
     fn role(self) -> &'static str {
         let opened = match self.before(1) {
             ")" => self.previous().parenthesis(),
@@ -238,8 +250,8 @@ impl<'a> Place<'a> {
         said_of(STANDS, &signs)
     }
 
-    /// What seems to be missing before it, as it is spelled, and how that is told: what ends a label, or parts what stands in parentheses, or ends the head of an IF, a
-    /// CASE or a FOR, or else a statement.
+    /// What seems to be missing before it, as it is spelled, and how that is told: what ends a label, or parts what stands in parentheses, or ends the head of
+    /// an IF, a CASE or a FOR, or else a statement.
     pub fn lacking(self) -> (&'static str, &'static str) {
         match self.within() {
             _ if self.is_behind_label() => (":", "a ':'"),
