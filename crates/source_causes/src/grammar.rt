@@ -37,7 +37,7 @@ fn left_open(place: Place<'_>) -> Option<Place<'_>> {
         }
         _ => false,
     };
-    Some(opened).filter(|_| is_left)
+    is_left.then_some(opened)
 }
 
 /// What may have led to something that isn't closed before a token: an `ELSE IF`, or a comment that has swallowed its end.
@@ -86,12 +86,11 @@ fn unpaired(place: Place<'_>) -> Option<Place<'_>> {
         "," => !is_call,
         _ => is_keyword || sign == ";",
     };
-    let bracket = place
-        .bracket()
-        .filter(|_| ends_index && (is_bound || stand == "valued"));
-    bracket.or_else(|| place
-        .parenthesis()
-        .filter(|_| ends && fits("valued|taken", stand)))
+    match place.bracket() {
+        Some(open) if ends_index && (is_bound || stand == "valued") => Some(open),
+        _ if ends && fits("valued|taken", stand) => place.parenthesis(),
+        _ => None,
+    }
 }
 
 /// Whether a token is the word or the keyword before it once more.

@@ -15,12 +15,12 @@ pub struct Mend {
 }
 
 /// Puts what is written in the place of tokens.
-fn with(from: usize, until: usize, put: &'static str) -> Option<Mend> {
-    Some(Mend { from, until, put })
+fn with(from: usize, until: usize, put: &'static str) -> Mend {
+    Mend { from, until, put }
 }
 
 /// Puts what is written in the place of a token.
-fn instead(place: Place<'_>, put: &'static str) -> Option<Mend> {
+fn instead(place: Place<'_>, put: &'static str) -> Mend {
     with(place.number, place.next().number, put)
 }
 
@@ -62,7 +62,8 @@ fn statement_end(place: Place<'_>) -> Option<Place<'_>> {
             return Some(behind);
         }
     }
-    Some(end).filter(|end| !fits("none|THEN|DO|OF|TO|BY", end.sign()))
+    let is_certain = !fits("none|THEN|DO|OF|TO|BY", end.sign());
+    is_certain.then_some(end)
 }
 
 /// Without the statement or the declaration in which a token stands. Not where a statement may be a declaration, or a word that closes something.
@@ -75,7 +76,7 @@ fn past_statement(place: Place<'_>) -> Option<Mend> {
         _ => !is_word
             && !inside.any(|place| place.sign() == ":" && fits("word|KIND", place.behind(1))),
     };
-    with(from, end.number, "").filter(|_| is_certain)
+    is_certain.then_some(with(from, end.number, ""))
 }
 
 /// Behind the loop of another dialect, which ends with a word and a `;`.
@@ -84,7 +85,7 @@ fn past_loop(place: Place<'_>, end: &str) -> Option<Mend> {
     let end = behind
         .find(|place| same_word(place.word().as_bytes(), end.as_bytes()))?
         .next();
-    with(place.number, end.next().number, "").filter(|_| end.sign() == ";")
+    (end.sign() == ";").then_some(with(place.number, end.next().number, ""))
 }
 
 /// In the head of a statement: with one that is right.
@@ -96,7 +97,8 @@ fn past_head(place: Place<'_>, head: Place<'_>) -> Option<Mend> {
     };
     let end = place.ahead(";|THEN|DO|OF|PART|SECTION|UNIT");
     let end = if end.sign() == ";" { end.next() } else { end };
-    with(head.next().number, end.next().number, put).filter(|_| fits("THEN|DO|OF", end.sign()))
+    let mend = with(head.next().number, end.next().number, put);
+    fits("THEN|DO|OF", end.sign()).then_some(mend)
 }
 
 /// Whether a keyword stands more often in a unit than what it closes is opened there, or less often.
@@ -119,11 +121,14 @@ fn past_keyword(place: Place<'_>) -> Option<Mend> {
         _ => "",
     };
     match (unopened(place), place.sign()) {
-        ("", _) => with(place.number, place.number, closing).filter(|_| !closing.is_empty()),
-        (_, "ELSIF") if closed_in(place, "END_IF").is_gt() => instead(place, "IF"),
-        (_, "ELSIF") if closing == "END_CASE" => instead(place, "ELSE"),
-        _ if !closing.is_empty() && closed_in(place, closing).is_lt() => instead(place, closing),
-        _ => with(place.number, place.next().next().number, "").filter(|_| place.behind(1) == ";"),
+        ("", _) => (!closing.is_empty()).then_some(with(place.number, place.number, closing)),
+        (_, "ELSIF") if closed_in(place, "END_IF").is_gt() => Some(instead(place, "IF")),
+        (_, "ELSIF") if closing == "END_CASE" => Some(instead(place, "ELSE")),
+        _ if !closing.is_empty() && closed_in(place, closing).is_lt() => Some(instead(
+            place, closing,
+        )),
+        _ if place.behind(1) == ";" => Some(with(place.number, place.next().next().number, "")),
+        _ => None,
     }
 }
 
@@ -134,16 +139,16 @@ fn past_label(place: Place<'_>) -> Option<Mend> {
         "begun" => with(statement_start(place), colon.next().number, ""),
         _ => with(statement_start(place), colon.number, "0"),
     };
-    mend.filter(|_| colon.sign() == ":")
+    (colon.sign() == ":").then_some(mend)
 }
 
 /// How to read on behind a word that is written otherwise.
 fn past_word(place: Place<'_>, way: &'static str) -> Option<Mend> {
     match way {
         "END_WHILE" | "END_REPEAT" => past_loop(place, way),
-        "skip" => instead(place, ""),
-        "_" => instead(place, "").filter(|_| opens_section(place.before(1))),
-        keyword => instead(place, keyword),
+        "skip" => Some(instead(place, "")),
+        "_" => opens_section(place.before(1)).then_some(instead(place, "")),
+        keyword => Some(instead(place, keyword)),
     }
 }
 
@@ -155,21 +160,21 @@ pub fn way_on(place: Place<'_>) -> Option<Mend> {
         _ => {}
     }
     match (place.stand(), place.sign()) {
-        _ if place.lacks_end() => with(here, here, place.lacking().0),
-        ("declared", "(") => with(previous, previous, "END_VAR"),
-        ("declaration", "IF" | "CASE" | "FOR") => with(here, here, "END_VAR"),
+        _ if place.lacks_end() => Some(with(here, here, place.lacking().0)),
+        ("declared", "(") => Some(with(previous, previous, "END_VAR")),
+        ("declaration", "IF" | "CASE" | "FOR") => Some(with(here, here, "END_VAR")),
         _ if place.is_declared() => past_statement(place),
         ("label" | "labelled", _) => past_label(place),
         ("begun", ":") if place.opener() == "CASE" => past_label(place),
-        ("statement", ":") => instead(place, ""),
+        ("statement", ":") => Some(instead(place, "")),
         ("statement", sign) if fits("SECTION", sign) => {
             let end = place.next().ahead("OUTER");
-            with(here, end.next().number, "").filter(|_| end.sign() == "END_VAR")
+            (end.sign() == "END_VAR").then_some(with(here, end.next().number, ""))
         }
         ("statement", sign) if fits("ELSIF|CLOSING", sign) && sign != "END_VAR" => past_keyword(
             place,
         ),
-        ("head", "VAR_INPUT" | "VAR_OUTPUT") => instead(place, "VAR"),
+        ("head", "VAR_INPUT" | "VAR_OUTPUT") => Some(instead(place, "VAR")),
         ("top" | "behind" | "head" | "title", _) => None,
         _ => match place.open(
             "IF|ELSIF|CASE|FOR",

@@ -100,11 +100,13 @@ impl Told {
             if last.is_none_or(|last| last < at) && !lexed.has_hole(from, until) {
                 self.tell(alloc, place)?;
             }
-            let Some(mend) = mend.filter(|_| self.left.causes > 0) else {
-                return Ok(true);
-            };
-            tokens = mended(alloc, tokens.as_slice(), mend)?;
             last = Some(at);
+            match mend {
+                Some(mend) if self.left.causes > 0 => {
+                    tokens = mended(alloc, tokens.as_slice(), mend)?;
+                }
+                _ => return Ok(true),
+            }
         }
         Ok(true)
     }
@@ -147,7 +149,7 @@ pub fn tell(alloc: Global, text: &[u8], left: Reading) -> Result<Told, AllocErro
     let mut told = Told {
         causes: Vec::new(alloc),
         left,
-        units: Some(start).filter(|_| is_certain),
+        units: is_certain.then_some(start),
     };
     told.read_units(alloc, &lexed)?;
     for hole in lexed.holes.as_slice() {

@@ -127,7 +127,7 @@ fn meant(place: Place<'_>) -> Option<Misnomer<'_>> {
     };
     let said = ["is no keyword; did you mean ", keyword, "?"];
     let is_word = place.sign() == "word" && word.len() > 2;
-    Some((place, keyword, said, GRAMMAR)).filter(|_| may_be && is_word)
+    (may_be && is_word).then_some((place, keyword, said, GRAMMAR))
 }
 
 /// The keyword that closes what is open, where a word begins as those do that close something; `None` where it doesn't.
@@ -136,7 +136,7 @@ fn closing(place: Place<'_>) -> Option<Misnomer<'_>> {
     let keyword = closing_of(place.opener());
     let said = ["is no keyword: ", keyword, " closes what is open here"];
     let may_end = fits("statement|declaration", place.stand());
-    Some((place, keyword, said, GRAMMAR)).filter(|_| is_end && may_end)
+    (is_end && may_end).then_some((place, keyword, said, GRAMMAR))
 }
 
 /// The word by which a token can't be there, that one or the one before it; behind the last token one that is meant to close what is open.
