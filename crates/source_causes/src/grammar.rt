@@ -161,7 +161,7 @@ fn cause_of_token(alloc: Global, place: Place<'_>) -> Result<Cause, AllocError> 
 
 /// The cause at a token: a word there or before it that is written otherwise, or what it is itself; behind the last one, why the text ends too early.
 pub fn cause_at_token(alloc: Global, place: Place<'_>) -> Result<Cause, AllocError> {
-    if let Some((place, _, [said, keyword, end], page)) = misnomer(place) {
+    if let Some((place, _, (said, keyword, end), page)) = misnomer(place) {
         let word = place.word();
         let said = format!(in alloc; "'{word}' {said}{keyword}{end}")?;
         return Ok(cause_at(place.mark(), said, page));

@@ -87,7 +87,10 @@ head VAR VAR_INPUT VAR_OUTPUT VAR_EXTERNAL END_VAR IF CASE FOR ELSE ELSIF END_IF
 /// A word that is written otherwise here; how a source is read on; what is said behind the word, in three parts; and where to read more. A source is read on
 /// with a keyword in its place, or behind what it ends with, END_WHILE or END_REPEAT; without it (`skip`), or without the statement or the declaration of which
 /// it is a `part`; where that isn't certain, there stands `_`.
-pub type Misnomer<'a> = (Place<'a>, &'static str, [&'static str; 3], &'static str);
+pub type Misnomer<'a> = (Place<'a>, &'static str, Said, &'static str);
+
+/// What is said behind a word, in three parts.
+pub type Said = (&'static str, &'static str, &'static str);
 
 /// The word of another dialect that a token is; `None` where it is none.
 fn foreign(place: Place<'_>) -> Option<Misnomer<'_>> {
@@ -108,7 +111,7 @@ fn foreign(place: Place<'_>) -> Option<Misnomer<'_>> {
         told => told,
     };
     let (way, said) = told.split_once(" ")?;
-    Some((place, way, [said, "", ""], STANDARD))
+    Some((place, way, (said, "", ""), STANDARD))
 }
 
 /// The keyword that a word nearly is, but for one letter that isn't its first, or two that changed places: no assignment, no call, no declaration and no output
@@ -125,7 +128,7 @@ fn meant(place: Place<'_>) -> Option<Misnomer<'_>> {
         "(" => keyword.len() < 5,
         behind => fits("none|word|int|literal|address|KEYWORD", behind),
     };
-    let said = ["is no keyword; did you mean ", keyword, "?"];
+    let said = ("is no keyword; did you mean ", keyword, "?");
     let is_word = place.sign() == "word" && word.len() > 2;
     (may_be && is_word).then_some((place, keyword, said, GRAMMAR))
 }
@@ -134,7 +137,7 @@ fn meant(place: Place<'_>) -> Option<Misnomer<'_>> {
 fn closing(place: Place<'_>) -> Option<Misnomer<'_>> {
     let is_end = same_word(part(place.word().as_bytes(), 0, 3), b"END") && place.sign() == "word";
     let keyword = closing_of(place.opener());
-    let said = ["is no keyword: ", keyword, " closes what is open here"];
+    let said = ("is no keyword: ", keyword, " closes what is open here");
     let may_end = fits("statement|declaration", place.stand());
     (is_end && may_end).then_some((place, keyword, said, GRAMMAR))
 }
@@ -147,7 +150,6 @@ pub fn misnomer(place: Place<'_>) -> Option<Misnomer<'_>> {
         return closing;
     }
     let foreign = both.into_iter().find_map(foreign);
-    foreign
-        .or_else(|| both.into_iter().find_map(meant))
-        .or(closing)
+    let meant = both.into_iter().find_map(meant);
+    foreign.or(meant).or(closing)
 }
