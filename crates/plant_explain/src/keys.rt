@@ -83,8 +83,9 @@ impl<'t> Keys<'t> {
         let sign = dotted_key(self.alloc, text)?.1;
         let value = skip_ws(sign.get(1..).unwrap_or(""));
         let behind = behind_value(self.alloc, value)?;
-        let key = self.word(text)?.0;
-        self.add(self.current, key, self.between(value, behind))?;
+        let (console, key) = (self.current, self.word(text)?.0);
+        let value = self.between(value, behind);
+        self.add(console, key, value)?;
         Ok(behind)
     }
 
@@ -102,13 +103,11 @@ impl<'t> Keys<'t> {
             return Ok(behind);
         }
         self.current = if is_console { LONE_CONSOLE } else { NOBODY };
-        match second {
-            Some(second) if is_console => {
-                let key = self.word(skip_ws(second))?.0;
-                self.add(self.consoles.len(), key, header)?;
-            }
-            _ => self.add(0, first, header)?,
-        }
+        let (console, key) = match second {
+            Some(second) if is_console => (self.consoles.len(), self.word(skip_ws(second))?.0),
+            _ => (0, first),
+        };
+        self.add(console, key, header)?;
         Ok(behind)
     }
 

@@ -132,9 +132,9 @@ impl<'t> Refused<'t> {
     pub fn in_units(&mut self, rule: Rule, name: &Text, unit: &Text) -> Result<(), AllocError> {
         let found = mistakes(self.alloc, self.texts.sources, rule)?;
         if found.first().map(|first| first.rule) != Some(rule) {
-            let unit = unit.as_str();
+            let (file, unit) = (self.source_of(name), unit.as_str());
             let said = format!(in self.alloc; "what the line above says stands in {unit}")?;
-            self.tell(self.source_of(name), cause_of(said, REFUSALS))?;
+            self.tell(file, cause_of(said, REFUSALS))?;
         }
         for mistake in found {
             self.tell(FileOf::Source(mistake.source), mistake.cause)?;
