@@ -4,10 +4,16 @@ use plant_types::Region;
 use source_trees::filled;
 use std::alloc::{AllocError, Global};
 use std::str;
-use token_causes::{FileOf, Spot, cause_at, part};
+use token_causes::{Cause, cause_at, part};
 
 /// The most warnings that are told.
 const MOST_WARNINGS: usize = 20;
+
+/// Where variables are described.
+const VARIABLES: &str = "docs/LANGUAGE.md, \"Variables\"";
+
+/// Where alarms are described.
+const ALARMS: &str = "docs/PLANT.md, \"alarms.csv\"";
 
 /// What is done with what a source declares.
 #[derive(Clone, Copy, Drop)]
@@ -34,11 +40,14 @@ pub struct Shared {
     pub uses: Uses,
 }
 
+/// What is nearly surely a mistake: the number of its source, from 0, and none in the alarm database.
+pub type Warning = (Option<usize>, Cause);
+
 /// What was found so far in a plant. It holds nothing of the plant's trees.
 #[derive(Drop)]
 pub struct Found {
     alloc: Global,
-    warnings: Vec<Spot>,
+    warnings: Vec<Warning>,
     /// Whether memory was refused.
     is_short: bool,
     /// The globals, arrays too, in order of text.
@@ -90,7 +99,7 @@ impl Found {
     /// Keeps a warning at bytes of a source, or of the alarm database, where it is told: a text that `filled` fills.
     pub fn warn_in(
         &mut self,
-        file: FileOf,
+        source: Option<usize>,
         mark: (usize, usize),
         text: &str,
         (told, words): (&str, &[&str]),
@@ -100,8 +109,8 @@ impl Found {
         }
         let said = filled(self.alloc, &["warning: ", text], told, words);
         if let Some(said) = self.got(said) {
-            let cause = cause_at(mark, said, "");
-            let pushed = self.warnings.push(Spot { file, cause });
+            let page = source.map_or(ALARMS, |_| VARIABLES);
+            let pushed = self.warnings.push((source, cause_at(mark, said, page)));
             self.got(pushed);
         }
     }
@@ -138,13 +147,13 @@ impl Found {
                 .get(source)
                 .map_or(b"".as_slice(), |source| part(source.1, mark.0, mark.1));
             let name = str::from_utf8(name).unwrap_or("");
-            self.warn_in(FileOf::Source(source), mark, text, (name, &[]));
+            self.warn_in(Some(source), mark, text, (name, &[]));
         }
     }
 
     /// Tells of globals that nothing reads or assigns, and of blocks of which there is no instance, and returns all warnings, in the order in which they were
     /// found.
-    pub fn end(mut self, sources: &[(&str, &[u8])]) -> Result<Vec<Spot>, AllocError> {
+    pub fn end(mut self, sources: &[(&str, &[u8])]) -> Result<Vec<Warning>, AllocError> {
         for number in 0..self.globals.len() {
             if let Some(global) = self.globals.get(number).copied() {
                 self.doubt(sources, global.home, global_doubt(&global));

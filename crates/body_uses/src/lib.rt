@@ -14,5 +14,5 @@ mod places;
 mod units;
 
 pub use comments::swallower;
-pub use found::Found;
+pub use found::{Found, Warning};
 pub use looking::look;

@@ -8,7 +8,7 @@ use source_trees::{Entry, Form, entries_of, mark_of};
 use st_lexer::Token;
 use st_parser::{SectionKind, Unit};
 use std::alloc::{AllocError, Global};
-use token_causes::{FileOf, tokens_of};
+use token_causes::tokens_of;
 use word_index::Names;
 
 /// Nothing is done.
@@ -56,8 +56,7 @@ impl<'p> Looking<'p> {
 
     /// Keeps a warning at bytes of the source that is gone through.
     pub fn warn(&mut self, mark: (usize, usize), text: &str, told: (&str, &[&str])) {
-        self.found
-            .warn_in(FileOf::Source(self.source), mark, text, told);
+        self.found.warn_in(Some(self.source), mark, text, told);
     }
 
     /// Keeps a warning at a literal or an operator of the body that is gone through: the one of a number, from 0, behind the name that was passed last.

@@ -7,7 +7,7 @@ use plant_config::{Observer, Plant, Unit};
 use plant_folder::PlantTexts;
 use plant_places::shown;
 use std::alloc::{AllocError, Global};
-use token_causes::FileOf;
+use token_causes::{FileOf, Spot};
 use word_index::Names;
 
 /// An observer who keeps what the sources of a plant do with their variables, for what is told of the plant where it is accepted.
@@ -41,8 +41,7 @@ impl<'t> Alarms<'t> {
     fn warn(&mut self, alarm: usize, column: Column, said: (&str, &str)) -> Result<(), AllocError> {
         let number = Version::First.place(column).unwrap_or(0);
         let mark = self.rows.field(alarm.saturating_add(1), number)?;
-        self.found
-            .warn_in(FileOf::Alarms, mark, said.0, (said.1, &[]));
+        self.found.warn_in(None, mark, said.0, (said.1, &[]));
         Ok(())
     }
 
@@ -100,8 +99,9 @@ pub fn warn(
     let mut alarms = Alarms { rows, found };
     alarms.go_through(alloc, plant)?;
     let mut told = String::new(alloc);
-    for spot in &alarms.found.end(texts.sources)? {
-        told.push_str(shown(alloc, texts, spot)?.as_str())?;
+    for (source, cause) in alarms.found.end(texts.sources)? {
+        let file = source.map_or(FileOf::Alarms, FileOf::Source);
+        told.push_str(shown(alloc, texts, &Spot { file, cause })?.as_str())?;
     }
     Ok(told)
 }
