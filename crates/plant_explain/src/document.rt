@@ -191,11 +191,11 @@ impl<'t> Refused<'t> {
                 _ => self.say(file, mark, said_of(wrong), &[key])?,
             }
         }
-        if self.spots.is_empty() {
+        if self.told.is_empty() {
             let text = "the sources that were handed in aren't those that 'sources' lists";
             self.say(file, None, text, &[])?;
         }
-        self.spots.sort_unstable_by_key(|spot: &Spot| {
+        self.told.sort_unstable_by_key(|spot: &Spot| {
             spot.cause.mark.map_or(0, |mark| mark.0.saturating_add(1))
         });
         Ok(())

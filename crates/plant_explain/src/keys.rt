@@ -22,7 +22,7 @@ const LONE_CONSOLE: usize = usize::MAX - 1;
 #[derive(Drop)]
 pub struct Entry {
     /// 0 for a key of the plant, the number of the console, from 1, or `NOBODY`.
-    pub console: usize,
+    pub owner: usize,
     /// The bytes of the key, or of its first word where it has dots, without quotes.
     pub key: Mark,
     /// The bytes of what stands under it: a value, or the header of a table.
@@ -69,12 +69,8 @@ impl<'t> Keys<'t> {
         Ok((self.between(text, behind), behind))
     }
 
-    fn add(&mut self, console: usize, key: Mark, value: Mark) -> Result<(), AllocError> {
-        self.entries.push(Entry {
-            console,
-            key,
-            value,
-        })?;
+    fn add(&mut self, owner: usize, key: Mark, value: Mark) -> Result<(), AllocError> {
+        self.entries.push(Entry { owner, key, value })?;
         Ok(())
     }
 
@@ -83,9 +79,9 @@ impl<'t> Keys<'t> {
         let sign = dotted_key(self.alloc, text)?.1;
         let value = skip_ws(sign.get(1..).unwrap_or(""));
         let behind = behind_value(self.alloc, value)?;
-        let (console, key) = (self.current, self.word(text)?.0);
+        let (owner, key) = (self.current, self.word(text)?.0);
         let value = self.between(value, behind);
-        self.add(console, key, value)?;
+        self.add(owner, key, value)?;
         Ok(behind)
     }
 
@@ -103,11 +99,11 @@ impl<'t> Keys<'t> {
             return Ok(behind);
         }
         self.current = if is_console { LONE_CONSOLE } else { NOBODY };
-        let (console, key) = match second {
+        let (owner, key) = match second {
             Some(second) if is_console => (self.consoles.len(), self.word(skip_ws(second))?.0),
             _ => (0, first),
         };
-        self.add(console, key, header)?;
+        self.add(owner, key, header)?;
         Ok(behind)
     }
 
@@ -115,10 +111,10 @@ impl<'t> Keys<'t> {
         part(self.text.as_bytes(), mark.0, mark.1) == word.as_bytes()
     }
 
-    /// The first key of the plant's, for which `console` is 0, of a console, or of nobody.
-    pub fn find(&self, console: usize, key: &str) -> Option<&Entry> {
+    /// The first key of an owner of a name.
+    pub fn find(&self, owner: usize, key: &str) -> Option<&Entry> {
         let mut entries = self.entries.iter();
-        entries.find(|entry| entry.console == console && self.has(entry.key, key))
+        entries.find(|entry| entry.owner == owner && self.has(entry.key, key))
     }
 
     /// The bytes of what stands under a key, or of an item where it is a list.

@@ -68,10 +68,8 @@ impl<'t> Refused<'t> {
         let first = (file, cause.mark);
         self.tell(file, cause)?;
         let mut starts = Vec::new(alloc);
-        let mut left = Reading {
-            causes: MOST_FAULTS,
-            tokens: LEAST_TOKENS,
-        };
+        let (causes, tokens) = (MOST_FAULTS, LEAST_TOKENS);
+        let mut left = Reading { causes, tokens };
         for (number, source) in self.texts.sources.iter().enumerate() {
             left.tokens = left.tokens.saturating_add(source.1.len());
             let told = tell(alloc, source.1, left)?;
@@ -144,8 +142,8 @@ impl<'t> Refused<'t> {
         }
         for (number, source) in self.texts.sources.iter().enumerate() {
             if let Some(cause) = swallower(self.alloc, source.1)? {
-                let (second, file) = (self.spots.len().min(1), FileOf::Source(number));
-                self.spots.insert(second, Spot { file, cause })?;
+                let (second, file) = (self.told.len().min(1), FileOf::Source(number));
+                self.told.insert(second, Spot { file, cause })?;
             }
         }
         Ok(())

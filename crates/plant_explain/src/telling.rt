@@ -1,6 +1,6 @@
 //! A refusal, explained.
 
-ghost use Rattle.std.specs.Prelude.{◌≡◌, ◌≢◌, ◌≤◌, length, IfOk, string_bytes};
+ghost use Rattle.std.specs.Prelude.{◌≡◌, ◌≢◌, ◌≤◌, ◌++◌, length, IfOk, codes, string_bytes};
 ghost use Rattle.plant_config.specs.declared.fault.ConfigFault.TheVariants as config_fault;
 ghost use Rattle.plant_folder.specs.Verdicts.{refusal_line};
 ghost use Rattle.plant_explain.specs.Told.{BeginsWith};
@@ -24,12 +24,12 @@ pub const REFUSALS: &str = "docs/PLANT.md, \"To find the fault\"";
 pub struct Refused<'t> {
     pub alloc: Global,
     pub texts: &'t PlantTexts<'t>,
-    pub spots: Vec<Spot>,
+    pub told: Vec<Spot>,
 }
 
 impl<'t> Refused<'t> {
     pub fn tell(&mut self, file: FileOf, cause: Cause) -> Result<(), AllocError> {
-        self.spots.push(Spot { file, cause })?;
+        self.told.push(Spot { file, cause })?;
         Ok(())
     }
 
@@ -85,13 +85,10 @@ fn find_all(
     ensures least { IfOk result (λ found. 1 ≤ length found.items) }
     ensures most { IfOk result (λ found. length found.items ≤ 20) }
 {
-    let mut refused = Refused {
-        alloc,
-        texts,
-        spots: Vec::new(alloc),
-    };
+    let told = Vec::new(alloc);
+    let mut refused = Refused { alloc, texts, told };
     refused.find(fault)?;
-    let mut spots = refused.spots;
+    let mut spots = refused.told;
     if spots.is_empty() {
         let said = String::from_str(alloc, "it isn't told where, since memory was refused")?;
         let (file, cause) = (FileOf::Plant, cause_of(said, REFUSALS));
@@ -123,6 +120,16 @@ fn all_shown(alloc: Global, texts: &PlantTexts<'_>, spots: &[Spot]) -> Result<St
     Ok(told)
 }
 
+/// A line with its line feed, and a text.
+fn under(alloc: Global, line: &str, text: &str) -> Result<String, AllocError>
+    ensures { IfOk result (λ both. string_bytes both ≡ line.now ++ (codes "\n" ++ text.now)) }
+{
+    let mut both = String::from_str(alloc, line)?;
+    both.push_str("\n")?;
+    both.push_str(text)?;
+    Ok(both)
+}
+
 /// What a person is told when a plant is refused: first the line of the refusal, and then its faults, 20 at most: the place of each in the plant's own texts,
 /// the line there with a mark, what is wrong, and where to read on; and how many are told.
 pub fn explain_all(
@@ -133,10 +140,8 @@ pub fn explain_all(
     requires { fault.now ≢ config_fault.Memory }
     ensures { IfOk result (λ text. BeginsWith (refusal_line fault.now) (string_bytes text)) }
 {
+    let line = fault.line(alloc)?;
     let spots = find_all(alloc, texts, fault)?;
     let rest = all_shown(alloc, texts, spots.as_slice())?;
-    let mut text = fault.line(alloc)?;
-    text.push_str("\n")?;
-    text.push_str(rest.as_str())?;
-    Ok(text)
+    under(alloc, line.as_str(), rest.as_str())
 }
