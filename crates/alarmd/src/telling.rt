@@ -79,7 +79,7 @@ impl<'a, R: Files> Telling<'a, R> {
 impl<'a, R: Files> Observer for Telling<'a, R> {
     fn typed(&mut self, alloc: Global, sources: &[(&str, &[u8])], units: &[Unit]) {
         if let OfAccepted::Warnings | OfAccepted::Listing = self.of_accepted {
-            let mut warner = Warner::new();
+            let mut warner = Warner::default();
             warner.typed(alloc, sources, units);
             self.warner = Some(warner);
         }

@@ -2,7 +2,7 @@
 
 use crate::faults::{fault_of, is_of_tables};
 use plant_config::{ConfigFault, Plant};
-use plant_explain::{PlantTexts, Warner, explain, explain_all, warn};
+use plant_explain::{PlantTexts, Warner, explain_all, warn};
 use row_text::{File, Page};
 use statement_places::{statement_table, told_of_fault};
 use std::alloc::{AllocError, Global};
@@ -75,12 +75,9 @@ fn told<H: Threads + Sync>(
     if line.starts_with("FAULT ") {
         return told_of_fault(alloc, texts, line);
     }
-    let all = line.strip_prefix("all ");
-    let fault = fault_for(rt, alloc, texts, all.unwrap_or(line))?;
-    match fault {
+    match fault_for(rt, alloc, texts, line)? {
         ConfigFault::Memory => Ok(String::new(alloc)),
-        fault if all.is_some() => explain_all(alloc, texts, &fault),
-        fault => explain(alloc, texts, &fault),
+        fault => explain_all(alloc, texts, &fault),
     }
 }
 
@@ -90,7 +87,7 @@ fn warned<H: Threads + Sync>(
     alloc: Global,
     texts: &PlantTexts<'_>,
 ) -> Result<String, AllocError> {
-    let mut warner = Warner::new();
+    let mut warner = Warner::default();
     match Plant::read_observed(
         rt,
         alloc,

@@ -192,9 +192,6 @@ impl<'a> Table<'a> {
         if let Some(refusal) = line.strip_prefix("as ") {
             return self.refuse(rt, alloc, refusal);
         }
-        if line.starts_with("all ") {
-            return self.refuse(rt, alloc, line);
-        }
         if line.starts_with("text ") {
             self.begin(line);
             self.begin_file(alloc, "");

@@ -1,91 +1,150 @@
-//! What is wrong in the spelling and the grammar of the sources (C4, C5).
+//! What is wrong in the sources: in their spelling and their grammar (C4, C5), and behind that in the rows of the alarm database (C11 to C14), or in their
+//! units (C6 to C9).
 
-use crate::finding::MOST_FAULTS;
-use crate::rows::spots_behind_sources;
-use crate::units::source_named;
-use plant_folder::PlantTexts;
+use crate::telling::{MOST_FAULTS, REFUSALS, Refused};
+use alarm_db::{Column, DatabaseRow, RowFault, RowMistake, examine};
+use body_uses::swallower;
+use explain_bodies::{Rule, mistakes};
+use plant_file::{PlantFile, PlantFileFault, TextSet, read};
 use plant_places::text_of;
-use plant_types::Text;
-use source_causes::{Reading, Told, misspelled_at, tell, ungrammatical};
+use plant_types::{Kind, Text};
+use source_causes::{Reading, misspelled_at, tell, ungrammatical};
+use source_trees::{entries_of, sources_of, units_of};
+use st_parser::{Sort, Unit};
 use std::alloc::{AllocError, Global};
-use token_causes::{FileOf, Spot, byte_at};
+use token_causes::{FileOf, Spot, byte_at, cause_of, part};
+use word_index::Names;
 
-/// So many tokens are read at least, and one more for each byte of the plant.
+/// So many tokens are read at least, and one more for each byte of the sources.
 const LEAST_TOKENS: usize = 100_000;
 
-/// How many bytes the texts of a plant have together.
-fn size_of(texts: &PlantTexts<'_>) -> usize {
-    let mut size = texts.plant.len().saturating_add(texts.alarms.len());
-    for source in texts.sources {
-        size = size.saturating_add(source.1.len());
-    }
-    size
-}
-
-/// The cause of a fault of spelling or grammar in a source, at a line and a byte of the line, which count from 1.
-fn at_place(
-    alloc: Global,
-    texts: &PlantTexts<'_>,
-    (source, line, column): (&Text, usize, usize),
-    is_spelling: bool,
-) -> Result<Spot, AllocError> {
-    let file = FileOf::Source(source_named(texts, source));
-    let text = text_of(texts, file);
-    let at = byte_at(text, line, column);
-    let cause = if is_spelling {
-        misspelled_at(alloc, text, at)?
-    } else {
-        ungrammatical(alloc, text, at)?
-    };
-    Ok(Spot { file, cause })
-}
-
-/// Adds what else is wrong in the spelling and the grammar of all sources, in order of text, as far as it is certain; returns where the blocks and programs of
-/// each begin, as far as that is certain.
-fn add_others(
-    alloc: Global,
-    texts: &PlantTexts<'_>,
-    spots: &mut Vec<Spot>,
-    first: (FileOf, Option<(usize, usize)>),
-) -> Result<Vec<Option<usize>>, AllocError> {
-    let mut starts = Vec::new(alloc);
-    let mut left = Reading {
-        causes: MOST_FAULTS,
-        tokens: size_of(texts).saturating_add(LEAST_TOKENS),
-    };
-    for (number, source) in texts.sources.iter().enumerate() {
-        let Told {
-            causes,
-            left: less,
-            units,
-        } = tell(alloc, source.1, left)?;
-        left = less;
-        starts.push(units)?;
-        let file = FileOf::Source(number);
-        for cause in causes {
-            if spots.len() < MOST_FAULTS && (file, cause.mark) != first {
-                spots.push(Spot { file, cause })?;
-            }
+/// The names of the globals that aren't certainly of another kind than BOOL.
+fn bools_of(alloc: Global, units: &[Unit]) -> Result<Names, AllocError> {
+    let mut names = Names::new(alloc);
+    for entry in &entries_of(alloc, units)? {
+        if !matches!(
+            entry.sort(),
+            Some(Sort::Kind(Kind::Dint | Kind::Time) | Sort::Array(_, _))
+        ) {
+            names.add(alloc, entry.name.as_str())?;
         }
     }
-    Ok(starts)
+    Ok(names)
 }
 
-/// What is wrong in the spelling and the grammar of the sources of a plant that is refused for it: first at the place of the refusal, then in order of text,
-/// and behind these in the rows of the alarm database.
-pub fn spots_in_sources(
-    alloc: Global,
-    texts: &PlantTexts<'_>,
-    place: (&Text, usize, usize),
-    is_spelling: bool,
-) -> Result<Vec<Spot>, AllocError> {
-    let spot = at_place(alloc, texts, place, is_spelling)?;
-    let first = (spot.file, spot.cause.mark);
-    let mut spots = Vec::new(alloc);
-    spots.push(spot)?;
-    let starts = add_others(alloc, texts, &mut spots, first)?;
-    for spot in spots_behind_sources(alloc, texts, starts.as_slice())? {
-        spots.push(spot)?;
+/// The first column of a row in which a name stands for nothing.
+fn unknown_in(areas: &TextSet, bools: &Names, row: &DatabaseRow) -> Option<Column> {
+    match &row.suppress {
+        _ if areas.number(row.area.as_str()).is_none() => Some(Column::Area),
+        _ if bools.find(row.condition.as_str()).is_none() => Some(Column::Condition),
+        Some(name) if bools.find(name.as_str()).is_none() => Some(Column::Suppress),
+        _ => None,
     }
-    Ok(spots)
+}
+
+impl<'t> Refused<'t> {
+    pub fn source_of(&self, name: &Text) -> FileOf {
+        let mut sources = self.texts.sources.iter();
+        let number = sources.position(|source| source.0 == name.as_str());
+        FileOf::Source(number.unwrap_or(self.texts.sources.len()))
+    }
+
+    /// Tells what is wrong in the spelling and the grammar of the sources of a plant that is refused for it: first at the place of the refusal, by a line and a
+    /// byte of the line, then in order of text, as far as it is certain, and behind these in the rows of the alarm database.
+    pub fn in_sources(
+        &mut self,
+        (name, line, column): (&Text, usize, usize),
+        is_spelling: bool,
+    ) -> Result<(), AllocError> {
+        let (alloc, file) = (self.alloc, self.source_of(name));
+        let text = text_of(self.texts, file);
+        let at = byte_at(text, line, column);
+        let cause = if is_spelling {
+            misspelled_at(alloc, text, at)?
+        } else {
+            ungrammatical(alloc, text, at)?
+        };
+        let first = (file, cause.mark);
+        self.tell(file, cause)?;
+        let mut starts = Vec::new(alloc);
+        let (causes, tokens) = (MOST_FAULTS, LEAST_TOKENS);
+        let mut left = Reading { causes, tokens };
+        for (number, source) in self.texts.sources.iter().enumerate() {
+            left.tokens = left.tokens.saturating_add(source.1.len());
+            let told = tell(alloc, source.1, left)?;
+            left = told.left;
+            starts.push(told.units)?;
+            for cause in told.causes {
+                let file = FileOf::Source(number);
+                if (file, cause.mark) != first {
+                    self.tell(file, cause)?;
+                }
+            }
+        }
+        self.in_rows_behind(starts.as_slice())
+    }
+
+    /// Tells what is wrong in the rows of a plant with these globals.
+    fn in_rows_beside(&mut self, file: &PlantFile, units: &[Unit]) -> Result<(), AllocError> {
+        let areas = file.area_set(self.alloc)?;
+        let bools = bools_of(self.alloc, units)?;
+        let examined = examine(self.alloc, self.texts.alarms)?;
+        let mut mistakes = Vec::from_slice(self.alloc, examined.mistakes.as_slice())?;
+        for (at, row) in &examined.rows {
+            if let Some(column) = unknown_in(&areas, &bools, row) {
+                let field = examined.version.and_then(|version| version.place(column));
+                let (at, fault) = (*at, RowFault::Unknown(column));
+                mistakes.push(RowMistake { at, field, fault })?;
+            }
+        }
+        mistakes.sort_unstable_by_key(|mistake| mistake.at);
+        mistakes.truncate(MOST_FAULTS);
+        for wrong in &mistakes {
+            self.in_row(units, wrong)?;
+        }
+        Ok(())
+    }
+
+    /// Tells what is wrong in the rows, whatever the blocks and programs say, which begin at these bytes of the sources: nothing where that isn't certain, or the
+    /// globals may be at fault themselves.
+    fn in_rows_behind(&mut self, starts: &[Option<usize>]) -> Result<(), AllocError> {
+        let mut heads = Vec::new(self.alloc);
+        for (source, start) in self.texts.sources.iter().zip(starts) {
+            heads.push((source.0, part(source.1, 0, start.unwrap_or(0))))?;
+        }
+        let sources = sources_of(self.alloc, heads.as_slice())?;
+        let units = units_of(self.alloc, sources.as_slice())?;
+        if units.len() < heads.len() || starts.contains(&None) {
+            return Ok(());
+        }
+        match read(self.alloc, self.texts.plant) {
+            Ok(file) => self.in_rows_beside(&file, units.as_slice()),
+            Err(PlantFileFault::Memory) => Err(AllocError),
+            Err(_) => Ok(()),
+        }
+    }
+
+    /// Tells what is wrong in the units of a plant that is refused for one by a rule: first why it is refused, by the name of the unit where no more of it is
+    /// known, and then others in order of text. Where a name is missing, comments that swallow what follows come second, the first of each source.
+    pub fn in_units(&mut self, rule: Rule, name: &Text, unit: &Text) -> Result<(), AllocError> {
+        let found = mistakes(self.alloc, self.texts.sources, rule)?;
+        if found.first().map(|first| first.rule) != Some(rule) {
+            let (file, unit) = (self.source_of(name), unit.as_str());
+            let said = format!(in self.alloc; "what the line above says stands in {unit}")?;
+            self.tell(file, cause_of(said, REFUSALS))?;
+        }
+        for mistake in found {
+            self.tell(FileOf::Source(mistake.source), mistake.cause)?;
+        }
+        if rule != Rule::Names {
+            return Ok(());
+        }
+        for (number, source) in self.texts.sources.iter().enumerate() {
+            if let Some(cause) = swallower(self.alloc, source.1)? {
+                let (second, file) = (self.told.len().min(1), FileOf::Source(number));
+                self.told.insert(second, Spot { file, cause })?;
+            }
+        }
+        Ok(())
+    }
 }

@@ -1,20 +1,127 @@
 //! A refusal, explained.
 
-ghost use Rattle.std.specs.Prelude.{◌≡◌, ◌≢◌, ◌++◌, IfOk, codes, string_bytes};
+ghost use Rattle.std.specs.Prelude.{◌≡◌, ◌≢◌, ◌≤◌, ◌++◌, length, IfOk, codes, string_bytes};
 ghost use Rattle.plant_config.specs.declared.fault.ConfigFault.TheVariants as config_fault;
 ghost use Rattle.plant_folder.specs.Verdicts.{refusal_line};
 ghost use Rattle.plant_explain.specs.Told.{BeginsWith};
 
-use crate::finding::{MOST_FAULTS, find, find_all};
-use crate::warnings::{Warner, find_warnings};
-use plant_config::{ConfigFault, Plant};
+use crate::keys::Mark;
+use explain_bodies::Rule;
+use plant_config::ConfigFault;
 use plant_folder::PlantTexts;
-use plant_places::{shown, shown_alone};
+use plant_places::shown;
+use source_trees::filled;
 use std::alloc::{AllocError, Global};
-use token_causes::Spot;
+use token_causes::{Cause, FileOf, Spot, cause_of};
+
+pub const MOST_FAULTS: usize = 20;
+
+/// Where it stands what a refusal is mostly for.
+pub const REFUSALS: &str = "docs/PLANT.md, \"To find the fault\"";
+
+/// A refused plant, and what was found in it.
+#[derive(Drop)]
+pub struct Refused<'t> {
+    pub alloc: Global,
+    pub texts: &'t PlantTexts<'t>,
+    pub told: Vec<Spot>,
+}
+
+impl<'t> Refused<'t> {
+    pub fn tell(&mut self, file: FileOf, cause: Cause) -> Result<(), AllocError> {
+        self.told.push(Spot { file, cause })?;
+        Ok(())
+    }
+
+    /// Tells what is wrong at bytes of the plant file or of the alarm database: a text in which each `%` stands for the next of words.
+    pub fn say(
+        &mut self,
+        file: FileOf,
+        mark: Option<Mark>,
+        text: &str,
+        words: &[&str],
+    ) -> Result<(), AllocError> {
+        let said = filled(self.alloc, &[text], "", words)?;
+        let page = match file {
+            FileOf::Plant => "docs/PLANT.md, \"plant.toml\"",
+            _ => "docs/PLANT.md, \"alarms.csv\"",
+        };
+        self.tell(file, Cause { mark, said, page })
+    }
+
+    /// Tells what is wrong, as far as it is found.
+    fn find(&mut self, fault: &ConfigFault) -> Result<(), AllocError> {
+        match fault {
+            ConfigFault::Memory => Ok(()),
+            ConfigFault::NotToml(unread) => self.not_toml(unread),
+            ConfigFault::PlantFile(mistakes) => self.in_keys(mistakes.as_slice()),
+            ConfigFault::Epoch => self.no_epoch(),
+            ConfigFault::Limit(limit) => self.past(*limit),
+            ConfigFault::Spelling { file, line, column } => {
+                self.in_sources((file, *line, *column), true)
+            }
+            ConfigFault::Grammar { file, line, column } => {
+                self.in_sources((file, *line, *column), false)
+            }
+            ConfigFault::Name { file, unit } => self.in_units(Rule::Names, file, unit),
+            ConfigFault::Kind { file, unit } => self.in_units(Rule::Kinds, file, unit),
+            ConfigFault::HoldsItself { file, unit } => self.in_units(Rule::Blocks, file, unit),
+            ConfigFault::Constant { file, unit } => self.in_units(Rule::Constants, file, unit),
+            ConfigFault::Header(mistakes)
+            | ConfigFault::Field { mistakes, .. }
+            | ConfigFault::Twice { mistakes, .. }
+            | ConfigFault::Unknown { mistakes, .. } => self.in_rows(mistakes.as_slice()),
+        }
+    }
+}
+
+/// The fault of a refused plant, and further ones that are found with it, 20 at most: of the plant file and of rows in order of text, of sources first the one
+/// for which it is refused, and then the others in order of text; where the spelling or the grammar of sources is at fault, behind these those of rows.
+fn find_all(
+    alloc: Global,
+    texts: &PlantTexts<'_>,
+    fault: &ConfigFault,
+) -> Result<Vec<Spot>, AllocError>
+    ensures least { IfOk result (λ found. 1 ≤ length found.items) }
+    ensures most { IfOk result (λ found. length found.items ≤ 20) }
+{
+    let told = Vec::new(alloc);
+    let mut refused = Refused { alloc, texts, told };
+    refused.find(fault)?;
+    let mut spots = refused.told;
+    if spots.is_empty() {
+        let said = String::from_str(alloc, "it isn't told where, since memory was refused")?;
+        let (file, cause) = (FileOf::Plant, cause_of(said, REFUSALS));
+        spots.push(Spot { file, cause })?;
+    }
+    spots.truncate(MOST_FAULTS);
+    Ok(spots)
+}
+
+/// What is said of faults, each with its place in these texts, and where to read on behind the first one of a page; and how many they are.
+fn all_shown(alloc: Global, texts: &PlantTexts<'_>, spots: &[Spot]) -> Result<String, AllocError> {
+    let mut told = String::new(alloc);
+    let mut page = "";
+    for spot in spots {
+        told.push_str(shown(alloc, texts, spot)?.as_str())?;
+        if spot.cause.page != page {
+            page = spot.cause.page;
+            told.push_str(format!(in alloc; "read on: {page}\n")?.as_str())?;
+        }
+    }
+    let count = spots.len();
+    let more = match count {
+        0 | 1 => return Ok(told),
+        MOST_FAULTS => ", and there may be more",
+        _ => "",
+    };
+    let last = format!(in alloc; "{count} faults told{more}: correct these and check again\n")?;
+    told.push_str(last.as_str())?;
+    Ok(told)
+}
 
 /// A line with its line feed, and a text.
-pub fn under(alloc: Global, line: &str, text: &str) -> Result<String, AllocError>
+fn under(alloc: Global, line: &str, text: &str) -> Result<String, AllocError>
     ensures { IfOk result (λ both. string_bytes both ≡ line.now ++ (codes "\n" ++ text.now)) }
 {
     let mut both = String::from_str(alloc, line)?;
@@ -23,69 +130,8 @@ pub fn under(alloc: Global, line: &str, text: &str) -> Result<String, AllocError
     Ok(both)
 }
 
-/// The last line: how many faults are told, where that is more than one.
-fn last_line(alloc: Global, count: usize) -> Result<String, AllocError> {
-    if count <= 1 {
-        return Ok(String::new(alloc));
-    }
-    let more = if count >= MOST_FAULTS {
-        ", and there may be more"
-    } else {
-        ""
-    };
-    format!(in alloc; "{count} faults told{more}: correct these and check again\n")
-}
-
-/// What is said of faults, each with its place in these texts, and where to read on where that isn't the page of the fault before.
-fn all_shown(alloc: Global, texts: &PlantTexts<'_>, spots: &[Spot]) -> Result<String, AllocError> {
-    let mut told = String::new(alloc);
-    let mut page = "";
-    for spot in spots {
-        let text = if spot.cause.page == page {
-            shown_alone(alloc, texts, spot)?
-        } else {
-            shown(alloc, texts, spot)?
-        };
-        page = spot.cause.page;
-        told.push_str(text.as_str())?;
-    }
-    let last = last_line(alloc, spots.len())?;
-    told.push_str(last.as_str())?;
-    Ok(told)
-}
-
-/// The line of a refusal, and below it what is said of faults.
-fn with_line(
-    alloc: Global,
-    texts: &PlantTexts<'_>,
-    fault: &ConfigFault,
-    spots: &[Spot],
-) -> Result<String, AllocError>
-    requires { fault.now ≢ config_fault.Memory }
-    ensures { IfOk result (λ text. BeginsWith (refusal_line fault.now) (string_bytes text)) }
-{
-    let line = fault.line(alloc)?;
-    let rest = all_shown(alloc, texts, spots)?;
-    under(alloc, line.as_str(), rest.as_str())
-}
-
-/// What a person is told when a plant is refused: first the line of the refusal, then the place, the line there with a mark, what is wrong, and
-/// where to read on.
-pub fn explain(
-    alloc: Global,
-    texts: &PlantTexts<'_>,
-    fault: &ConfigFault,
-) -> Result<String, AllocError>
-    requires { fault.now ≢ config_fault.Memory }
-    ensures { IfOk result (λ text. BeginsWith (refusal_line fault.now) (string_bytes text)) }
-{
-    let mut spots = Vec::new(alloc);
-    spots.push(find(alloc, texts, fault)?)?;
-    with_line(alloc, texts, fault, spots.as_slice())
-}
-
-/// The same, and below it the explanations of further faults of the same stage that are certain, 20 in all at most, each in the plant's own texts, and how many
-/// are told.
+/// What a person is told when a plant is refused: first the line of the refusal, and then its faults, 20 at most: the place of each in the plant's own texts,
+/// the line there with a mark, what is wrong, and where to read on; and how many are told.
 pub fn explain_all(
     alloc: Global,
     texts: &PlantTexts<'_>,
@@ -94,23 +140,8 @@ pub fn explain_all(
     requires { fault.now ≢ config_fault.Memory }
     ensures { IfOk result (λ text. BeginsWith (refusal_line fault.now) (string_bytes text)) }
 {
+    let line = fault.line(alloc)?;
     let spots = find_all(alloc, texts, fault)?;
-    with_line(alloc, texts, fault, spots.as_slice())
-}
-
-/// What a person is told of a plant that is accepted from these texts: what is likely to be wrong in it, each with its place and the line there; nothing
-/// where nothing is. A warner saw the plant's sources while it was read. Fails if memory was refused, or he saw none.
-pub fn warn(
-    alloc: Global,
-    texts: &PlantTexts<'_>,
-    plant: &Plant,
-    warner: Warner,
-) -> Result<String, AllocError> {
-    let mut told = String::new(alloc);
-    let found = find_warnings(alloc, texts, plant, warner)?;
-    for spot in found.as_slice() {
-        let text = shown_alone(alloc, texts, spot)?;
-        told.push_str(text.as_str())?;
-    }
-    Ok(told)
+    let rest = all_shown(alloc, texts, spots.as_slice())?;
+    under(alloc, line.as_str(), rest.as_str())
 }

@@ -1,11 +1,12 @@
 //! Places in the texts of a plant.
 
-ghost use Rattle.std.specs.Prelude.{◌≡◌, ◌≤◌, ◌+◌, ◌==◌, not, length, count_by};
+ghost use Rattle.std.specs.Prelude.{◌≡◌, ◌≤◌, ◌+◌, ◌==◌, not, length, count_by, option_map};
 ghost use Rattle.std.specs.List.{suffix_len};
 ghost use Rattle.st_lexer.specs.Lexes.{mark_len};
-ghost use Rattle.plant_places.specs.Places.{place_in};
+ghost use Rattle.plant_places.specs.Places.{place_in, text_of};
 
-use token_causes::part;
+use plant_folder::PlantTexts;
+use token_causes::{FileOf, Spot, part};
 
 /// A place in a text. Lines count from 1, and so do the bytes of a line; a byte order mark at the text's start isn't counted.
 #[derive(Clone, Copy, Drop)]
@@ -25,7 +26,7 @@ pub fn mark_len(text: &[u8]) -> usize
     }
 }
 
-/// The line and the column of the place after these bytes, which are all that stand before it.
+/// The place after these bytes, which are all that stand before it.
 fn place_after(before: &[u8]) -> Place
     ensures line { result.line ≡ count_by (λ b. b == 10) before.now + 1 }
     ensures column { result.column ≡ suffix_len (λ b. not (b == 10)) before.now + 1 }
@@ -53,16 +54,37 @@ pub fn place_at(text: &[u8], at: usize) -> Place
     place_after(&body[..number])
 }
 
+/// The text of a file of a plant; empty for a source that isn't there.
+pub fn text_of<'a>(texts: &PlantTexts<'a>, file: FileOf) -> &'a [u8]
+    ensures { result.now ≡ text_of texts.now file }
+{
+    match file {
+        FileOf::Plant => texts.plant,
+        FileOf::Source(number) => match texts.sources.get(number) {
+            Some(source) => source.1,
+            None => b"",
+        },
+        FileOf::Alarms => texts.alarms,
+    }
+}
+
+/// The place at which the cause of a spot begins, in the text of the spot's file; `None` where none can be told.
+pub fn place_of(texts: &PlantTexts<'_>, spot: &Spot) -> Option<Place>
+    ensures { result ≡ option_map (λ mark. place_in (text_of texts.now spot.now.file) mark.0) spot.now.cause.mark }
+{
+    match spot.cause.mark {
+        Some(mark) => Some(place_at(text_of(texts, spot.file), mark.0)),
+        None => None,
+    }
+}
+
 /// Where the line of a byte begins, and where it ends, without its line end.
 pub fn line_around(text: &[u8], at: usize) -> (usize, usize) {
     let at = at.min(text.len());
     let is_end = |byte: &u8| matches!(*byte, b'\n' | b'\r');
-    let start = match part(text, 0, at).iter().rposition(is_end) {
-        Some(last) => last.saturating_add(1),
-        None => mark_len(text),
-    };
-    match part(text, at, text.len()).iter().position(is_end) {
-        Some(len) => (start, at.saturating_add(len)),
-        None => (start, text.len()),
-    }
+    let before = part(text, 0, at).iter().rposition(is_end);
+    let behind = part(text, at, text.len()).iter().position(is_end);
+    let start = before.map_or(mark_len(text), |last| last.saturating_add(1));
+    let end = behind.map_or(text.len(), |len| at.saturating_add(len));
+    (start, end)
 }

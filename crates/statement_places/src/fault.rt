@@ -3,7 +3,7 @@
 use crate::routines::statements_of;
 use crate::sources::{Found, Source, routine_at, sources_of};
 use plant_folder::PlantTexts;
-use plant_places::shown_alone;
+use plant_places::shown;
 use st_lexer::Token;
 use std::alloc::{AllocError, Global};
 use token_causes::{FileOf, Spot, cause_at, sign_at, span_of, word_at};
@@ -114,7 +114,7 @@ pub fn told_of_fault(
     };
     let sources = sources_of(alloc, texts.sources)?;
     match spot_of_fault(alloc, sources.as_slice(), told)? {
-        Some(spot) => shown_alone(alloc, texts, &spot),
+        Some(spot) => shown(alloc, texts, &spot),
         None => Ok(String::new(alloc)),
     }
 }
