@@ -179,6 +179,7 @@ CASES += [
     ("a timer of a program that is put elsewhere in the text", timer("TON", TIMER), ON, (Files("PROGRAM z END_PROGRAM", *timer("TON", TIMER).sources, alarms=()).command(), NONE), ("scan 10", "OUT 10 q TRUE", "DONE 10 1")),
     ("a timer under another name begins anew", timer("TON", TIMER), ON, (timer("TON", TIMER.replace("t(", "u("), name="u").command(), NONE), ("scan 10", "DONE 10 0"), ("scan 20", "OUT 20 q TRUE", "DONE 20 1")),
     ("TOF in TON's place: its inputs stay, its calls are gone", timer("TON", TIMER), ON, (timer("TOF", "q := t.Q;").command(), NONE), ("scan 1", "DONE 1 0"), (timer("TOF", "t(Q => q);").command(), NONE), ("scan 2", "OUT 2 q TRUE", "DONE 2 1"), ("scan 3", "DONE 3 0")),
+    ("TON in TOF's place: what it showed is gone", timer("TOF", TIMER), ("scan 0 b=1", "OUT 0 q TRUE", "DONE 0 1"), (timer("TON", "q := t.Q;").command(), NONE), ("scan 1", "OUT 1 q FALSE", "DONE 1 1")),
     ("R_TRIG in TON's place: it has other inputs", timer("TON", TIMER), ON, (timer("R_TRIG", "t(Q => q);").command(), NONE), ("scan 1", "DONE 1 0")),
     ("an edge isn't seen twice", timer("R_TRIG", "t(CLK := b, Q => q);"), ("scan 0 b=1", "OUT 0 q TRUE", "DONE 0 1"), (timer("R_TRIG", "t(CLK := b, Q => q);").command(), NONE), ("scan 1", "OUT 1 q FALSE", "DONE 1 1"), ("scan 2 b=0", "DONE 2 0"), ("scan 3 b=1", "OUT 3 q TRUE", "DONE 3 1")),
     ("a block of one's own in TON's place has its inputs", timer("TON", TIMER), ON, (timer("H", "t(Q => q);", HOLD).command(), NONE), ("scan 1", "OUT 1 q TRUE", "DONE 1 1")),
