@@ -21,11 +21,12 @@ from test_core import give, served
 from alarmd_gateway import plant as plants
 from alarmd_gateway import show
 from alarmd_gateway.changes import ChangeKind
+from alarmd_gateway.commands import Reload
 from alarmd_gateway.config import Config
 from alarmd_gateway.core import Core
-from alarmd_gateway.link import NoReload
+from alarmd_gateway.link import NoReload, entry_of
 from alarmd_gateway.model import BadSample, GatewayFault, Order, Sample, ServerGone, Texts, Verb
-from alarmd_gateway.record import peek
+from alarmd_gateway.record import Entry, FileRecord, peek
 from alarmd_gateway.reports import report
 from alarmd_gateway.server import Server
 from alarmd_gateway.view import View
@@ -168,6 +169,24 @@ def test_the_record_is_played_with_its_reloads(
 
     run(work())
     assert "SERVER p.st isn't what is served" in capsys.readouterr().err
+
+
+def test_a_scan_right_behind_a_reload_names_what_is_new(config: Config) -> None:
+    first = plants.read(config.plant)
+    record = FileRecord(config.record, first)
+    texts = Small(variables=FIRST_WITH_B).texts(config.folder / "other")
+    entries = [Entry("scan 0 a=5"), entry_of(Reload(texts)), Entry("scan 1 b=TRUE A=2")]
+    asyncio.run(record.extend(entries))
+    record.close()
+
+    async def work() -> None:
+        core = await Core.start(config)
+        assert core.last is not None and core.last.answer[-1].startswith("DONE 1")
+        assert core.state.inputs == {"a": 2, "b": True} and core.state.events == 3
+        core.stop()
+        await core.run()
+
+    run(work())
 
 
 def test_without_the_first_plant_the_record_is_none(config: Config) -> None:
