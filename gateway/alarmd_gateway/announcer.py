@@ -2,8 +2,11 @@
 
 from __future__ import annotations
 
+from collections.abc import Mapping
+
 from .changes import Board, ChangeKind
 from .link import Link, tell
+from .model import Json
 from .questions import Answer, Question
 from .state import Happening, Restarted, Stopped
 from .troubles import Trouble, TroubleKind
@@ -48,9 +51,17 @@ class Announcer:
 
     def anew(self) -> None:
         """The state and the journal are others: displays begin with a new snapshot."""
+        self._begin(ChangeKind.ANEW, {})
+
+    def reloaded(self, answer: str) -> None:
+        """Another plant is served from now on: displays ask for it, and begin with a new snapshot."""
+        tell(f"another plant is served from now on: {answer}")
+        self._begin(ChangeKind.RELOADED, {"answer": answer})
+
+    def _begin(self, kind: ChangeKind, data: Mapping[str, Json]) -> None:
         self._rows = len(self._link.book.journal)
         self._stopped_programs()
-        self.board.put(ChangeKind.ANEW, self._moment, {})
+        self.board.put(kind, self._moment, data)
 
     def asked(self, question: Question, waits: bool, answer: Answer | None) -> None:
         """A question that waits, or its end, with the answer or without one where it was withdrawn."""

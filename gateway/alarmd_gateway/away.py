@@ -2,8 +2,8 @@
 
 from __future__ import annotations
 
-from .core import Job
-from .model import Reply, ServerGone
+from .jobs import Job, reply
+from .model import ServerGone
 
 UNKNOWN = "it isn't known whether the order was taken: the journal tells"
 
@@ -25,8 +25,8 @@ class Away:
     def answer(self, mark: str, answer: list[str]) -> None:
         """Whoever gave the order of this mark here has the server's answer. Orders of others are passed over."""
         job = self._jobs.pop(mark, None)
-        if job is not None and not job.reply.done():
-            job.reply.set_result(Reply(answer[0].partition(" ")[2], tuple(answer)))
+        if job is not None:
+            reply(job, answer)
 
     def fail_one(self, mark: str, words: str) -> None:
         """The order of this mark gets no reply."""

@@ -15,7 +15,7 @@ from . import plant as plants
 from .case_text import ANSWERS, CODES, RUNS, STOPPED, Case, Cases, Expected, Step, read_value
 from .commands import END_ANSWER, END_MARK, Scan, read, spelled
 from .config import WORDS_STATUS
-from .model import GatewayFault, Plant
+from .model import GatewayFault, Order, Plant
 from .programs import find_alarmd
 from .state import State
 from .words import Words, called
@@ -107,7 +107,7 @@ def take(state: State, command: str, answer: list[str]) -> None:
     found = read(state.plant, command)
     if isinstance(found, Scan):
         state.scan(found.moment, found.given, answer)
-    elif found is not None:
+    elif isinstance(found, Order):
         state.order(found, answer)
 
 

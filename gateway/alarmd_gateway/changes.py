@@ -25,6 +25,7 @@ class ChangeKind(enum.Enum):
     TROUBLE = "trouble"  # the fields of Trouble.json and `stands`, a truth
     QUESTION = "question"  # the fields of Question.json
     ANSWERED = "answered"  # `number`, `yes` (null: withdrawn), `user`, `console`
+    RELOADED = "reloaded"  # `answer`: another plant is served. Ask for it, and then take a snapshot
     ANEW = "anew"  # all is to be had anew: a new record has begun, or the server was started again. Take a snapshot
 
 

@@ -14,6 +14,7 @@ from pathlib import Path
 from . import config as configs
 from . import plant as plants
 from .config import WORDS_STATUS, Config
+from .kept import beginning
 from .log_view import newest_copy
 from .map_file import of_config
 from .model import GatewayFault, Plant
@@ -82,5 +83,7 @@ def judge_record(config: Config, plant: Plant) -> None:
         return  # it is begun by the first start
     except OSError as fault:
         raise GatewayFault(f"the record {path}: {fault.strerror}", WORDS_STATUS) from None
-    if size:
-        next(peek(path, plant), None)
+    if not size:
+        return
+    first = beginning(config.plant, path, config.record)
+    next(peek(path, plant if first == config.plant else plants.read(first)), None)

@@ -14,6 +14,7 @@ from .words import called
 COMMANDS = {  # the word, its module, what it does. A new command is one line
     "serve": ("serve", "CONFIG: serve a plant"),
     "check": ("check", "CONFIG: whether a plant can be served, without serving it"),
+    "reload": ("reload", "CONFIG [--reason TEXT]: the plant's files as they are now are served"),
     "state": ("show", "CONFIG: what stands, by the record"),
     "journal": ("show", "CONFIG [--from N] [--csv]: the journal, by the record"),
     "password": ("password", "a password as the file of users keeps it"),

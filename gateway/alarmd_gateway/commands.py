@@ -4,16 +4,25 @@ from __future__ import annotations
 
 import re
 from collections.abc import Mapping
-from dataclasses import dataclass
-from typing import Final
+from dataclasses import dataclass, field
+from typing import Final, TypeAlias
 
-from .model import BadSample, Kind, Order, Plant, Value, Variable, Verb
+from . import texts
+from .model import BadSample, Kind, Order, Plant, Texts, Value, Variable, Verb
 
 VERBS: Final = {verb.value: verb for verb in Verb}
 END_MARK: Final = "scan 4000000000001"
 """A command that is always answered `REFUSED E2` and is no event: it marks the end of the answer before it."""
 
 END_ANSWER: Final = "REFUSED E2"
+NO_COMMAND: Final = "REFUSED L1"
+"""The answer to a line that is no command. To a reload it means that the server has taken what stands behind its line as lines."""
+
+CUT: Final = "REFUSED L2"
+"""The answer to a reload whose texts end too early: the server reads no further."""
+
+NO_RELOAD: Final = "reload 0 0"
+"""A reload of a plant without a byte, which is refused whatever is served: `CONFIG C2`, or NO_COMMAND where there is no such command."""
 
 _NUMBER: Final = re.compile(r"-?[0-9]{1,19}", re.ASCII)
 _WORD: Final = re.compile(r"[!-~]{1,1000}")
@@ -43,6 +52,40 @@ class Scan:
         return f"scan {self.moment}{pairs}"
 
 
+@dataclass(frozen=True, slots=True)
+class Reload:
+    """The texts of a plant that is to be served from now on, and the plant itself where somebody has read it already."""
+
+    texts: Texts
+    plant: Plant | None = field(default=None, repr=False, compare=False)
+
+    def line(self) -> str:
+        """The reload's line, behind whose end the texts stand."""
+        return texts.line(self.texts)
+
+    def body(self) -> bytes:
+        """What stands there."""
+        return texts.body(self.texts)
+
+
+Command: TypeAlias = Scan | Order | Reload
+
+
+def with_body(line: str, body: bytes) -> bytes:
+    """A line and what stands right behind its end, as a server is asked it."""
+    return f"{line}\n".encode("utf-8", "surrogateescape") + body
+
+
+def wire(asked: str | bytes) -> tuple[bytes, bool]:
+    """What is written to a server for a command, and whether its answer shows its own end; else a mark does. Behind a reload, which
+    comes as bytes, the server is asked for its list too."""
+    if isinstance(asked, bytes):
+        return asked + f"\nlist\n{END_MARK}\n".encode(), False
+    alone = asked.startswith("scan ")
+    text = f"{asked}\n" if alone else f"{asked}\n{END_MARK}\n"
+    return text.encode("utf-8", "surrogateescape"), alone
+
+
 def spelled(value: Value) -> str:
     """A value as the server spells it."""
     if isinstance(value, bool):
@@ -60,6 +103,15 @@ def fit(plant: Plant, name: str, value: Value | str) -> tuple[Variable, Value]:
         wanted = _WANTED[variable.kind]
         raise BadSample(f"{variable.name} takes {wanted}, and {str(value)[:40]!r} isn't")
     return variable, found
+
+
+def fitted(plant: Plant, name: str, value: Value) -> tuple[str, Value] | None:
+    """The same by the input's name; None where it doesn't fit."""
+    try:
+        variable, found = fit(plant, name, value)
+    except BadSample:
+        return None
+    return variable.name, found
 
 
 def _value(kind: Kind, value: Value | str) -> Value | None:
@@ -81,8 +133,11 @@ def _value(kind: Kind, value: Value | str) -> Value | None:
     return bool(value) if kind is Kind.BOOL else value
 
 
-def read(plant: Plant, line: str) -> Scan | Order | None:
-    """The command of a record's line; None where the line is none, or one that the server refuses."""
+def read(plant: Plant, line: str, body: bytes = b"") -> Command | None:
+    """The command of a record's line, with what stands behind it; None where the line is none, or one that the server refuses."""
+    if body:
+        found = texts.of(line, body)
+        return None if found is None else Reload(found)
     words = line.split(" ")
     if "" in words or "\t" in line:  # it isn't as the gateway writes it
         words = _BLANKS.split(line.strip(" \t"))

@@ -6,7 +6,7 @@ import asyncio
 from collections.abc import AsyncIterator, Iterator
 
 from .changes import Change, ChangeKind, CutOff
-from .commands import spelled
+from .commands import Reload, spelled
 from .core import Core
 from .input import MOST
 from .model import BadSample, Order, Sample, ServerGone
@@ -115,7 +115,10 @@ class Console:
 
     def show_last(self, taken: Taken | None) -> None:
         """The answer to the record's last command, which nobody may have seen."""
-        for line in taken.answer if taken else ():
+        lines = taken.answer if taken else []
+        if taken is not None and isinstance(taken.command, Reload):
+            lines = lines[:1]  # behind it stands a list
+        for line in lines:
             if not line.startswith("DONE"):
                 self._output.put(line)
 

@@ -9,18 +9,17 @@ from __future__ import annotations
 import asyncio
 from collections import deque
 from collections.abc import Awaitable, Callable, Iterable
-from dataclasses import dataclass, field
-from typing import Protocol
 
 from . import commands, snapshots
 from .announcer import Announcer
 from .changes import Change, ChangeKind, CutOff, Subscription
 from .clock import Clock, clocks
-from .commands import Scan
+from .commands import Command, Reload, Scan
 from .config import Config
 from .first_moment import FirstMoment
+from .jobs import Disturbances, Job, fail, reply
 from .journal import Journal
-from .link import Link
+from .link import Link, NoReload, read_reload
 from .model import (
     MOST_EVENTS,
     Figure,
@@ -29,9 +28,10 @@ from .model import (
     Reply,
     Sample,
     ServerGone,
+    Texts,
     Value,
-    Variable,
 )
+from .player import RELOADED
 from .questions import Answer, Question, Questions
 from .renewal import Renewal
 from .samples import SampleQueue
@@ -51,29 +51,6 @@ __all__ = [
     "Snapshot",
     "Subscription",
 ]
-
-
-class Disturbances(Protocol):
-    """What a person may set in a simulation, beside the plant."""
-
-    def has(self, name: str) -> bool:
-        """Whether there is one of this name, in any letter case."""
-
-    def disturb(self, name: str, value: Value | str) -> None:
-        """Sets one. Raises BadSample."""
-
-    def values(self) -> list[tuple[Variable, Value]]:
-        """All of them, and what each is."""
-
-
-@dataclass
-class Job:
-    """An order that waits, and whoever waits for its reply."""
-
-    order: Order
-    user: str | None
-    reason: str | None
-    reply: asyncio.Future[Reply] = field(default_factory=asyncio.Future)
 
 
 class Core:
@@ -139,9 +116,23 @@ class Core:
         """Records an order with its user and reason, sends it, and gives the answer (OK, O1 to O5, or E6). Raises ServerGone,
         or ValueError where a word of the order can't stand in a line."""
         commands.check(order)
+        return await self._submit(order, user, reason)
+
+    async def reload(
+        self, texts: Texts, user: str | None = None, reason: str | None = None
+    ) -> Reply:
+        """Has a plant served from now on, and gives the answer, a line: `RELOADED ..`, `CONFIG ..` or `REFUSED E6` to `E8`. Raises
+        NoReload, ServerGone."""
+        try:
+            command = await read_reload(self.plant.path, texts)
+        except GatewayFault as fault:
+            raise NoReload(fault.words) from None
+        return await self._submit(command, user, reason)
+
+    async def _submit(self, command: Order | Reload, user: str | None, reason: str | None) -> Reply:
         if self._closing:
             raise ServerGone("the gateway ends", 1)
-        job = Job(order, user, reason)
+        job = Job(command, user, reason)
         self._jobs.append(job)
         self._wake.set()
         return await job.reply
@@ -204,7 +195,7 @@ class Core:
             self._closing = True
             self._taken.set()
             while self._jobs:
-                _fail(self._jobs.popleft(), ServerGone("the gateway ends", 1))
+                fail(self._jobs.popleft(), ServerGone("the gateway ends", 1))
             self._announcer.board.close()
             await self._link.close()
 
@@ -278,18 +269,27 @@ class Core:
 
     async def _order(self, job: Job) -> None:
         try:
-            answer, happened = await self._link.give(job.order, job.user, job.reason)
+            if isinstance(job.command, Reload):
+                await self._link.ready_for(job.command)
+            answer, happened = await self._link.give(job.command, job.user, job.reason)
+        except NoReload as refused:
+            fail(job, refused)
+            return
         except GatewayFault as fault:
-            _fail(job, ServerGone(fault.words, fault.status))
+            fail(job, ServerGone(fault.words, fault.status))
             raise
-        if not job.reply.done():  # whoever asked may have gone
-            job.reply.set_result(Reply(answer[0].partition(" ")[2], tuple(answer)))
+        reply(job, answer)
         self._announcer.happened(happened)
+        self._followed(job.command, answer)
         self._taken.set()
 
+    def _followed(self, command: Command, answer: list[str]) -> None:
+        """Goes on with the plant of a reload that was taken: what waits for a scan is judged anew, and displays begin anew."""
+        if not isinstance(command, Reload) or not answer[0].startswith(RELOADED):
+            return
+        self.plant = self._link.plant
+        self._queue = self._queue.refitted(self._fitted)
+        self._announcer.reloaded(answer[0])
 
-def _fail(job: Job, fault: ServerGone) -> None:
-    """The order gets no reply."""
-    if not job.reply.done():
-        job.reply.set_exception(fault)
-        job.reply.exception()  # whoever asked may have gone
+    def _fitted(self, name: str, value: Value) -> tuple[str, Value] | None:
+        return commands.fitted(self.plant, name, value)

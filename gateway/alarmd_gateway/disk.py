@@ -8,8 +8,8 @@ from pathlib import Path
 from typing import IO, Final
 
 from .model import GatewayFault
+from .texts import walk
 
-_TAIL: Final = 65_536  # bytes that are read at once to find the last line
 BY: Final = "# by "
 
 
@@ -30,11 +30,11 @@ def locked(path: Path) -> IO[bytes]:
         file.close()  # a new record has taken the name meanwhile
 
 
-def write(file: IO[bytes], text: str) -> None:
+def write(file: IO[bytes], data: bytes) -> None:
     """All of it, on the disk."""
-    data = text.encode("utf-8", "surrogateescape")
-    while data:
-        data = data[file.write(data) :]
+    left = memoryview(data)
+    while left:
+        left = left[file.write(left) :]
     os.fsync(file.fileno())
 
 
@@ -47,18 +47,17 @@ def sync_folder(path: Path) -> None:
         os.close(folder)
 
 
-def cut(file: IO[bytes]) -> None:
-    """Cuts off a last line without its end, which was never sent, and a remark whose order was never written."""
+def cut(path: Path, file: IO[bytes]) -> None:
+    """Cuts off a last line without its end, or without all of the texts that it tells of, which was never sent; and a remark whose
+    order was never written. Where a line ends can't be told from the end alone: the record is gone through from its beginning.
+    """
     size = file.seek(0, os.SEEK_END)
-    end, tail = size, b""
-    while end > 0 and tail.count(b"\n") < 2:
-        begin = max(0, end - _TAIL)
-        file.seek(begin)
-        tail = file.read(end - begin) + tail
-        end = begin
-    whole = tail[: tail.rfind(b"\n") + 1]
-    last = whole[whole[:-1].rfind(b"\n") + 1 :]
-    keep = end + len(whole) - (len(last) if last.startswith(BY.encode()) else 0)
+    whole = keep = 0
+    with open(path, "rb", buffering=1 << 20) as reading:
+        for head, texts in walk(reading):
+            whole += len(head) + 1 + len(texts)
+            if not head.startswith(BY.encode()):
+                keep = whole
     if keep < size:
         file.truncate(keep)
         os.fsync(file.fileno())

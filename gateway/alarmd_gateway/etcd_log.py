@@ -1,7 +1,8 @@
 """The record in etcd: a log that several gateways follow, and to which the one that leads appends.
 
 Keys, below `/alarmd/NAME/`: `last` has the number of the record and of its last entry; `entry/RECORD/NUMBER` each entry; `files` the
-sums of the plant's files, `program` that of alarmd; `leader` who leads; `request/MARK` an order that a gateway hands on to the leader; `old/RECORD` how many entries
+sums of the files of the plant with which the record begins, `program` that of alarmd; `leader` who leads; `request/MARK` an order that a gateway hands on to the leader;
+`texts/RECORD/MARK/PART` and `asked/MARK/PART` the texts of reloads, and of those that are handed on; `old/RECORD` how many entries
 a record has that doesn't go on, and how many of them are gone; `new` who writes a new one. Each gateway has a copy of the log on its own disk, `RECORD.1` and so on, which it plays to its server."""
 
 from __future__ import annotations
@@ -12,16 +13,16 @@ from collections.abc import Iterator, Sequence
 from pathlib import Path
 
 from . import etcd
-from .etcd import TXN, Body, Etcd, EtcdRefused, Kept, NoEtcd
+from .etcd import TXN, Body, Etcd, EtcdRefused, NoEtcd
 from .identity import Identity
 from .leader import Leader, leader_of
+from .log_entries import PAGE, Entries
 from .log_view import Keys, Last, Marked, View, copy_path, last_by, last_of, marked, value_of
 from .model import GatewayFault, Plant
 from .new_record import NewRecord
 from .record import Entry, FileRecord
 from .transactions import Deposed, NoCopy, Transactions
 
-PAGE = 500  # entries that are read at once
 TIDY = 60.0  # seconds between two looks for records that are too old
 
 
@@ -32,6 +33,7 @@ class EtcdLog:
         """`open` makes one that is ready. `program` is the server's. Raises GatewayFault."""
         self.keys = keys
         self.asks = Transactions(client)
+        self.entries = Entries(self.asks, keys)
         self.leads_since: int | None = None  # the revision at which this gateway began to lead
         self.uncopied = ""  # why the copy can't be written; empty where it can
         self._path = record
@@ -75,9 +77,9 @@ class EtcdLog:
         copy = self._opened(path, last.log)
         try:
             count, line = last_of(path)
-            await self._compare(path, last.record, count, line)
+            await self.entries.compare(path, last.record, count, line)
             while count < last.entries:
-                fresh = await self._read(last.record, count)
+                fresh = await self.entries.read(last.record, count)
                 if not fresh:
                     raise NoEtcd("the log has gone on to a newer record")
                 await self._extend(copy, [one.entry for one in fresh])
@@ -109,37 +111,19 @@ class EtcdLog:
             raise NoCopy(fault.words, 1) from None
         self.uncopied = ""
 
-    async def _compare(self, path: Path, record: int, count: int, line: str) -> None:
-        """Raises GatewayFault where the last line of the copy isn't in the log."""
-        if count == 0:
-            return
-        answer = await self.asks.ask([], [etcd.get(self.keys.entry(record, count))])
-        kept = etcd.found(answer, 0)
-        if not kept or kept[0].value["line"] != line:
-            raise GatewayFault(f"{path} has what isn't in the log: keep it elsewhere", 2)
-
-    async def _read(self, record: int, count: int) -> tuple[Marked, ...]:
-        """The entries of a record after so many, at most a page."""
-        answer = await self.asks.ask([], [self._after(record, count)])
-        return self._next(record, count, etcd.found(answer, 0))
-
-    def _next(self, record: int, count: int, found: Sequence[Kept]) -> tuple[Marked, ...]:
-        """Those that come next after so many. An old record may have lost its beginning: then it is none."""
-        wanted = enumerate(found, count + 1)
-        return tuple(
-            marked(kept) for number, kept in wanted if kept.key == self.keys.entry(record, number)
-        )
-
-    def _after(self, record: int, count: int) -> Body:
-        """Reads a page. Its end is named: with a limit alone etcd looks at all entries that are there."""
-        begin, end = (self.keys.entry(record, count + 1 + more) for more in (0, PAGE))
-        return etcd.get(begin, end, PAGE)
+    async def go_over(self, last: Last, plant: Plant) -> None:
+        """The same, to a new record, which begins with this plant. Raises GatewayFault where it begins with another one."""
+        answer = await self.asks.ask([], [etcd.get(self.keys.files)])
+        self._own.files_of(plant)
+        self._own.judge_files(etcd.found(answer, 0)[0])
+        self._plant = plant
+        await self.begin(last)
 
     async def look(self) -> View:
         """The log at this moment. Raises NoEtcd where no majority answers, GatewayFault where the log is gone, or goes on with
         another program."""
         requests = etcd.get(self.keys.requests, etcd.after(self.keys.requests), PAGE)
-        fresh = self._after(self._known.record, self._known.entries)
+        fresh = self.entries.after(self._known.record, self._known.entries)
         reads = [etcd.get(self.keys.last), etcd.get(self.keys.leader), requests, fresh]
         reads.append(etcd.get(self.keys.program))
         answer = await self.asks.ask([], reads)
@@ -152,7 +136,7 @@ class EtcdLog:
             last_by(last[0]),
             leader_of(etcd.found(answer, 1)),
             tuple(marked(kept) for kept in waiting),
-            self._next(self._known.record, self._known.entries, etcd.found(answer, 3)),
+            self.entries.next(self._known.record, self._known.entries, etcd.found(answer, 3)),
         )
 
     async def hear(self) -> None:
@@ -205,10 +189,13 @@ class EtcdLog:
             etcd.modified(self.keys.last, known.revision),
             self._own.holds(),
         ]
-        success = [etcd.put(key, value_of(entry, mark)), etcd.put(self.keys.last, fields)]
+        parts = await self._texts(mark, entry, compare[:1])
+        success = [etcd.put(key, value_of(entry, mark, parts)), etcd.put(self.keys.last, fields)]
         if request:
+            asked = self.keys.asked(mark)
             compare.append(etcd.present(self.keys.requests + mark))
-            success.append(etcd.delete(self.keys.requests + mark))
+            success += [etcd.delete(self.keys.requests + mark)]
+            success += [etcd.delete(asked, etcd.after(asked))] if entry.body else []
         answer = await self._persist(mark, compare, success, key)
         revision = etcd.revision(answer)
         if not etcd.held(answer):  # an earlier try may have been carried out without an answer
@@ -223,6 +210,14 @@ class EtcdLog:
             raise Deposed(mark, False) from None
         self._known = Last(known.record, known.log, known.entries + 1, revision)
 
+    async def _texts(self, mark: str, entry: Entry, holds: Sequence[Body]) -> int:
+        """Writes the texts of an entry before the entry itself, and says in how many parts. Raises Deposed."""
+        try:
+            return await self.entries.write(self._known.record, mark, entry, holds)
+        except (Deposed, NoEtcd, EtcdRefused):
+            self.follow()
+            raise Deposed(mark, True) from None
+
     async def _persist(
         self, mark: str, compare: Sequence[Body], success: Sequence[Body], key: str
     ) -> Body:
@@ -236,7 +231,8 @@ class EtcdLog:
     async def request(self, mark: str, entry: Entry, lease: str) -> None:
         """Hands an order on to the leader; it is withdrawn where the lease ends. Raises NoEtcd where it isn't known whether it is
         handed on, EtcdRefused where it isn't."""
-        value = etcd.put(self.keys.requests + mark, value_of(entry, mark), lease)
+        parts = await self.entries.write_asked(mark, entry, lease)
+        value = etcd.put(self.keys.requests + mark, value_of(entry, mark, parts), lease)
         words = etcd.transaction([], [value])
         await self.asks.etcd.post(TXN, words, once=True)  # never twice
 
@@ -244,7 +240,12 @@ class EtcdLog:
         """Takes a request away that is no order. Raises NoEtcd."""
         await self.asks.ask([], [etcd.delete(self.keys.requests + mark)])
 
-    async def succeed(self, entries: Sequence[Entry]) -> str:
+    def moved(self, plant: Plant) -> None:
+        """See Log."""
+        self._plant = plant
+        self.copy.moved(plant)
+
+    async def succeed(self, entries: Sequence[Entry], plant: Plant | None = None) -> str:
         """See Log. The new record is written beside the old one, and one transaction goes over to it. The old one stays in etcd
         until there is another, and on the disk of each gateway that had it. Raises Deposed where this gateway leads no more, or
         can't write the copy: which record goes on is found by following the log."""
@@ -263,6 +264,9 @@ class EtcdLog:
         fields = {"record": number, "log": log, "entries": len(entries)}
         compare = [*fresh.holds, etcd.modified(self.keys.last, known.revision)]
         over = [etcd.put(self.keys.last, fields), fresh.left(known.record, known.entries, 0)]
+        if plant is not None and plant is not self._plant:
+            over.append(self._own.files_of(plant))
+            self._plant = plant
         answer = await self._persist("", compare, over, self.keys.last)
         kept = etcd.found(answer, 0) if not etcd.held(answer) else []
         if not etcd.held(answer) and (not kept or kept[0].value != fields):

@@ -30,7 +30,9 @@ class Field:
     def __init__(self, core: Core, map: Map) -> None:
         self._core = core
         self._intake = Intake(core, Ages(dict(map.limits), time.monotonic()))
-        core.sampled = self._intake.sampled
+        self._spelled = {name.lower(): name for name, _ in map.limits}
+        self._outputs = {one.name.lower(): one for one in map.outputs()}
+        core.sampled = self._sampled
         self._sources = sources(map, self._intake, core)
         running = [source.run(self._current) for source in self._sources]
         watches = [self._watch_outputs(), self._watch_samples()]
@@ -49,7 +51,19 @@ class Field:
         """The outputs that a source writes once it is reached: none where another gateway leads."""
         if not self._core.leads:
             return {}
-        return dict(self._core.state.outputs)
+        pairs = (self._mapped(*pair) for pair in self._core.state.outputs.items())
+        return dict(pair for pair in pairs if pair is not None)
+
+    def _mapped(self, name: str, value: Value) -> tuple[str, Value] | None:
+        """An output as the map names it; None where the map has none of it, or of another kind: the plant may be another one by now."""
+        mapped, now = self._outputs.get(name.lower()), self._core.plant.outputs.get(name.lower())
+        if mapped is None or now is None or mapped.kind is not now.kind:
+            return None
+        return mapped.name, value
+
+    def _sampled(self, name: str) -> None:
+        """A sample of an input has come, whose name the map may spell otherwise."""
+        self._intake.sampled(self._spelled.get(name.lower(), name))
 
     async def _watch_outputs(self) -> None:
         """Hands each change of an output to the sources, in order."""
@@ -60,9 +74,10 @@ class Field:
             try:
                 async for change in changes:
                     if change.kind is ChangeKind.OUTPUT:
-                        name = str(change.data["name"])
-                        self._put(name, value_of(change.data["value"]))
-                    elif change.kind is ChangeKind.ANEW:
+                        name, value = str(change.data["name"]), value_of(change.data["value"])
+                        if (mapped := self._mapped(name, value)) is not None:
+                            self._put(*mapped)
+                    elif change.kind in (ChangeKind.ANEW, ChangeKind.RELOADED):
                         for name, value in self._current().items():
                             self._put(name, value)
                 return  # the core has closed

@@ -3,13 +3,21 @@
 from __future__ import annotations
 
 import hashlib
-from collections.abc import Sequence
+from collections.abc import Mapping, Sequence
 from pathlib import Path
 
 from .etcd import Body, Kept, put, valued
 from .log_view import Keys
 from .model import GatewayFault, Plant
 from .record import sums
+
+
+class OtherPlant(GatewayFault):
+    """The log is another plant's, whose files have the sums `known`."""
+
+    def __init__(self, words: str, known: Mapping[str, str]) -> None:
+        super().__init__(words, 2)
+        self.known = known
 
 
 class Identity:
@@ -34,13 +42,18 @@ class Identity:
         """Holds while the log goes on with this program."""
         return valued(self._keys.program, self._program)
 
+    def files_of(self, plant: Plant) -> Body:
+        """Writes that the log goes on with another plant, and is of that from then on."""
+        self._files = sums(plant)
+        return put(self._keys.files, self._files)
+
     def judge_files(self, kept: Kept) -> None:
-        """Raises GatewayFault (status 2) where the log is another plant's."""
+        """Raises OtherPlant where the log is another plant's."""
         own = self._files
         changed = [name for name in {**own, **kept.value} if own.get(name) != kept.value.get(name)]
         if changed:
             words = f"the log {self._keys.prefix} is of another plant: {changed[0]} differs"
-            raise GatewayFault(words, 2)
+            raise OtherPlant(words, kept.value)
 
     def judge_program(self, kept: Sequence[Kept]) -> None:
         """Raises GatewayFault (status 2) where the log goes on with another program."""

@@ -2,6 +2,7 @@
 
 from __future__ import annotations
 
+import bisect
 import csv
 import io
 from array import array
@@ -36,13 +37,16 @@ CSV_COLUMNS: Final = (
     "reply",
     "user",
     "reason",
+    "kept",
+    "new",
 )
 
 
 @dataclass(frozen=True)
 class Row:
-    """A row of the journal. `words` are those after the civil time: `ALARM TAG FROM TO`, `FAULT PATH STATEMENT KIND`, or
-    `ORDER CONSOLE COMMAND TARGET [MS] REPLY`. `user` and `reason` are an order's, as the record has them.
+    """A row of the journal. `words` are those after the civil time: `ALARM TAG FROM TO`, `FAULT PATH STATEMENT KIND`,
+    `ORDER CONSOLE COMMAND TARGET [MS] REPLY`, or `RELOAD KEPT N NEW N`. `user` and `reason` are an order's or a reload's, as the record
+    has them. `plant` is the one under which the row was added.
     """
 
     number: int
@@ -50,15 +54,17 @@ class Row:
     words: tuple[str, ...]
     user: str | None = None
     reason: str | None = None
+    plant: Plant | None = None
 
     def line(self, plant: Plant) -> str:
         """The row as the server writes it."""
         return f"{self.number} {civil(plant.time(self.moment))} {' '.join(self.words)}"
 
     def json(self, plant: Plant, places: statements.Statements | None = None) -> dict[str, Json]:
-        """`number`, `moment`, `time`, `kind` (`alarm`, `fault`, `order`) and, by the kind: `tag`, `from`, `to`, `area`,
+        """`number`, `moment`, `time`, `kind` (`alarm`, `fault`, `order`, `reload`) and, by the kind: `tag`, `from`, `to`, `area`,
         `priority`, `text`; `path`, `statement`, `fault`, `file`, `line` (the last two where `places` are given); `console`,
-        `command`, `target`, `milliseconds`, `reply`, `user`, `reason`."""
+        `command`, `target`, `milliseconds`, `reply`, `user`, `reason`; `kept`, `new`, `user`, `reason`.
+        """
         fields: dict[str, Json] = {
             "number": self.number,
             "moment": self.moment,
@@ -67,8 +73,14 @@ class Row:
         }
         if self.words[0] == "ALARM":
             return {**fields, **self._alarm(plant)}
+        if self.words[0] == "RELOAD":
+            return {**fields, **self._reload()}
         more = self._order() if self.words[0] == "ORDER" else self._fault(places)
         return {**fields, **more}
+
+    def _reload(self) -> dict[str, Json]:
+        _, _, kept, _, new = self.words
+        return {"kept": int(kept), "new": int(new), "user": self.user, "reason": self.reason}
 
     def _alarm(self, plant: Plant) -> dict[str, Json]:
         _, tag, before, after = self.words
@@ -103,16 +115,33 @@ class Row:
         }
 
 
+class Served:
+    """A plant that was served from a row on, with the places of its statements."""
+
+    def __init__(self, first: int, plant: Plant) -> None:
+        self.first = first
+        self.plant = plant
+        self._places: statements.Statements | None = None
+
+    def statements(self) -> statements.Statements:
+        """The places of its statements; none where its sources can't be read."""
+        if self._places is None:
+            try:
+                self._places = statements.read(self.plant)
+            except (OSError, BadSource):  # the sources aren't what they were
+                self._places = statements.Statements({})
+        return self._places
+
+
 class Journal:
     """All rows of the run, numbered from 1. A row takes some 40 bytes of memory."""
 
     def __init__(self, plant: Plant) -> None:
-        self._plant = plant
+        self._served = [Served(1, plant)]
         self._text = bytearray()  # the rows' words, one row after another
         self._ends = array("Q", [0])  # where each ends in it
         self._moments = array("q")
         self._by: dict[int, tuple[str | None, str | None]] = {}  # user and reason, by the row
-        self._places: statements.Statements | None = None
 
     def __len__(self) -> int:
         return len(self._moments)
@@ -123,7 +152,18 @@ class Journal:
             raise IndexError(number)
         text = self._text[self._ends[number - 1] : self._ends[number]].decode()
         user, reason = self._by.get(number, (None, None))
-        return Row(number, self._moments[number - 1], tuple(text.split(" ")), user, reason)
+        words, plant = tuple(text.split(" ")), self._at(number).plant
+        return Row(number, self._moments[number - 1], words, user, reason, plant)
+
+    @property
+    def _plant(self) -> Plant:
+        """The plant that is served now."""
+        return self._served[-1].plant
+
+    def _at(self, number: int) -> Served:
+        """The plant under which a row was added."""
+        place = bisect.bisect_right(self._served, number, key=lambda one: one.first) - 1
+        return self._served[max(place, 0)]
 
     def rows(self, first: int = 1, count: int | None = None) -> Iterator[Row]:
         """The rows from a number on, at most so many. Numbers outside are passed over."""
@@ -136,8 +176,9 @@ class Journal:
 
     def json(self, first: int = 1, count: int | None = None) -> Iterator[dict[str, Json]]:
         """The same as displays have them, with the places of faults in the sources."""
-        places = self._statements()
-        return (row.json(self._plant, places) for row in self.rows(first, count))
+        for row in self.rows(first, count):
+            served = self._at(row.number)
+            yield row.json(served.plant, served.statements() if row.words[0] == "FAULT" else None)
 
     def csv(self, first: int = 1, count: int | None = None) -> Iterator[str]:
         """A header, then the same rows as CSV, each with its line end. Texts that look like formulas are guarded."""
@@ -179,6 +220,19 @@ class Journal:
         for line in answer[1:]:
             self._changed(line)
 
+    def reload(
+        self, plant: Plant, moment: int, words: str, user: str | None, reason: str | None
+    ) -> None:
+        """Takes a reload, the moment of the last scan, and the words of its row. From this row on the plant is this one."""
+        self._served.append(Served(len(self) + 1, plant))
+        self._add(moment, words)
+        if user is not None or reason is not None:
+            self._by[len(self)] = user, reason
+
+    def plant_before(self, number: int) -> Plant:
+        """The plant that was served before the row of this number was added."""
+        return self._at(number - 1).plant
+
     def _declared(self, order: Order) -> str:
         program = self._plant.programs.get(order.target.lower())
         return program.name if order.verb.value == "restart" and program else order.target
@@ -192,11 +246,3 @@ class Journal:
         self._text += words.encode()
         self._ends.append(len(self._text))
         self._moments.append(moment)
-
-    def _statements(self) -> statements.Statements:
-        if self._places is None:
-            try:
-                self._places = statements.read(self._plant)
-            except (OSError, BadSource):  # the sources aren't what they were
-                self._places = statements.Statements({})
-        return self._places

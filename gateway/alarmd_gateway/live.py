@@ -91,7 +91,7 @@ class Live:
     async def _follow(
         self, socket: web.WebSocketResponse, session: Session, subscription: Subscription
     ) -> bool:
-        """One snapshot and the changes after it; says whether another snapshot is wanted."""
+        """One snapshot and the changes after it; says whether another snapshot is wanted. After a reload none is: the connection ends."""
         view = View(self._core.plant, session.consoles)
         whole = self._core.snapshot()
         await say(socket, {"type": "snapshot", "snapshot": view.snapshot(whole, normal=False)})
@@ -101,6 +101,8 @@ class Live:
                 changes = await feed.next(BEAT)
                 if changes is None:
                     return False
+                if any(change.kind is ChangeKind.RELOADED for change in changes):
+                    return False  # the page connects again, and asks for the plant before it does
                 if any(change.kind is ChangeKind.ANEW for change in changes):
                     return True
                 if changes:

@@ -9,14 +9,16 @@ from .disk import BY
 from .etcd import Body, Kept
 from .leader import Leader
 from .record import Entry
+from .texts import walk
 
 
 @dataclass(frozen=True)
 class Marked:
-    """An entry of the log, with the mark that its writer gave it."""
+    """An entry of the log, with the mark that its writer gave it, and the number of the parts of its texts."""
 
     entry: Entry
     mark: str
+    parts: int = 0
 
 
 @dataclass(frozen=True)
@@ -60,20 +62,30 @@ class Keys:
         """The key of an entry, counted from 1."""
         return f"{self.record(record)}{number:09}"
 
+    def texts(self, record: int, mark: str = "") -> str:
+        """What the keys of a record's texts begin with, those of the reload of this mark, or of all."""
+        return f"{self.prefix}texts/{record:06}/" + (f"{mark}/" if mark else "")
+
+    def asked(self, mark: str) -> str:
+        """What the keys of the texts of a request begin with."""
+        return f"{self.prefix}asked/{mark}/"
+
     def old(self, record: int) -> str:
         """The key of what is left of a record that doesn't go on."""
         return f"{self.olds}{record:06}"
 
 
-def value_of(entry: Entry, mark: str) -> Body:
-    """An entry as its key has it."""
-    return {"line": entry.line, "user": entry.user, "reason": entry.reason, "mark": mark}
+def value_of(entry: Entry, mark: str, parts: int = 0) -> Body:
+    """An entry as its key has it; of a reload with the number of the parts of its texts."""
+    value = {"line": entry.line, "user": entry.user, "reason": entry.reason, "mark": mark}
+    return {**value, "parts": parts} if parts else value
 
 
 def marked(kept: Kept) -> Marked:
     """An entry by its key."""
     value = kept.value
-    return Marked(Entry(value["line"], value["user"], value["reason"]), value["mark"])
+    entry = Entry(value["line"], value["user"], value["reason"])
+    return Marked(entry, value["mark"], value.get("parts", 0))
 
 
 def last_by(kept: Kept) -> Last:
@@ -98,7 +110,7 @@ def last_of(path: Path) -> tuple[int, str]:
     count, last = 0, b""
     with open(path, "rb", buffering=1 << 20) as file:
         file.readline()
-        for line in file:
-            if not line.startswith(BY.encode()):
-                count, last = count + 1, line
-    return count, last[:-1].decode("utf-8", "surrogateescape")
+        for head, _ in walk(file):
+            if head and not head.startswith(BY.encode()):
+                count, last = count + 1, head
+    return count, last.decode("utf-8", "surrogateescape")

@@ -2,8 +2,11 @@
 
 from __future__ import annotations
 
+from collections.abc import Iterator
+
 from .etcd_log import EtcdLog
 from .log_view import Last
+from .model import Figure
 from .troubles import TroubleKind, Troubles
 
 SILENT = 3.0  # seconds without an answer of etcd before that is a trouble
@@ -54,3 +57,17 @@ class LogWatch:
             self._troubles.raises(TroubleKind.LOG, subject, words)
         else:
             self._troubles.clear(TroubleKind.LOG, subject)
+
+
+def figures(known: Last, end: Last, leads: bool, leader: str, silent: float) -> Iterator[Figure]:
+    """Figures of a log for `/metrics`: what this gateway has of it, its end at the last look, and who leads."""
+    behind = end.entries - known.entries if end.log == known.log else end.entries
+    yield Figure("alarmd_log_leads", "1 where this gateway leads, else 0", leads)
+    words = "1 for the gateway that leads, by its name"
+    yield Figure("alarmd_log_leader", words, bool(leader), ("gateway", leader))
+    yield Figure("alarmd_log_record", "Number of the log's record", known.record)
+    yield Figure("alarmd_log_entries", "Entries that this gateway has", known.entries)
+    words = "Entries that it lacked at its last look at the log"
+    yield Figure("alarmd_log_behind", words, max(0, behind))
+    yield Figure("alarmd_log_revision", "Revision of the log's end in etcd", end.revision)
+    yield Figure("alarmd_log_silent_seconds", "Since the last answer of etcd", silent)

@@ -7,7 +7,7 @@ from __future__ import annotations
 
 import enum
 import struct
-from collections.abc import Sequence
+from collections.abc import Iterator, Sequence
 from dataclasses import dataclass
 from fractions import Fraction
 from pathlib import Path
@@ -191,3 +191,10 @@ class Map:
     mqtt: tuple[MqttSource, ...] = ()
     modbus: tuple[ModbusSource, ...] = ()
     limits: tuple[tuple[str, float], ...] = ()
+
+    def outputs(self) -> Iterator[Variable]:
+        """The outputs of all sources."""
+        for broker in self.mqtt:
+            yield from (topic.variable for topic in broker.outputs)
+        for device in self.modbus:
+            yield from (point.variable for point in device.outputs)

@@ -32,7 +32,8 @@ class Annunciations:
         for row in self._journal.rows(self._seen + 1):
             self._seen = row.number
             if row.words[0] == "ALARM" and row.words[3] == Code.UNACK.value:
-                self.by_priority[self._core.plant.by_tag[row.words[1]].priority] += 1
+                plant = row.plant or self._core.plant
+                self.by_priority[plant.by_tag[row.words[1]].priority] += 1
 
 
 class Gatherer(Collector):

@@ -7,7 +7,7 @@ from __future__ import annotations
 
 import enum
 from collections.abc import Mapping
-from dataclasses import dataclass
+from dataclasses import dataclass, field
 from datetime import datetime, timedelta
 from pathlib import Path
 from typing import Final, TypeAlias
@@ -112,6 +112,15 @@ class Program:
 
 
 @dataclass(frozen=True)
+class Texts:
+    """The bytes of a plant's files: the plant file, the alarm file, and the sources as the plant file lists them."""
+
+    plant: bytes
+    alarms: bytes
+    sources: tuple[bytes, ...]
+
+
+@dataclass(frozen=True)
 class Plant:
     """A plant by its files. Inputs, outputs and programs are found by their names in small letters."""
 
@@ -128,6 +137,7 @@ class Plant:
     outputs: Mapping[str, Variable]
     programs: Mapping[str, Program]
     by_tag: Mapping[str, AlarmRow]
+    texts: Texts | None = field(default=None, repr=False, compare=False)  # as they were read
 
     def time(self, moment: int) -> datetime:
         """The civil time (UTC) of a moment."""

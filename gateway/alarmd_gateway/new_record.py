@@ -72,5 +72,7 @@ class NewRecord:
         end = min(entries, gone + OLD)
         block = etcd.delete(self._keys.entry(old, gone + 1), self._keys.entry(old, end + 1))
         note = self.left(old, entries, end) if end < entries else etcd.delete(key)
-        await self._asks.ask([self._leads, etcd.modified(key, found[0].modified)], [block, note])
+        texts = self._keys.texts(old)
+        gone = [block, note] + ([] if end < entries else [etcd.delete(texts, etcd.after(texts))])
+        await self._asks.ask([self._leads, etcd.modified(key, found[0].modified)], gone)
         return True

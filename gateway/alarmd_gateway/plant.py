@@ -5,6 +5,7 @@ It takes a plant that `alarmd` accepts; another one is refused by `alarmd`, and 
 
 from __future__ import annotations
 
+import contextlib
 import csv
 import io
 import tomllib
@@ -14,7 +15,18 @@ from pathlib import Path
 from typing import Any, Final
 
 from .constants import value
-from .model import AlarmRow, ConsoleRow, GatewayFault, Kind, Plant, Program, Region, Value, Variable
+from .model import (
+    AlarmRow,
+    ConsoleRow,
+    GatewayFault,
+    Kind,
+    Plant,
+    Program,
+    Region,
+    Texts,
+    Value,
+    Variable,
+)
 from .tokens import BadSource, Token, cut
 
 REFUSED_STATUS: Final = 3
@@ -26,14 +38,36 @@ _REGIONS: Final = {"I": Region.INPUT, "Q": Region.OUTPUT, "M": Region.MEMORY}
 
 def read(path: Path) -> Plant:
     """The plant of a plant file. Raises GatewayFault (status 3) where a file can't be read, or isn't as `alarmd` wants it."""
+    return of_texts(path, texts_of(path))
+
+
+def texts_of(path: Path) -> Texts:
+    """The texts of all files of a plant, as they are now. Raises GatewayFault as `read` does."""
+    with _judged(path):
+        plant = path.read_bytes()
+        table, folder = _table(plant), path.parent
+        sources = tuple((folder / name).read_bytes() for name in table["sources"])
+        return Texts(plant, (folder / table["alarms"]).read_bytes(), sources)
+
+
+def of_texts(path: Path, texts: Texts) -> Plant:
+    """The plant of these texts, whose plant file is called so. Raises GatewayFault as `read` does."""
+    with _judged(path):
+        return _plant(path, texts)
+
+
+@contextlib.contextmanager
+def _judged(path: Path) -> Iterator[None]:
     try:
-        return _plant(path)
+        yield
     except OSError as fault:
         words = f"FILE {fault.filename or path}: {fault.strerror}"
     except tomllib.TOMLDecodeError as fault:
         words = f"{path} is no TOML 1.0: {fault}"
     except (BadSource, KeyError, ValueError, TypeError, AttributeError) as fault:
         words = f"the gateway can't read the plant {path}: {fault}"
+    else:
+        return
     raise GatewayFault(words, REFUSED_STATUS)
 
 
@@ -48,16 +82,27 @@ def source_file(plant: Plant, source: str) -> Path:
     return plant.path.parent / source
 
 
-def _plant(path: Path) -> Plant:
-    table = tomllib.loads(path.read_bytes().removeprefix(_BOM).decode())
-    folder, sources = path.parent, tuple(table["sources"])
+def source_text(plant: Plant, number: int) -> bytes:
+    """A source of a plant, counted from 0. Raises OSError where it can't be read."""
+    if plant.texts is not None:
+        return plant.texts.sources[number]
+    return source_file(plant, plant.sources[number]).read_bytes()
+
+
+def _table(plant: bytes) -> dict[str, Any]:
+    return tomllib.loads(plant.removeprefix(_BOM).decode())
+
+
+def _plant(path: Path, texts: Texts) -> Plant:
+    table = _table(texts.plant)
+    sources = tuple(table["sources"])
     variables: list[Variable] = []
     programs: list[Program] = []
-    for source in sources:
-        tokens = cut((folder / source).read_bytes())
+    for source, text in zip(sources, texts.sources, strict=True):
+        tokens = cut(text)
         variables += _globals(source, tokens)
         programs += _programs(source, tokens)
-    alarms = tuple(_alarms((folder / table["alarms"]).read_bytes()))
+    alarms = tuple(_alarms(texts.alarms))
     return Plant(
         path=path,
         name=table["name"],
@@ -72,6 +117,7 @@ def _plant(path: Path) -> Plant:
         outputs=_named(variables, Region.OUTPUT),
         programs={program.name.lower(): program for program in programs},
         by_tag={alarm.tag: alarm for alarm in alarms},
+        texts=texts,
     )
 
 

@@ -1,7 +1,8 @@
 """The record: each scan and each order, in order, on the disk before the server sees it.
 
-`Log` is what the core wants of a record; `FileRecord` keeps it in a file. A line of it is a scan, an order, or a remark. The first
-line is a remark with the sums of the plant's files; a remark before an order tells who gave it, and why.
+`Log` is what the core wants of a record; `FileRecord` keeps it in a file. A line of it is a scan, an order, a reload (whose texts stand
+behind its line) or a remark. The first line is a remark with the sums of the files of the plant with which the record begins; a remark
+before an order tells who gave it, and why.
 """
 
 from __future__ import annotations
@@ -15,11 +16,13 @@ from collections.abc import Iterator, Sequence
 from concurrent.futures import ThreadPoolExecutor
 from dataclasses import dataclass
 from pathlib import Path
-from typing import Final, Protocol
+from typing import BinaryIO, Final, Protocol
 
+from . import commands
 from .disk import BY, archive, cut, locked, sync_folder, write
 from .model import GatewayFault, Plant
 from .plant import files
+from .texts import walk
 
 _HEAD: Final = "# gateway record "
 _OLD_HEAD: Final = "# plant "
@@ -29,11 +32,22 @@ _NO_HELP: Final = (errno.ENOENT, errno.ENOTDIR, errno.EISDIR, errno.EACCES, errn
 
 @dataclass(frozen=True, slots=True)
 class Entry:
-    """A command of the record, with the user and the reason of an order, where they are known."""
+    """A command of the record, with the user and the reason of an order, where they are known. A reload has a body."""
 
     line: str
     user: str | None = None
     reason: str | None = None
+    body: bytes = b""
+
+    @property
+    def asked(self) -> str | bytes:
+        """The command as a server is asked it."""
+        return commands.with_body(self.line, self.body) if self.body else self.line
+
+    def recorded(self) -> bytes:
+        """The entry as a record has it: its remark, its line and its body, each with an end of line behind it."""
+        head = f"{_remark(self)}{self.line}\n".encode("utf-8", "surrogateescape")
+        return head + self.body + b"\n" if self.body else head
 
 
 class Unsure(GatewayFault):
@@ -52,9 +66,13 @@ class Log(Protocol):
     def check(self) -> None:
         """Raises GatewayFault (status 2) where the plant's files are no longer those that the record is of."""
 
-    async def succeed(self, entries: Sequence[Entry]) -> str:
-        """A new record takes the place of this one, at once and whole, with these commands in it. Gives the name under which
-        the old one is kept. Raises GatewayFault where the old one goes on, and Unsure where that isn't known.
+    def moved(self, plant: Plant) -> None:
+        """The files of the record's plant, the one with which it begins, lie elsewhere from now on."""
+
+    async def succeed(self, entries: Sequence[Entry], plant: Plant | None = None) -> str:
+        """A new record takes the place of this one, at once and whole, with these commands in it; it begins with this plant, or
+        with the same. Gives
+        the name under which the old one is kept. Raises GatewayFault where the old one goes on, and Unsure where that isn't known.
         """
 
     def close(self) -> None:
@@ -84,17 +102,16 @@ def _remark(entry: Entry) -> str:
     return f"{BY}{json.dumps(known)}\n" if known else ""
 
 
-def entries(lines: Iterator[bytes]) -> Iterator[Entry]:
-    """The commands of whole lines. Remarks are taken for the order behind them; other lines are passed over by the core."""
+def entries(file: BinaryIO) -> Iterator[Entry]:
+    """The commands of a record from where the file stands. Remarks are taken for the order behind them; other lines are passed over
+    by the core."""
     by: dict[str, str] = {}
-    for raw in lines:
-        if not raw.endswith(b"\n"):
-            return  # it was never sent
-        line = raw[:-1].decode("utf-8", "surrogateescape")
+    for head, body in walk(file):
+        line = head.decode("utf-8", "surrogateescape")
         if line.startswith(BY):
             by = _fields(line.removeprefix(BY))
         elif line and not line.startswith("#"):
-            yield Entry(line, by.get("user"), by.get("reason")) if by else Entry(line)
+            yield Entry(line, by.get("user"), by.get("reason"), body) if by or body else Entry(line)
             by = {}
 
 
@@ -104,6 +121,19 @@ def _fields(text: str) -> dict[str, str]:
     except ValueError:
         return {}
     return found if isinstance(found, dict) else {}
+
+
+def head_sums(path: Path) -> dict[str, str]:
+    """The sums that the first line of a record has; none where there is no record, or it can't be read."""
+    try:
+        with open(path, "rb") as file:
+            line = file.readline(1 << 20).decode("utf-8", "replace").rstrip("\n")
+    except OSError:
+        return {}
+    kept: object = (
+        _fields(line.removeprefix(_HEAD)).get("files") if line.startswith(_HEAD) else None
+    )
+    return kept if isinstance(kept, dict) else {}
 
 
 def judge_head(line: str, plant: Plant, path: Path) -> None:
@@ -155,7 +185,7 @@ class FileRecord:
             raise self._fault(fault, 2 if fault.errno in _NO_HELP else 1) from None
 
     def _begin(self) -> None:
-        cut(self._file)
+        cut(self.path, self._file)
         self._file.seek(0)
         first = self._file.readline().decode("utf-8", "replace").rstrip("\n")
         if first:
@@ -163,7 +193,7 @@ class FileRecord:
             if _fields(first.removeprefix(_HEAD)).get("log") != self._log:
                 raise GatewayFault(f"{self.path} is no copy of this log: keep it elsewhere", 2)
         else:
-            write(self._file, head(self._sums, log=self._log) + "\n")
+            write(self._file, f"{head(self._sums, log=self._log)}\n".encode())
             sync_folder(self.path)
 
     def _fault(self, fault: OSError, status: int = 1) -> GatewayFault:
@@ -172,7 +202,7 @@ class FileRecord:
     def replay(self) -> Iterator[Entry]:
         """All commands, in order, read as they are wanted."""
         with open(self.path, "rb", buffering=1 << 20) as file:
-            yield from entries(iter(file))
+            yield from entries(file)
 
     def check(self) -> None:
         """Compares the sums of the plant's files with those at the opening of the record."""
@@ -188,35 +218,42 @@ class FileRecord:
     async def extend(self, entries: Sequence[Entry]) -> None:
         """Appends all of them, and waits for the disk once. Raises GatewayFault (status 1); then none of them is in it, once
         something else is."""
-        text = "".join(f"{_remark(entry)}{entry.line}\n" for entry in entries)
+        text = b"".join(entry.recorded() for entry in entries)
         loop = asyncio.get_running_loop()
         try:
             await loop.run_in_executor(self._thread, self._extend, text)
         except OSError as fault:
             raise self._fault(fault) from None
 
-    def _extend(self, text: str) -> None:
+    def _extend(self, text: bytes) -> None:
         """What is left of a write that failed is cut off before."""
         if self._file.seek(0, os.SEEK_END) != self._size:
             self._file.truncate(self._size)
         write(self._file, text)
         self._size = self._file.seek(0, os.SEEK_END)
 
-    async def succeed(self, entries: Sequence[Entry]) -> str:
+    async def succeed(self, entries: Sequence[Entry], plant: Plant | None = None) -> str:
         """The old record is kept as `record.1` (the next number that is free), and a new one takes its name."""
-        loop = asyncio.get_running_loop()
+        loop, plant = asyncio.get_running_loop(), plant or self._plant
         try:
-            return await loop.run_in_executor(self._thread, self._succeed, entries)
+            kept, known = await loop.run_in_executor(self._thread, self._succeed, entries, plant)
         except OSError as fault:
             raise self._fault(fault) from None
+        self._plant, self._sums = plant, known
+        return kept
 
-    def _succeed(self, entries: Sequence[Entry]) -> str:
+    def moved(self, plant: Plant) -> None:
+        """See Log."""
+        self._plant = plant
+
+    def _succeed(self, entries: Sequence[Entry], plant: Plant) -> tuple[str, dict[str, str]]:
+        known = self._sums if plant is self._plant else sums(plant)
         kept, fresh = archive(self.path), self.path.with_name(f"{self.path.name}.new")
         fresh.unlink(missing_ok=True)
         file = locked(fresh)
         try:
-            commands = "".join(f"{_remark(entry)}{entry.line}\n" for entry in entries)
-            write(file, f"{head(self._sums, kept.name)}\n{commands}")
+            text = b"".join(entry.recorded() for entry in entries)
+            write(file, f"{head(known, kept.name)}\n".encode() + text)
             os.replace(fresh, self.path)  # at each moment there is one of the two, whole
         except BaseException:
             file.close()
@@ -229,7 +266,7 @@ class FileRecord:
             sync_folder(self.path)
         except OSError as fault:
             raise Unsure(f"the record {self.path}: {fault.strerror}", 1) from None
-        return kept.name
+        return kept.name, known
 
     def close(self) -> None:
         """Waits for what is being written, and gives the lock back."""
@@ -242,6 +279,6 @@ def peek(path: Path, plant: Plant) -> Iterator[Entry]:
     try:
         with open(path, "rb", buffering=1 << 20) as file:
             judge_head(file.readline().decode("utf-8", "replace").rstrip("\n"), plant, path)
-            yield from entries(iter(file))
+            yield from entries(file)
     except OSError as fault:
         raise GatewayFault(f"the record {path}: {fault.strerror}", 2) from None

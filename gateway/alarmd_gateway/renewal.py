@@ -52,7 +52,8 @@ class Renewal:
         """
         state, now = self._link.book.state, self._clock.now()
         try:
-            trial = await rotation.attempt(self._config, state, now, self._link.check)
+            plant = await self._link.next_plant()
+            trial = await rotation.attempt(self._config, plant, state, now, self._link.check)
         except GatewayFault as fault:
             self._failed(fault)
             return
@@ -62,7 +63,7 @@ class Renewal:
             return
         entries = [rotation.remark(answer), *trial.entries]
         try:
-            kept = await self._link.renew(trial.server, trial.book, entries)
+            kept = await self._link.renew(trial.server, trial.book, entries, plant)
         except GatewayFault as fault:
             await trial.server.kill()
             if isinstance(fault, Unsure):

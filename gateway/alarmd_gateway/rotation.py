@@ -59,13 +59,16 @@ def _carrying(plant: Plant, alarm: AlarmState, moment: int) -> Order | None:
     return None
 
 
-async def attempt(config: Config, state: State, moment: int, check: Callable[[], None]) -> Trial:
-    """Tries the new run on a server of its own, which the caller takes over or ends. Raises GatewayFault, also what `check`
-    raises once the server has read the plant."""
-    server = await start_server(config)
+async def attempt(
+    config: Config, plant: Plant, state: State, moment: int, check: Callable[[], None]
+) -> Trial:
+    """Tries the new run on a server of its own, which the caller takes over or ends; `plant` is the state's, with its files where a
+    server reads them. Raises GatewayFault, also what `check` raises once the server has read the plant.
+    """
+    server = await start_server(config, plant.path)
     try:
         check()
-        book, entries = Book(state.plant), []
+        book, entries = Book(plant), []
         for command, entry in carried(state, moment):
             answer = await server.ask(entry.line)
             book.take(Taken(command, answer, entry.user, entry.reason))

@@ -3,7 +3,7 @@
 from __future__ import annotations
 
 from collections import deque
-from collections.abc import Iterator, Mapping
+from collections.abc import Callable, Iterator, Mapping
 from dataclasses import dataclass
 
 from .model import Value
@@ -58,6 +58,18 @@ class SampleQueue:
     def full(self) -> bool:
         """Whether a value that wants a scan of its own has no room."""
         return len(self._scans) >= self._room
+
+    def refitted(self, fit: Callable[[str, Value], tuple[str, Value] | None]) -> SampleQueue:
+        """The same samples, as they fit another plant; those that don't are left out."""
+        new = SampleQueue(self._room)
+        for scan in self._scans:
+            pairs = [fit(name, value) for name, value in scan.items()]
+            values = dict(pair for pair in pairs if pair is not None)
+            if values:
+                new._scans.append(values)
+                new._last.update(values)
+                new._count += len(values)
+        return new
 
     def forget(self) -> None:
         """Lets the next sample of each input wait for a scan, whatever its value: for a server that begins anew."""

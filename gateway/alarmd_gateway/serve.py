@@ -19,6 +19,7 @@ from .input import lines
 from .link import tell, tell_of_libraries
 from .model import GatewayFault
 from .output import Output
+from .reloading import Reloading
 from .troubles import TroubleKind
 from .words import Words, called
 
@@ -95,6 +96,7 @@ class _Serving:
         self._config = config
         self._core = core
         self._console = Console(core, output)
+        self._reloading = Reloading(core, config)
         self._output = output
         self._parts: list[Part] = []
 
@@ -106,6 +108,7 @@ class _Serving:
         tasks: list[asyncio.Task[Any]] = [showing]
         try:
             await self._attach()
+            await self._reloading.start()
             self._ask()
             if self._reads_input():
                 tasks.append(asyncio.create_task(self._read(stop)))
@@ -114,6 +117,7 @@ class _Serving:
             await asyncio.wait({working, stopping}, return_when=asyncio.FIRST_COMPLETED)
         finally:
             self._core.stop()
+            await self._reloading.close()
             await asyncio.wait({working})
             for part in self._parts:
                 await part.close()

@@ -11,7 +11,7 @@ from collections.abc import Callable, Iterable
 from pathlib import Path
 from typing import Final, TypeVar
 
-from .commands import END_ANSWER, END_MARK
+from .commands import END_ANSWER, END_MARK, wire
 from .model import GatewayFault, ServerGone
 
 Payload = TypeVar("Payload")
@@ -73,11 +73,12 @@ class Server:
         """Whether the process is known to have ended."""
         return self._process.returncode is not None
 
-    async def ask(self, command: str) -> list[str]:
-        """Gives one command, and its whole answer as lines without their ends. Raises ServerGone."""
+    async def ask(self, command: str | bytes) -> list[str]:
+        """Gives one command, and its whole answer as lines without their ends. A reload comes as bytes, with its texts; behind its own
+        answer stands what `list` is answered then. Raises ServerGone."""
         self._left = _SLICES
-        alone = command.startswith("scan ")
-        await self._write(command + "\n" if alone else f"{command}\n{END_MARK}\n")
+        text, alone = wire(command)
+        await self._write(text)
         answer: list[str] = []
         while True:
             line = await self._line()
@@ -89,7 +90,7 @@ class Server:
 
     async def play(
         self,
-        commands: Iterable[tuple[str, Payload]],
+        commands: Iterable[tuple[str | bytes, Payload]],
         took: Callable[[Payload, list[str]], None],
     ) -> None:
         """Gives scans and orders one after another while the answers are read, some thousands ahead. `took` has each command's
@@ -132,31 +133,31 @@ class Server:
 
     async def _feed(
         self,
-        commands: Iterable[tuple[str, Payload]],
+        commands: Iterable[tuple[str | bytes, Payload]],
         away: deque[tuple[Payload, bool]],
         room: asyncio.Event,
     ) -> None:
-        block: list[str] = []
+        block: list[bytes] = []
         try:
             for command, payload in commands:
-                alone = command.startswith("scan ")
+                text, alone = wire(command)
                 away.append((payload, alone))
-                block.append(f"{command}\n" if alone else f"{command}\n{END_MARK}\n")
-                if len(block) == _BLOCK:
-                    await self._write("".join(block))
+                block.append(text)
+                if len(block) == _BLOCK or isinstance(command, bytes):
+                    await self._write(b"".join(block))
                     block.clear()
                     while len(away) > _AHEAD:
                         room.clear()
                         await room.wait()
         finally:
-            await self._write("".join(block))
+            await self._write(b"".join(block))
 
-    async def _write(self, text: str) -> None:
+    async def _write(self, text: bytes) -> None:
         """Writes while the answers may be read. An end of the process shows where they are read."""
         stdin = self._process.stdin
         assert stdin is not None
         try:
-            stdin.write(text.encode("utf-8", "surrogateescape"))
+            stdin.write(text)
             await stdin.drain()
         except (BrokenPipeError, ConnectionResetError):
             pass
@@ -190,7 +191,7 @@ class Server:
         raise ServerGone(f"alarmd gave no answer in {self._patience_ms / 1000:g} s", 1)
 
     async def _accepted(self) -> None:
-        await self._write(END_MARK + "\n")
+        await self._write(f"{END_MARK}\n".encode())
         line = ""
         try:
             line = await self._line()

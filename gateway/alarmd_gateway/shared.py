@@ -10,22 +10,31 @@ import asyncio
 import contextlib
 from collections.abc import Iterator
 
-from . import commands
+from . import commands, log_watch
 from .away import UNKNOWN
 from .changes import ChangeKind
-from .commands import Scan
+from .commands import Command, Reload, Scan
 from .config import Config
-from .core import Core, Job
+from .core import Core
 from .etcd import Etcd, EtcdRefused, NoEtcd
 from .etcd_http import HttpEtcd
 from .etcd_log import EtcdLog
-from .joining import joined
+from .jobs import Job
+from .joining import joined, played
 from .leader import Candidate
-from .link import Link, start_server, tell
+from .link import Link, prepared, tell
 from .log_view import Last, View
 from .log_watch import LogWatch
-from .model import MOST_EVENTS, Figure, Json, Order, Reply, Sample, ServerGone, Value
-from .player import play
+from .model import (
+    MOST_EVENTS,
+    Figure,
+    Json,
+    Order,
+    Reply,
+    Sample,
+    ServerGone,
+    Value,
+)
 from .samples import SampleQueue
 from .shared_config import SharedConfig, shared_config
 from .shared_orders import SharedOrders
@@ -36,6 +45,7 @@ from .troubles import TroubleKind
 
 LOOK = 0.1  # seconds between two looks at the log
 ORDER = 15.0  # seconds for which whoever gave an order is let wait
+RELOAD = 60.0  # the same of a plant: it is written in many parts, and read by all
 
 
 class SharedCore(Core):
@@ -96,15 +106,14 @@ class SharedCore(Core):
 
     # what others ask of the core
 
-    async def order(
-        self, order: Order, user: str | None = None, reason: str | None = None
-    ) -> Reply:
+    async def _submit(self, command: Order | Reload, user: str | None, reason: str | None) -> Reply:
         """See Core. ServerGone says whether the order may have been taken."""
-        asked = asyncio.ensure_future(super().order(order, user, reason))
-        done, _ = await asyncio.wait({asked}, timeout=ORDER)
+        asked = asyncio.ensure_future(super()._submit(command, user, reason))
+        patience = ORDER if isinstance(command, Order) else RELOAD
+        done, _ = await asyncio.wait({asked}, timeout=patience)
         if done:
             return asked.result()
-        waiting = next((job for job in self._jobs if job.order is order), None)
+        waiting = next((job for job in self._jobs if job.command is command), None)
         if waiting is not None:
             self._jobs.remove(waiting)
         asked.cancel()
@@ -134,18 +143,9 @@ class SharedCore(Core):
 
     def figures(self) -> Iterator[Figure]:
         """See Core."""
-        known, end = self._log.known, self._end or self._log.known
-        behind = end.entries - known.entries if end.log == known.log else end.entries
         silent = self._watching.silence(asyncio.get_running_loop().time())
-        yield Figure("alarmd_log_leads", "1 where this gateway leads, else 0", self.leads)
-        words = "1 for the gateway that leads, by its name"
-        yield Figure("alarmd_log_leader", words, bool(self._leader), ("gateway", self._leader))
-        yield Figure("alarmd_log_record", "Number of the log's record", known.record)
-        yield Figure("alarmd_log_entries", "Entries that this gateway has", known.entries)
-        words = "Entries that it lacked at its last look at the log"
-        yield Figure("alarmd_log_behind", words, max(0, behind))
-        yield Figure("alarmd_log_revision", "Revision of the log's end in etcd", end.revision)
-        yield Figure("alarmd_log_silent_seconds", "Since the last answer of etcd", silent)
+        end = self._end or self._log.known
+        return log_watch.figures(self._log.known, end, self.leads, self._leader, silent)
 
     # the work: one look at the log after another
 
@@ -254,11 +254,15 @@ class SharedCore(Core):
 
     async def _take(self, view: View) -> None:
         """Gives what is new in the log to the server, in order, or goes over to the new record once the old one is whole."""
-        for one in view.fresh:
+        for fresh in view.fresh:
+            one = await self._log.entries.whole(self._log.known.record, fresh)
+            entry = one.entry
+            found = commands.read(self.plant, entry.line, entry.body)
+            command = await prepared(self.plant.path, found)
+            if isinstance(command, Reload):
+                await self._link.keep_first_or_tell()
             await self._log.keep(one)
-            command = commands.read(self.plant, one.entry.line)
             if command is not None:
-                entry = one.entry
                 answer, happened = await self._link.take(command, entry.user, entry.reason)
                 self._tell(command, answer, happened)
                 self._orders.away.answer(one.mark, answer)
@@ -268,20 +272,23 @@ class SharedCore(Core):
             self._renewal.look_at_history()
 
     async def _go_over(self, view: View) -> None:
-        await self._log.begin(view.last)
-        server = await start_server(self.config)
-        try:
-            book, held = await play(server, self.plant, self._log.replay())
-            if held is not None:
-                book.take(held)
-        except BaseException:
-            await server.kill()
-            raise
-        await self._link.replace(server, book)
+        plant = await self._link.next_plant()
+        await self._log.go_over(view.last, plant)
+        server, book = await played(self.config, plant, self._log)
+        await self._link.replace(server, book, plant)
+        self.plant = self._link.plant
         self._renewal.look_at_history()
 
-    def _tell(self, command: Scan | Order, answer: list[str], happened: list[Happening]) -> None:
+    def _followed(self, command: Command, answer: list[str]) -> None:
+        """See Core. So are the samples that wait until this gateway leads."""
+        super()._followed(command, answer)
+        pairs = [self._fitted(name, value) for name, value in self._latest.items()]
+        self._latest = dict(pair for pair in pairs if pair is not None)
+
+    def _tell(self, command: Command, answer: list[str], happened: list[Happening]) -> None:
         self._announcer.happened(happened)
+        if isinstance(command, Reload):
+            self._followed(command, answer)
         if isinstance(command, Scan):
             self._announcer.scanned(answer[-1])
         self._taken.set()

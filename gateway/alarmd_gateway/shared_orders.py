@@ -3,24 +3,25 @@ the server behind his own gateway."""
 
 from __future__ import annotations
 
+import contextlib
 import uuid
 from collections import deque
 from collections.abc import Callable
 
 from . import commands
 from .away import Away
-from .commands import Scan
-from .core import Job
+from .commands import Command, Reload, Scan
+from .jobs import Job, fail
 from .etcd import EtcdRefused
 from .etcd_log import EtcdLog
-from .link import Link
+from .link import Link, NoReload, entry_of, prepared
 from .log_view import Marked
 from .model import GatewayFault, Order
 from .record import Entry
 from .state import Happening
 from .transactions import Deposed
 
-Tell = Callable[[Scan | Order, list[str], list[Happening]], None]
+Tell = Callable[[Command, list[str], list[Happening]], None]
 
 
 class SharedOrders:
@@ -36,8 +37,10 @@ class SharedOrders:
 
     async def append(self, job: Job) -> None:
         """An order that was given here, where this gateway leads. Raises Deposed."""
+        if not await self._ready(job):
+            return
         mark = uuid.uuid4().hex
-        entry = Entry(job.order.line(), job.user, job.reason)
+        entry = entry_of(job.command, job.user, job.reason)
         try:
             await self._log.append_as(mark, entry)
         except Deposed as deposed:
@@ -47,13 +50,30 @@ class SharedOrders:
                 self.away.add(mark, job)
             raise
         self.away.add(mark, job)
-        await self._appended(mark, job.order, entry)
+        await self._appended(mark, job.command, entry)
+
+    async def _ready(self, job: Job) -> bool:
+        """Whether a job may be put into the log. A reload that may not be is told of to whoever asked."""
+        if not isinstance(job.command, Reload):
+            return True
+        try:
+            await self._link.ready_for(job.command)
+        except NoReload as refused:
+            fail(job, refused)
+            return False
+        return True
 
     async def append_request(self, request: Marked) -> bool:
         """An order that another gateway has handed on. Says whether this one may go on: else it was withdrawn, or another gateway
         leads. Raises Deposed where it isn't known whether it is in the log."""
-        order = commands.read(self._link.plant, request.entry.line)
-        if not isinstance(order, Order):
+        request = await self._log.entries.asked(request)
+        plant = self._link.plant
+        found = commands.read(plant, request.entry.line, request.entry.body)
+        order = await prepared(plant.path, found)
+        if isinstance(order, Reload):
+            with contextlib.suppress(NoReload):
+                await self._link.ready_for(order)
+        if order is None or isinstance(order, Scan):
             await self._log.drop(request.mark)
             return True
         try:
@@ -65,7 +85,7 @@ class SharedOrders:
         await self._appended(request.mark, order, request.entry)
         return True
 
-    async def _appended(self, mark: str, order: Order, entry: Entry) -> None:
+    async def _appended(self, mark: str, order: Order | Reload, entry: Entry) -> None:
         try:
             answer, happened = await self._link.take(order, entry.user, entry.reason)
         except GatewayFault as fault:
@@ -80,8 +100,10 @@ class SharedOrders:
             job, mark = self._jobs.popleft(), uuid.uuid4().hex
             if job.reply.done():
                 continue
+            if not await self._ready(job):
+                continue
             self.away.add(mark, job)
-            entry = Entry(job.order.line(), job.user, job.reason)
+            entry = entry_of(job.command, job.user, job.reason)
             try:
                 await self._log.request(mark, entry, lease)
             except EtcdRefused:

@@ -11,6 +11,7 @@ from collections.abc import Iterator
 from pathlib import Path
 
 from . import config as configs
+from . import kept
 from . import plant as plants
 from .commands import spelled
 from .config import Config
@@ -35,11 +36,12 @@ def main(words: list[str]) -> int:
         parser.add_argument("--count", type=int, help="how many rows")
     given = parser.parse_args(words[1:])
     config = configs.read(given.config)
+    beside = config.record
     if given.record is not None:
         config = dataclasses.replace(config, record=given.record)
     elif "etcd" in config.tables:
         config = dataclasses.replace(config, record=newest_copy(config.record))
-    book = asyncio.run(played(config))
+    book = asyncio.run(played(config, beside))
     if words[0] == "state":
         lines = iter([json.dumps(book.state.json())]) if given.json else told(book.state)
     elif given.json:
@@ -53,11 +55,12 @@ def main(words: list[str]) -> int:
     return 0
 
 
-async def played(config: Config) -> Book:
-    """The state and the journal of a record. Raises GatewayFault."""
-    server = await start_server(config)
+async def played(config: Config, beside: Path) -> Book:
+    """The state and the journal of a record; the plant with which it begins may be kept beside the configured one. Raises GatewayFault."""
+    first = kept.beginning(config.plant, config.record, beside)
+    server = await start_server(config, first)
     try:
-        plant = plants.read(config.plant)
+        plant = plants.read(first)
         book, last = await play(server, plant, peek(config.record, plant))
         if last is not None:
             book.take(last)

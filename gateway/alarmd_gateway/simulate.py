@@ -98,8 +98,7 @@ class Simulation:
     def __init__(self, core: Core, config: Config, model: Plant) -> None:
         self._core = core
         self._model = Model(model, config)
-        self._outputs = shared(model.inputs, core.plant.outputs)
-        self._inputs = shared(core.plant.inputs, model.outputs)
+        self._share(core.plant)
         taken = {*self._outputs, ELAPSED}
         self.disturbances = {name: one for name, one in model.inputs.items() if name not in taken}
         self._backoff = Backoff(Retry(0.5, 30.0))
@@ -150,10 +149,20 @@ class Simulation:
         else:
             troubles.clear(TroubleKind.SOURCE, SOURCE)
 
+    def _share(self, plant: Plant) -> None:
+        """What bears one name in this plant and in the model. Raises GatewayFault (status 2) where it is of two kinds."""
+        model = self._model.plant
+        outputs, inputs = shared(model.inputs, plant.outputs), shared(plant.inputs, model.outputs)
+        self._plant, self._outputs, self._inputs = plant, outputs, inputs
+
     async def _step(self, moment: int) -> None:
         plant = self._core.plant
+        if plant is not self._plant:
+            self._share(plant)
         for name, mine in self._outputs.items():
-            self._model.given[mine.name] = self._core.state.outputs[plant.outputs[name].name]
+            known = self._core.state.outputs.get(plant.outputs[name].name)
+            if known is not None:
+                self._model.given[mine.name] = known
         outputs = await self._model.step(moment)
         for name in self._inputs if self._core.has_room else ():
             value = outputs[self._model.plant.outputs[name].name]

@@ -138,7 +138,7 @@ class State:
         self.scanned = True
         happened: list[Happening] = []
         for name, value in given.items():
-            if self.inputs[name] != value:
+            if self.inputs.get(name) != value:
                 self.inputs[name] = value
                 happened.append(ValueMoved(self.plant.inputs[name.lower()], value))
         if len(answer) > 1:
@@ -205,6 +205,38 @@ class State:
         if alarm.code in _ASIDE:
             alarm.user, alarm.reason = user, reason
         return [moved]
+
+    def reloaded(self, plant: Plant, listing: Sequence[str]) -> State:
+        """The state after a reload of this plant, with what the server has answered to `list` then. What is told of an alarm stays where
+        its tag and its latch are the same; the server tells the codes. An input or an output keeps its value where its name, in any
+        letter case, and its kind are the same. Of one that was neither before, nothing is known until it is told: it may be that the
+        logic had it under this name already."""
+        new = State(plant)
+        new.events, new.moment, new.scanned = self.events + 1, self.moment, self.scanned
+        codes = {
+            words[1]: _CODES[words[2]] for words in map(str.split, listing) if words[0] == "STATE"
+        }
+        for alarm in new.alarms:
+            old = self.by_tag.get(alarm.row.tag)
+            if old is not None and old.row.latch == alarm.row.latch:
+                alarm.since, alarm.shelved_until = old.since, old.shelved_until
+                alarm.user, alarm.reason = old.user, old.reason
+            alarm.code = codes.get(alarm.row.tag, Code.NORM)
+        new._keep_values(self)
+        return new
+
+    def _keep_values(self, old: State) -> None:
+        known = {name.lower(): value for name, value in (*old.inputs.items(), *old.outputs.items())}
+        kinds = {one.name.lower(): one.kind for one in old.plant.variables}
+        sides = ((self.plant.inputs, self.inputs), (self.plant.outputs, self.outputs))
+        for variables, values in sides:
+            for key, variable in variables.items():
+                if kinds.get(key) is not variable.kind:
+                    continue  # it has its initial value
+                if key in known:
+                    values[variable.name] = known[key]
+                else:
+                    del values[variable.name]
 
     def listing(self) -> list[str]:
         """The lines that the server would answer to `list`."""

@@ -7,7 +7,7 @@ from dataclasses import dataclass, field
 from typing import Final
 
 from .model import Plant
-from .plant import source_file
+from .plant import source_text
 from .tokens import BadSource, Token, cut
 
 _SECTIONS: Final = ("VAR", "VAR_INPUT", "VAR_OUTPUT", "VAR_EXTERNAL")
@@ -53,8 +53,8 @@ class Statements:
 def read(plant: Plant) -> Statements:
     """The statements by the plant's sources. Raises OSError where one can't be read, BadSource where it isn't accepted."""
     units: dict[str, Unit] = {}
-    for source in plant.sources:
-        tokens = cut(source_file(plant, source).read_bytes())
+    for number, source in enumerate(plant.sources):
+        tokens = cut(source_text(plant, number))
         try:
             units.update(_Reader(source, tokens).units())
         except IndexError:

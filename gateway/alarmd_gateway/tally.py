@@ -4,9 +4,10 @@ from __future__ import annotations
 
 from collections.abc import Collection, Iterable, Iterator
 from dataclasses import dataclass
+from typing import TypeAlias
 
 from .journal import Row
-from .model import AlarmRow, Code
+from .model import AlarmRow, Code, Plant
 
 STANDING = frozenset({Code.UNACK, Code.ACKED, Code.RTNUN, Code.LATUN, Code.LATAK})
 WAITING = frozenset({Code.UNACK, Code.RTNUN, Code.LATUN})
@@ -33,9 +34,31 @@ class Shelving:
     milliseconds: int
 
 
-def events(rows: Iterable[Row]) -> Iterator[Change | Shelving]:
-    """What the figures want of a journal's rows: the changes, and the shelvings that were answered OK."""
+@dataclass(frozen=True)
+class Anew:
+    """A row of the journal: another plant was taken up, under which these alarms aren't what they were: they are gone, or began as
+    NORM, without a row of their own."""
+
+    moment: int
+    tags: frozenset[str]
+
+
+Event: TypeAlias = Change | Shelving | Anew
+
+
+def anew(old: Plant, new: Plant) -> frozenset[str]:
+    """The tags of a plant whose alarms don't go on under the next one: there they are gone, or latch otherwise."""
+    kept = ((tag, row, new.by_tag.get(tag)) for tag, row in old.by_tag.items())
+    return frozenset(tag for tag, was, now in kept if now is None or now.latch != was.latch)
+
+
+def events(rows: Iterable[Row]) -> Iterator[Event]:
+    """What the figures want of a journal's rows: the changes, the shelvings that were answered OK, and what a reload has ended."""
+    before: Plant | None = None
     for row in rows:
+        if row.words[0] == "RELOAD" and before is not None and row.plant is not None:
+            yield Anew(row.moment, anew(before, row.plant))
+        before = row.plant
         match row.words:
             case ("ALARM", tag, was, now):
                 yield Change(row.moment, tag, Code(was), Code(now))
@@ -59,8 +82,11 @@ class Tally:
         self.aside = 0
         self.shelvings: dict[str, Shelving] = {}
 
-    def take(self, row: Change | Shelving) -> None:
+    def take(self, row: Event) -> None:
         """Takes the next row; one of another alarm, or after the end, is passed over."""
+        if isinstance(row, Anew):
+            self._begin_anew(row)
+            return
         if row.tag not in self._tags or row.moment >= self.end:
             return
         if isinstance(row, Shelving):
@@ -74,6 +100,14 @@ class Tally:
         else:
             self.standing.pop(row.tag, None)
         self._wait(row)
+
+    def _begin_anew(self, row: Anew) -> None:
+        for tag in row.tags if row.moment < self.end else ():
+            self.standing.pop(tag, None)
+            self.waiting.pop(tag, None)
+            self.shelvings.pop(tag, None)
+            if tag in self.codes:
+                self.codes[tag] = Code.NORM, row.moment
 
     def _wait(self, row: Change) -> None:
         if row.now in WAITING:

@@ -25,7 +25,10 @@ class View:
 
     def sees(self, tag: str) -> bool:
         """Whether the alarm of this tag is one of these areas."""
-        row = self.plant.by_tag.get(tag)
+        return self._sees(self.plant, tag)
+
+    def _sees(self, plant: Plant, tag: str) -> bool:
+        row = plant.by_tag.get(tag)
         return row is not None and row.area in self.areas
 
     def console_for(self, order: Order) -> ConsoleRow | None:
@@ -46,12 +49,13 @@ class View:
         """Whether a row of the journal is one to be shown. An order without a target is its console's."""
         if self.everything:
             return True
+        plant = row.plant or self.plant  # the alarm may be gone by now
         match row.words:
             case ("ALARM", tag, *_):
-                return self.sees(tag)
+                return self._sees(plant, tag)
             case ("ORDER", console, verb, target, *_) if verb != Verb.RESTART.value:
                 own = any(int(console) == mine.number for mine in self.consoles)
-                return self.sees(target) or (target == "?" and own)
+                return self._sees(plant, target) or (target == "?" and own)
         return True
 
     def rows(self, journal: Journal, first: int, count: int) -> Iterator[Row]:

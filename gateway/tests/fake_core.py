@@ -110,6 +110,15 @@ class FakeCore(Core):
         self._made = State(self.plant), Journal(self.plant)
         self._tell(ChangeKind.ANEW, {})
 
+    def reload(self, plant: Plant) -> None:  # type: ignore[override]
+        """Another plant is served from now on; its alarms are normal."""
+        self.plant = plant
+        state = State(plant)
+        state.moment, state.scanned = self.state.moment, self.state.scanned
+        self.journal.reload(plant, state.moment, "RELOAD KEPT 0 NEW 1", "anna", None)
+        self._made = state, self.journal
+        self._tell(ChangeKind.RELOADED, {"answer": "RELOADED KEPT 0 NEW 1"})
+
     def _tell(self, kind: ChangeKind, data: Mapping[str, Json]) -> None:
         self.board.put(kind, self.state.moment, data)
 

@@ -106,6 +106,30 @@ def test_a_snapshot_then_changes_in_order_and_beats() -> None:
         play(work())
 
 
+def test_a_page_asks_for_a_plant_that_was_taken_up() -> None:
+    """The connection ends, since a page asks for the plant whenever it connects again."""
+    with served() as site:
+        core, client = site.core, entered(site)
+        site.do(lambda: core.scan(1000, {"A0": Code.UNACK}))
+
+        async def work() -> None:
+            async with opened(client) as page:
+                await page.until(lambda: page.snapshots == 1)
+                site.do(lambda: core.reload(fake_plant(3, "Another tank")))
+                while await page.read():
+                    assert page.kinds == []
+            table = client.ask("/api/plant").json
+            assert (table["name"], len(table["alarms"])) == ("Another tank", 3)
+            async with opened(client) as page:
+                await page.until(lambda: page.snapshots == 1)
+                assert page.codes == {}
+                rows = client.ask("/api/journal").json["rows"]
+                assert [row["kind"] for row in rows] == ["alarm", "reload"]
+                assert (rows[1]["kept"], rows[1]["new"], rows[1]["user"]) == (0, 1, "anna")
+
+        play(work())
+
+
 def test_a_user_hears_of_the_users_own_areas_alone() -> None:
     with served(users=two_users()) as site:
         client = entered(site, "bert")

@@ -32,10 +32,10 @@ class Full:
     def __init__(self) -> None:
         self.folder: Path | None = None
 
-    def write(self, file: IO[bytes], text: str) -> None:
+    def write(self, file: IO[bytes], text: bytes) -> None:
         """Half of it is written where there is no room."""
         if self.folder is not None and str(file.name).startswith(f"{self.folder}/"):
-            file.write(text.encode()[: len(text) // 2])
+            file.write(text[: len(text) // 2])
             raise OSError(errno.ENOSPC, os.strerror(errno.ENOSPC))
         disk.write(file, text)
 

@@ -205,6 +205,20 @@ def test_a_new_record_is_shown_as_it_is(site: Served, page: Page) -> None:
     assert page.live()
 
 
+def test_a_plant_that_was_taken_up_is_shown(site: Served, page: Page) -> None:
+    site.do(lambda: site.core.reload(fake_plant(3, "Another tank")))
+    until(lambda: page.text("#plant-name") == "Another tank")
+    page.until_live()
+    until(lambda: page.rows() == [])
+    page.click("#tab-all")
+    until(lambda: [tag for tag, _ in page.rows("#all")] == ["A0", "A1", "A2"])
+    page.click("#tab-journal")
+    until(lambda: "0 alarms go on, 1 begin anew · anna" in page.text("#journal .rows"))
+    site.do(lambda: site.core.scan(70_000, {"A2": Code.UNACK}))
+    page.click("#tab-alarms")
+    until(lambda: page.rows() == [("A2", "UNACK")])
+
+
 def test_the_area_filter_says_what_it_hides(site: Served, page: Page) -> None:
     page.keys("f")
     page.keys("d", Keys.ENTER)  # dosing

@@ -114,3 +114,20 @@ def test_an_input_is_stale_past_its_limit() -> None:
     ages.saw("level", 112.0)
     ages.saw("flow", 112.0)
     assert not list(ages.stale(114.0))
+
+
+def test_what_waits_is_judged_anew_for_another_plant() -> None:
+    queue = SampleQueue()
+    for name, value in [("a", True), ("b", 5), ("c", 7), ("a", False), ("b", 6)]:
+        queue.put(name, value)
+
+    def fit(name: str, value: Value) -> tuple[str, Value] | None:
+        """`a` is gone, and `b` is spelled otherwise."""
+        return {"b": ("B", value), "c": ("c", value)}.get(name)
+
+    new = queue.refitted(fit)
+    assert (len(new), new.pressed) == (3, True)
+    new.put("B", 6)  # its last value
+    assert len(new) == 3
+    assert all_scans(new) == [{"B": 5, "c": 7}, {"B": 6}]
+    assert len(SampleQueue().refitted(fit)) == 0

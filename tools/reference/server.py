@@ -1,8 +1,10 @@
-"""What the server answers: a plant's state, scans, orders, `list` and `journal`, by the rules of docs/LANGUAGE.md and docs/PROTOCOL.md."""
+"""What the server answers: a plant's state, scans, orders, reloads, `list` and `journal`, by the rules of docs/LANGUAGE.md and docs/PROTOCOL.md."""
 
 import copy
 import datetime
 
+import files
+import reloads
 from language import BOOL, RANGES, STANDARD, Assign, Call, Case, Element, For, If, Trap, numbers, value
 
 CODES = ["NORM", "UNACK", "ACKED", "RTNUN", "LATUN", "LATAK", "SHELVED", "SUPPR", "OOS"]
@@ -106,6 +108,10 @@ class Alarm:
     def due(self):
         return self.scans.due(self.row.delay)
 
+    def take_over(self, other):
+        """Goes on from the state of another alarm: its code, the end of its shelf, and what its last scan has left."""
+        self.state, self.end, self.condition, self.suppressed, self.scans = other.state, other.end, other.condition, other.suppressed, other.scans
+
     def ordered(self, verb, time, last):
         """The state after an order, or the reply that refuses it."""
         acknowledged = {"UNACK": "ACKED", "RTNUN": "NORM", "LATUN": "LATAK"}
@@ -130,10 +136,10 @@ class Alarm:
 
 
 class Server:
-    """A plant that is served: what it holds after the commands so far."""
+    """A plant that is served: what it holds after the commands so far. `reads` gives the plant of the texts of a reload; without it there is no command `reload`."""
 
-    def __init__(self, plant):
-        self.plant, self.moment, self.events, self.rows = plant, 0, 0, []
+    def __init__(self, plant, reads=None):
+        self.plant, self.reads, self.moment, self.events, self.rows = plant, reads, 0, 0, []
         self.begun = datetime.datetime.strptime(plant.epoch, "%Y-%m-%dT%H:%M:%SZ")
         self.values, self.calls, self.numbers = {}, {}, {}
         self.globals = {name.lower(): (name, kind, region) for name, kind, region, _ in plant.globals}
@@ -343,6 +349,32 @@ class Server:
                 return [f"REPLY {reply}"] + lines
         self.note_order(console, verb, name, time, reply)
         return [f"REPLY {reply}"]
+
+    # ---- reloads
+
+    def reload(self, *texts):
+        """Goes on with the plant of these texts, or says why not; then nothing has changed."""
+        try:
+            plant = self.reads(*texts)
+        except files.Refused as refused:
+            return [refused.args[0]]
+        refused = self.reload_refused(plant)
+        if refused:
+            return [f"REFUSED {refused}"]
+        new = Server(plant, self.reads)
+        kept = reloads.carry(self, new)
+        new.moment, new.events, new.rows = self.moment, self.events + 1, self.rows
+        told = f"KEPT {kept} NEW {len(new.alarms) - kept}"
+        new.note(new.moment, f"RELOAD {told}")
+        vars(self).update(vars(new))
+        return [f"RELOADED {told}"]
+
+    def reload_refused(self, plant):
+        if [number for number, _ in plant.consoles] != [number for number, _ in self.plant.consoles]:
+            return "E7"
+        if plant.epoch != self.plant.epoch:
+            return "E8"
+        return "E6" if self.events == MOST_EVENTS else None
 
     def note(self, moment, text):
         stamp = (self.begun + datetime.timedelta(milliseconds=moment)).isoformat(timespec="milliseconds")

@@ -1,6 +1,9 @@
 """Random lines for a plant that is served, answered by the second reading as they are made."""
 
+import folders
 import protocol
+import reloads
+from edits import edited
 from language import BOOL, RANGES
 from server import LAST_MOMENT, MOST_EVENTS
 
@@ -10,6 +13,8 @@ NO_COMMAND += [b"\xef\xbb\xbflist", b"ack 1\xc2\xa0T", b"scan 1 a=T#5s", b"scan 
 NO_COMMAND += [b"scan 1 a=12345678901234567890", b"scan 1 a = 5", b"ACK 1 T", b"\r", b"list\r", b"LIST", b"quit", b"scan 1 a=1\0", b"shelve 1 T -1", b"unshelve 1 T 5"]
 NOTHING = [b"", b" ", b"\t \t", b"#", b"# a remark", b"\t#scan 5", b"#\0\xff\r", b"   #ack 1 T"]
 PIECES = [b"\0", b"\r", b"\t", b" ", b"  ", b"\xff", b"\xc3\xa9", b"#", b"=", b"-", b"0", b"9", b"TRUE", b"\n", b"\x0c", b"\xc2\xa0", b"\x7f", b"scan", b"ack", b"restart 1 "]
+NO_RELOAD = [b"reload", b"reload 5", b"reload 1048577 0", b"reload 0 16777217", b"reload 0 0 4194305", b"reload 0 0 4194304 1", b"reload 000000001 0", b"reload 0 0 000000000"]
+NO_RELOAD += [b"reload -1 0", b"RELOAD 0 0", b"reload 0 0 x", b"reload 0x5 0", b"reload 0 0" + b" 0" * 65, b"reload 0 0\0", b"reload 0 0\r", b"reload 99999999 0", b"reload 0 99999999 5"]
 LENGTHS = [65_534, 65_535, 65_536, 65_537, 131_072, 1_048_574, 1_048_575, 1_048_576, 1_048_577, 1_048_578, 1_048_579, 1_300_000, 2_200_000]
 MONTH = 2_592_000_000
 
@@ -18,8 +23,13 @@ class Lines:
     """The parts of an input, each mostly one line with its end, and the bytes that answer each."""
 
     def __init__(self, some, plant, server, longest):
-        self.some, self.plant, self.server, self.longest = some, plant, server, longest
+        self.some, self.server, self.longest = some, server, longest
         self.parts, self.answers, self.copies = [], [], {}
+        self.serve(plant)
+
+    def serve(self, plant):
+        """Goes on with a plant."""
+        self.plant = plant
         self.inputs = [(name, kind) for name, kind, region, _ in plant.globals if region == "I"]
         self.edges = sorted({0, 1, *(row.longest for row in plant.alarms), MONTH})
 
@@ -34,9 +44,13 @@ class Lines:
             part = self.line() + end
             self.parts.append(part)
             self.answers.append(protocol.answers(self.server, part))
+            if self.server.plant is not self.plant:
+                self.serve(self.server.plant)
 
     def line(self):
         some, pick = self.some, self.some.random()
+        if self.server.reads is not None and some.random() < 0.05:
+            return self.reload()
         if some.random() < self.longest:
             return self.long_line()
         if pick < 0.46:
@@ -75,6 +89,34 @@ class Lines:
         line = some.choice([self.scan(), self.order(), b"list", b"#", b"", b"scan 5" + b" a=1" * 300_000, b"\0" * length, b"x" * length])
         line = line[:length]
         return some.choice([line + b" " * (length - len(line)), b"\t" * (length - len(line)) + line])
+
+    # ---- reloads
+
+    def reload(self):
+        """A reload with its body; or a line that is none, and what would be its body is lines then."""
+        some = self.some
+        text = self.reload_of(edited(some, self.plant))
+        if some.random() < 0.05:
+            return some.choice(NO_RELOAD) + b"\n" + text.partition(b"\n")[2]
+        return text
+
+    def reload_of(self, plant):
+        """A reload of a plant, now and then with a file that is cut or changed, or with a source too many or too few."""
+        some = self.some
+        while True:
+            texts = folders.Texts(some, plant)
+            folder = folders.Folder(some, texts)
+            if some.random() < 0.2:
+                name = some.choice(["plant.toml", texts.alarms, *texts.sources])
+                (folder.cut if name in texts.sources or some.random() < 0.5 else folder.change)(name)
+            # (Python's own reader of TOML doesn't know what is new in TOML 1.1)
+            if not folder.is_newer and not texts.is_newer:
+                break
+        sources = [folder.texts[name] for name in texts.sources]
+        if some.random() < 0.03:
+            sources = some.choice([sources[1:], sources + [b""], sources + sources[:1]])
+        words = self.joined(["reload"] + [some.choice([f"{len(it)}"] * 5 + [f"{len(it):08}"]) for it in (folder.texts["plant.toml"], folder.texts[texts.alarms], *sources)])
+        return words + some.choice([b"\n", b"\n", b"\r\n"]) + b"".join((folder.texts["plant.toml"], folder.texts[texts.alarms], *sources))
 
     # ---- scans
 

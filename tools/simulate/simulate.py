@@ -1,7 +1,7 @@
 #!/usr/bin/env python3
 """Simulates bad days of the built server, and compares each answer with that of the second reading of its rules (tools/reference).
 
-    python3 tools/simulate/simulate.py PROGRAM [--plants N] [--commands N] [--seed S] [--workers LIST] [--minutes M] [--keep DIR] [--jobs J]
+    python3 tools/simulate/simulate.py PROGRAM [--plants N] [--commands N] [--seed S] [--workers LIST] [--minutes M] [--keep DIR] [--jobs J] [--reload]
 
 PROGRAM is the built server (crates/alarmd/out/alarmd). README.md says what is tried. The exit status is 0 where all agree.
 """
@@ -25,6 +25,7 @@ sys.path.insert(0, os.path.join(os.path.dirname(os.path.abspath(__file__)), ".."
 import files
 import folders
 import protocol
+import reloads
 import runs
 from lines import Flood, Lines
 from runs import Ran
@@ -87,10 +88,10 @@ class Trial:
             count = mean * 50
         self.cuts = [some.randrange(count), some.randrange(count)]
         if self.seed % FULL_EVERY:
-            made = Lines(some, self.plant, Server(self.plant), 0.05 if some.random() < 0.02 else 0)
+            made = Lines(some, self.plant, Server(self.plant, self.bench.reads), 0.05 if some.random() < 0.02 else 0)
             made.make(count, self.cuts)
         else:
-            made = Flood(some, self.plant, Server(self.plant))
+            made = Flood(some, self.plant, Server(self.plant, self.bench.reads))
             self.cuts = list(made.copies) * 2
             self.count("full histories, of 1,000,000 events each")
         self.parts, self.answers, self.copies = made.parts, made.answers, made.copies
@@ -100,6 +101,12 @@ class Trial:
             self.count("commands", len(self.parts))
 
     # ---- what is run, and how it is judged
+
+    def unwarned(self, ran):
+        return unwarned(unexplained_reloads(ran) if self.bench.reads else ran)
+
+    def unexplained(self, ran):
+        return unexplained(unexplained_reloads(ran) if self.bench.reads and ran.status in (0, 1) else ran)
 
     def words(self, workers, verb="run"):
         """The words of a command line: sometimes with another path to the same plant file, or without the number of workers where it is 1."""
@@ -128,7 +135,7 @@ class Trial:
     def whole(self, workers):
         """The whole input at once."""
         words = self.words(workers)
-        ran = unwarned(runs.run(words, self.given, self.bench.seconds))
+        ran = self.unwarned(runs.run(words, self.given, self.bench.seconds))
         self.judge("whole inputs", "", words, self.given, self.wanted, ran, ran == Ran(self.wanted, b"", 0))
 
     def paced(self):
@@ -140,7 +147,7 @@ class Trial:
             while at < self.ended and behind + len(self.parts[at]) <= high:
                 due, behind, at = due + len(self.answers[at]), behind + len(self.parts[at]), at + 1
             pieces.append((self.given[low:high], due))
-        ran = unwarned(runs.paced(words, pieces, self.bench.seconds))
+        ran = self.unwarned(runs.paced(words, pieces, self.bench.seconds))
         self.judge("inputs in pieces", f"they end at {ends}", words, self.given, self.wanted, ran, ran == Ran(self.wanted, b"", 0))
 
     def cut(self):
@@ -149,7 +156,7 @@ class Trial:
         before, wanted = self.first(at)
         given = before + self.parts[at][: self.some.randrange(max(1, len(self.parts[at])))]
         wanted += protocol.answers(self.copies[at].copy(), given[len(before) :])
-        ran = unwarned(runs.run(words, given, self.bench.seconds))
+        ran = self.unwarned(runs.run(words, given, self.bench.seconds))
         self.judge("cut inputs", "", words, given, wanted, ran, ran == Ran(wanted, b"", 0))
 
     def read_failed(self):
@@ -158,7 +165,7 @@ class Trial:
         given, wanted = self.first(at)
         if at < len(self.parts):
             given += self.parts[at].split(b"\n")[0][: self.some.choice([0, 5, 10**9])]
-        ran = unwarned(runs.cut_off(words, given, len(wanted), self.bench.seconds))
+        ran = self.unwarned(runs.cut_off(words, given, len(wanted), self.bench.seconds))
         self.judge("inputs that fail", "", words, given, wanted, ran, ran == Ran(wanted, INPUT_RESET, 1))
 
     # ---- outputs
@@ -169,7 +176,7 @@ class Trial:
         before, answers = self.first(some.randrange(self.ended + 1))
         most = some.choice([some.randrange(len(answers) + 1), len(answers)])
         wanted = self.wanted[:most]
-        ran = unwarned(runs.broken(words, before, most, self.given[len(before) :], self.bench.seconds))
+        ran = self.unwarned(runs.broken(words, before, most, self.given[len(before) :], self.bench.seconds))
         fits = ran == Ran(wanted, READER_GONE, 1) or (len(answers) == len(self.wanted) and ran == Ran(wanted, b"", 0))
         self.judge("broken pipes", f"after {most} bytes, and {len(before)} of the input", words, self.given, wanted, ran, fits)
 
@@ -178,7 +185,7 @@ class Trial:
         if self.some.random() < 0.1:
             words = self.words(self.any_workers())
             with open("/dev/full", "wb") as out:
-                ran = unwarned(runs.run(words, self.given, self.bench.seconds, out=out))
+                ran = self.unwarned(runs.run(words, self.given, self.bench.seconds, out=out))
             fits = ran == (Ran(b"", DISK_FULL, 1) if self.wanted else Ran(b"", b"", 0))
             self.judge("full disks", "", words, self.given, b"", ran, fits)
 
@@ -189,7 +196,7 @@ class Trial:
         if self.bench.least:
             workers = self.any_workers()
             words, env, most, detail = self.words(workers), *self.limit(12 if workers == 1 else 15)
-            ran = unwarned(runs.run(words, self.given, self.bench.seconds, most, env))
+            ran = self.unwarned(runs.run(words, self.given, self.bench.seconds, most, env))
             self.judge_memory("inputs with little memory", detail, words, workers, ran, 0)
 
     def limit(self, most):
@@ -213,7 +220,7 @@ class Trial:
 
     def judge_memory(self, what, detail, words, workers, ran, least):
         """The whole answer; or memory (or a thread) is refused after a beginning of it that has so many bytes at least."""
-        ran = unwarned(ran)
+        ran = self.unwarned(ran)
         refused = ran.status == 1 and (ran.error == b"RUN MEMORY\n" or (ran.error == b"RUN CREW\n" and workers > 1))
         fits = ran == Ran(self.wanted, b"", 0) or (refused and len(ran.out) >= least and self.wanted.startswith(ran.out))
         self.judge(what, detail, words, self.given, self.wanted, ran, fits)
@@ -235,7 +242,7 @@ class Trial:
         words = self.words(workers, some.choice(["check", "run"]))
         given, wanted = self.due(folder, words)
         user = NOBODY if "locked" in folder.how.values() and os.geteuid() == 0 else None
-        ran = unexplained(runs.run(words, given, bench.seconds, user=user))
+        ran = self.unexplained(runs.run(words, given, bench.seconds, user=user))
         fits = ran == wanted if wanted else is_refusal(ran) or (ran.status, ran.error) == (0, b"")
         self.judge("folders with a file that is cut or changed" if not folder.how else "folders with a file that can't be read", folder.said, words, given, wanted.out if wanted else b"", ran, fits)
         self.count("folders that are accepted all the same", ran.status == 0)
@@ -254,7 +261,7 @@ class Trial:
             return given, None
         if words[1] == "check":
             return given, Ran(f"ACCEPTED PROGRAMS {len(plant.programs)} ALARMS {len(plant.alarms)}\n".encode(), b"", 0)
-        made = Lines(self.some, plant, Server(plant), 0)
+        made = Lines(self.some, plant, Server(plant, self.bench.reads), 0)
         made.make(max(1, self.bench.commands // 4))
         self.count("commands", len(made.parts))
         return b"".join(made.parts), Ran(b"".join(made.answers), b"", 0)
@@ -262,7 +269,7 @@ class Trial:
     def spoiled_with_little(self, folder, words, given, wanted):
         """The same with little memory: the same, or memory (or a thread) is refused, before a byte of a line on the plant was written."""
         env, most, detail = self.limit(11)
-        ran = unexplained(runs.run(words, given, self.bench.seconds, most, env))
+        ran = self.unexplained(runs.run(words, given, self.bench.seconds, most, env))
         workers = words[1] == "run" and "--workers" in words
         refused = ran.status == 1 and (ran.error == b"RUN MEMORY\n" or (ran.error == b"RUN CREW\n" and workers))
         begun = wanted.out.startswith(ran.out) if wanted.status == 0 and words[1] == "run" else not ran.out
@@ -275,9 +282,16 @@ FULL = b'warning: %d of 1000000 events; after these each scan and each order is 
 
 def unwarned(ran):
     """A run without the warnings that the history is nearly full, which have to be there just where it is."""
-    events = sum(line.startswith((b"DONE ", b"REPLY ")) for line in ran.out.split(b"\n")) if len(ran.out) > 900_000 else 0
+    events = sum(line.startswith((b"DONE ", b"REPLY ", b"RELOADED ")) for line in ran.out.split(b"\n")) if len(ran.out) > 900_000 else 0
     wanted = b"".join(FULL % least for least in (900_000, 990_000) if least <= events)
     return Ran(ran.out, ran.error[len(wanted):], ran.status) if ran.error.startswith(wanted) else ran
+
+
+def unexplained_reloads(ran):
+    """A run without what a person is told of reloads on standard error: what is left are warnings of the history, and how the run ended."""
+    lines = ran.error.splitlines(keepends=True)
+    end = next((at for at, line in enumerate(lines) if line.startswith(b"RUN ")), len(lines))
+    return Ran(ran.out, b"".join([line for line in lines[:end] if line.startswith(b"warning: ") and b" events; " in line] + lines[end:]), ran.status)
 
 
 def unexplained(ran):
@@ -309,7 +323,7 @@ class Difference:
             with open(os.path.join(self.folder, name), "wb") as file:
                 file.write(text)
         words = [it.replace(trial.place, os.path.join(self.folder, "plant")) for it in self.words]
-        options = ["--seed", f"{trial.seed}", "--plants", "1", "--commands", f"{bench.commands}", "--workers", ",".join(map(str, bench.workers))]
+        options = ["--seed", f"{trial.seed}", "--plants", "1", "--commands", f"{bench.commands}", "--workers", ",".join(map(str, bench.workers))] + ["--reload"] * (bench.reads is not None)
         lines = [f"seed {trial.seed}, {self.how}: {self.first_line()}; status {ran.status}, standard error {ran.error[:300]!r}"]
         lines += [f"  its plant and input: {self.folder}", f"  by hand: {shlex.join(words)} < {shlex.quote(self.folder)}/input"]
         lines += [f"  again: {shlex.join(['python3', sys.argv[0], bench.program, *options])}"]
@@ -331,6 +345,7 @@ class Bench:
     def __init__(self, options, room):
         self.program, self.commands, self.workers = os.path.abspath(options.program), options.commands, options.workers
         self.keep, self.seconds, self.room = os.path.abspath(options.keep), 120, room
+        self.reads = reloads.read if options.reload else None
         self.least = runs.least_memory(self.program)
         os.chmod(room, 0o755)
         # Root reads every file, so that for a file without rights the program is run by nobody, where it can be.
@@ -395,6 +410,7 @@ def read_options():
     reads.add_argument("--minutes", type=float, default=1e6, help="no plant is begun after so many minutes")
     reads.add_argument("--keep", default=os.path.join(tempfile.gettempdir(), "simulate-kept"), help="where plants and inputs of differences are kept")
     reads.add_argument("--jobs", type=int, default=1, help="how many plants at once (1)")
+    reads.add_argument("--reload", action="store_true", help="inputs have reloads too: the program has to have this command")
     return reads.parse_args()
 
 

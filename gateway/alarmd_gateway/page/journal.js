@@ -10,14 +10,18 @@ const PAGE = 200; // rows
 function textOf(row) {
   if (row.kind === "alarm") return `${STATES[row.from]} → ${STATES[row.to]}`;
   if (row.kind === "fault") return `stopped at ${row.file ? `${row.file} line ${row.line}` : `statement ${row.statement}`} (${TRAPS[row.fault] ?? row.fault})`;
+  if (row.kind === "reload") {
+    const by = [row.user, row.reason].filter(Boolean).join(": ");
+    return `another plant is served: ${row.kept} alarms go on, ${row.new} begin anew${by ? ` · ${by}` : ""}`;
+  }
   const time = row.milliseconds === null || row.milliseconds === undefined ? "" : ` for ${duration(row.milliseconds)}`;
   const by = [row.user, row.reason].filter(Boolean).join(": ");
   const what = row.reply === "OK" ? DONE[row.command] : `${row.command} refused (${row.reply})`;
   return `console ${row.console}: ${what}${time}${by ? ` · ${by}` : ""}`;
 }
 
-const subjectOf = (row) => row.tag ?? row.path ?? row.target;
-const KINDS = { alarm: "alarm", fault: "FAULT", order: "order" };
+const subjectOf = (row) => row.tag ?? row.path ?? row.target ?? "";
+const KINDS = { alarm: "alarm", fault: "FAULT", order: "order", reload: "plant" };
 
 export class JournalScreen {
   constructor(store) {
@@ -57,7 +61,7 @@ export class JournalScreen {
       this.where,
       this.csv,
     );
-    this.more = el("p", { class: "more" }, "Alarms, faults and orders in the order in which they came. Times are the moments of scans.");
+    this.more = el("p", { class: "more" }, "Alarms, faults, orders and changes of the plant in the order in which they came. Times are the moments of scans.");
     $("journal").append(this.bar, el("div", { class: "holder" }, this.list.grid), this.more);
   }
 
