@@ -17,10 +17,11 @@ PROGRAM is the built server (crates/alarmd/out/alarmd). KIND is one of these, `l
 | check | `check` of 4.2 MB of sources and 14.5 MB of alarms |
 | still | scans that change nothing, by the size of the plant |
 | workers | the programs of `logic` by several workers: the clock's time of a scan. A program costs 98, and 105 more for each of `--turns` |
+| arrays | what an array of 4,096 elements adds to a program that reads or assigns one of them: the clock's time of a scan by two workers |
 | read | `check` of files that are large, or hard to read, at half and whole size |
 | commands | lines that are many, or hard to read |
 
-Times are the processor's, the best of `--repeat` runs (3), and of `workers` the clock's, the best and the median; memory is the greatest. It needs Python 3.9 or later. The exit status is 1 where a run didn't end as it should.
+Times are the processor's, the best of `--repeat` runs (3), and of `workers` and `arrays` the clock's, the best and the median; memory is the greatest. It needs Python 3.9 or later. The exit status is 1 where a run didn't end as it should.
 """
 
 import argparse
@@ -39,7 +40,7 @@ HERE = os.path.dirname(os.path.abspath(__file__))
 PLANTS = {"turns": inputs.turns, "logic": inputs.logic, "alarms": inputs.alarms, "changes": inputs.changes, "orders": inputs.orders}
 # the yardsticks of a kind
 YARDSTICKS = {"logic": ["logic", "code"], "changes": ["changes"]}
-KINDS = ["lines", "turns", "logic", "alarms", "changes", "delays", "orders", "check", "still", "workers", "read", "commands"]
+KINDS = ["lines", "turns", "logic", "alarms", "changes", "delays", "orders", "check", "still", "workers", "arrays", "read", "commands"]
 # variables, alarms with a variable each, outputs
 STILL = [(2, 0, 0), (16384, 0, 0), (65536, 0, 0), (10000, 10000, 0), (20000, 20000, 0), (0, 0, 32000), (65536, 20000, 0)]
 
@@ -149,6 +150,19 @@ class Bench:
                     times[number].append((all_of_them.wall - first.wall) / (scans - 1) * 1e6)
             shown = ", ".join(f"{number}: {min(them):.0f} ({statistics.median(them):.0f})" for number, them in times.items())
             print(f"cost {98 + 105 * turns}, microseconds a scan by workers: {shown}", flush=True)
+
+    def arrays(self):
+        scans, programs = self.options.scans or 3000, 8
+        plants = {touch: self.filled(f"arrays_{touch}_{scans}", lambda it, touch=touch: inputs.arrays(it, programs, touch, scans)) for touch in inputs.TOUCHES}
+        times = {touch: [] for touch in plants}
+        for _ in range(self.options.repeat):
+            for touch, (path, given) in plants.items():
+                it = run([self.program, "run", f"{path}/plant.toml", "--workers", "2"], given)
+                self.failed |= it.status != 0
+                times[touch].append(it.wall / scans * 1e6)
+        for touch in ("read", "assigned"):
+            best, middle = ((of(times[touch]) - of(times["untouched"])) / programs for of in (min, statistics.median))
+            print(f"an array of 4,096, {touch}: {best:.2f} ({middle:.2f}) microseconds a program, of a scan of {min(times['untouched']):.0f}", flush=True)
 
     def read(self):
         kept = os.path.join(self.folder, "out.txt")

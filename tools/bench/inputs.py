@@ -211,6 +211,20 @@ def large(folder, count=20000):
     write(folder, "alarms.csv", "".join(rows))
 
 
+# what each of the programs of `arrays` does with its array
+TOUCHES = {"untouched": "y@ := s;", "read": "y@ := w@[1] + s;", "assigned": "w@[1] := s;"}
+
+
+def arrays(folder, programs, touch, scans):
+    """Programs with a FOR each, and as many arrays of 4,096 elements, of which each program reads or assigns an element, or none."""
+    plant_file(folder, areas=[], consoles=0)
+    write(folder, "alarms.csv", HEAD)
+    declared = "".join(f"  w{n} : ARRAY[1..4096] OF DINT; y{n} : DINT;\n" for n in range(programs))
+    body = f"PROGRAM prog@\n  VAR i, s : DINT; END_VAR\n  FOR i := 1 TO 2000 DO s := (s * 3 + i) MOD 10007; END_FOR;\n  {TOUCHES[touch]}\nEND_PROGRAM\n"
+    write(folder, "p.st", f"VAR_GLOBAL\n{declared}END_VAR\n" + "".join(body.replace("@", str(n)) for n in range(programs)))
+    return [f"scan {n}" for n in range(scans)]
+
+
 def still(folder, variables, alarms, outputs):
     """A plant without programs, in which no scan changes anything."""
     plant_file(folder)
