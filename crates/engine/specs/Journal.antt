@@ -34,7 +34,7 @@ pub data NamedEntry : Type 0 where
   FaultAt : Spot → Trap → NamedEntry
   ChangeOf : List ℕ → PlainChange → NamedEntry
   OrderBy : ℕ → Verb → Option (List ℕ) → Option OrderFault → NamedEntry
-  Reloaded : ℕ → ℕ → NamedEntry
+  ReloadOf : ℕ → ℕ → NamedEntry
 
 -- a row by names: its number, the moment of its event, and what it tells
 pub record NamedRow : Type 0 where
@@ -83,7 +83,7 @@ abbrev pub entry_text : NamedEntry → List ℕ
 entry_text (FaultAt spot trap) = fault_body (path_text spot.path) spot.statement trap
 entry_text (ChangeOf tag change) = alarm_body tag change
 entry_text (OrderBy console verb target refused) = order_body console verb (target_text target) refused
-entry_text (Reloaded kept fresh) = reload_body kept fresh
+entry_text (ReloadOf kept fresh) = reload_body kept fresh
 
 -- the text of a row by names, of a journal with this epoch: `NUMBER STAMP BODY`
 abbrev pub named_text : ℕ → NamedRow → List ℕ
@@ -109,7 +109,7 @@ change_entries plant changes = map (named_change plant) changes
 
 -- the entry that a reload adds: how many alarms of the new plant keep their states, and how many are new
 abbrev pub reload_entry : PlainPlant → PlainPlant → NamedEntry
-reload_entry old new = let kept = kept_numbers old new in Reloaded (kept_count kept) (fresh_count kept)
+reload_entry old new = let kept = kept_numbers old new in ReloadOf (kept_count kept) (fresh_count kept)
 
 -- the entries that an event adds, by the names of the plant that the system has at that time: a scan its faults in program order, an order itself with its reply; then the changes of alarms' codes in the order of the database. A reload adds itself alone
 abbrev pub added_entries : System → Event → List NamedEntry

@@ -10,8 +10,11 @@ use Rattle.plant_config.specs.declared.rows.AlarmRow.{AlarmRow}
 use Rattle.plant_config.specs.Plants.{PlainPlant}
 use Rattle.event_history.specs.declared.event.Event.TheVariants as event
 use Rattle.plant_system.specs.declared.event.EngineFault.TheVariants as refusal
-use Rattle.plant_system.specs.Reloads.{kept_numbers, kept_count, fresh_count}
-use Rattle.plant_system.specs.System.{kept_alarm, opening_alarm, taken_reload}
+use Rattle.std_blocks.specs.Calls.{Call}
+use Rattle.alarm_bank.specs.Reloads.{alarm_of}
+use Rattle.alarm_delays.specs.Delays.{counts, scan_of}
+use Rattle.plant_system.specs.Reloads.{kept_numbers, kept_count, fresh_count, new_of}
+use Rattle.plant_system.specs.System.{kept_scans, opening_alarm, taken_reload}
 
 -- an alarm with a tag, that latches or doesn't, and may be shelved for so long
 abbrev row : List ℕ → Bool → ℕ → AlarmRow
@@ -49,11 +52,23 @@ letter_case_counts s t = refl
 abbrev shelved : ℕ → PlainAlarm
 shelved most = record { latching = true; max_shelve_ms = most; state = state.Shelved 5100; condition = true; suppressed = true }
 
-its_state_stays : kept_alarm (opening_alarm (row [] false 0) ∷ shelved 5000 ∷ []) (Some 1) (row (codes "T2") true 100) ≡ shelved 100
-its_state_stays = refl
+its_state_stays : (s : Source) → alarm_of (opening_alarm (row [] false 0) ∷ shelved 5000 ∷ []) (new_of (old s) (row (codes "T2") true 100)) ≡ shelved 100
+its_state_stays s = refl
 
-a_fresh_one_is_normal : (alarms : List PlainAlarm) → kept_alarm alarms None (row (codes "T3") false 7) ≡ record { latching = false; max_shelve_ms = 7; state = state.Norm; condition = false; suppressed = false }
-a_fresh_one_is_normal alarms = refl
+a_fresh_one_is_normal : (s : Source) (alarms : List PlainAlarm)
+    → alarm_of alarms (new_of (old s) (row (codes "T3") false 7)) ≡ record { latching = false; max_shelve_ms = 7; state = state.Norm; condition = false; suppressed = false }
+a_fresh_one_is_normal s alarms = refl
+
+-- the first alarm was met at 90, with the delay 100
+abbrev seen : List (List Call)
+seen = (scan_of true 100 90 ∷ []) ∷ []
+
+-- it goes on with the delay 20, so at 115 its condition counts
+its_scans_stay : counts (scan_of true 20 115 ∷ kept_scans seen (Some 0)) ≡ true
+its_scans_stay = refl
+
+a_fresh_one_has_seen_none : kept_scans seen None ≡ []
+a_fresh_one_has_seen_none = refl
 
 -- of consoles 1 and 2, with the epoch 9
 abbrev present : Source → PlainPlant

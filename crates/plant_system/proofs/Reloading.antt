@@ -1,7 +1,8 @@
 -- What a reload that is taken found.
-use Rattle.std.proofs.Common.{◌≡◌, ℕ, zero, suc, ◌+◌, ◌<◌, ◌≤◌, ◌≢◌, ◌==◌, Bool, true, false, ◌&&◌, not, if◌then◌else◌, List, [], ◌∷◌, ◌++◌, length, map, drop, refl, ap, sym, ◌∙◌, arith, eqb-true, eq-eqb, ne_eqb, append_assoc, append-nil, Ok, Err}
-use Rattle.std.specs.Prelude.{nat_le, Option, Result, slice_get, slice_index_or}
-use Rattle.std.specs.Option.{option_and_then}
+use Rattle.std.proofs.Common.{◌≡◌, ℕ, zero, suc, ◌+◌, ◌<◌, ◌≤◌, ◌≢◌, ◌==◌, Bool, true, false, ◌&&◌, not, if◌then◌else◌, List, [], ◌∷◌, ◌++◌, length, map, drop, refl, ap, sym, ◌∙◌, arith, eqb-true, eq-eqb, ne_eqb, append_assoc, append-nil, Some, Ok, Err}
+use Rattle.std.specs.Prelude.{nat_le, Result, slice_get, slice_index_or}
+use Rattle.std.specs.Option.{option_map}
+use Rattle.std.proofs.lemmas.Option.{same_Some}
 use Rattle.std.proofs.lemmas.List.{drop_more, drop_all}
 use Rattle.std.proofs.lemmas.Bool.Decides.{nat_tests}
 use Rattle.plant_file.specs.declared.console.Console.{Console}
@@ -12,7 +13,7 @@ use Rattle.event_history.specs.declared.event.Event.TheVariants as event
 use Rattle.plant_system.specs.declared.event.TheConstants.{MOST_EVENTS}
 use Rattle.plant_system.specs.declared.event.EngineFault.{EngineFault}
 use Rattle.plant_system.specs.declared.event.EngineFault.TheVariants as refusal
-use Rattle.plant_system.specs.Reloads.{kept_number, numbers_of, same_numbers}
+use Rattle.plant_system.specs.Reloads.{numbers_of, same_numbers}
 use Rattle.plant_system.specs.System.{taken_reload}
 
 head_same : (a b : Bool) → (a && b) ≡ true → a ≡ true
@@ -60,22 +61,20 @@ numbers_differ old new n d h g other =
 pub numbers_end : (old new : List Console) (n : ℕ) → length old ≤ n → length new ≤ n → same_numbers (numbers_of (drop n old)) (numbers_of (drop n new)) ≡ true
 numbers_end old new n h g = λ i. same_numbers (numbers_of (drop_all n old h i)) (numbers_of (drop_all n new g i))
 
--- for the alarms from a number on, alarm by alarm
-kept_tail : (old : PlainPlant) (rows : List AlarmRow) (n : ℕ) → n < length rows → map (kept_number old) (drop n rows) ≡ option_and_then (kept_number old) (slice_get rows n) ∷ map (kept_number old) (drop (n + 1) rows)
-kept_tail old [] n h = absurd (omega (arith, h))
-kept_tail old (row ∷ rows) zero h = refl
-kept_tail old (row ∷ rows) (suc n) h =
+-- what is made of the rows from a number on, row by row
+made_tail : {X : Type 0} (f : AlarmRow → X) (rows : List AlarmRow) (n : ℕ) (x : X) → option_map f (slice_get rows n) ≡ Some x → map f (drop n rows) ≡ x ∷ map f (drop (n + 1) rows)
+made_tail f [] n x at = absurd (cc (at))
+made_tail f (row ∷ rows) zero x at = let is : f row ≡ x = same_Some (f row) x at in ap (λ y. y ∷ map f rows) is
+made_tail f (row ∷ rows) (suc n) x at =
     let on : suc n + 1 ≡ suc (n + 1) = omega arith in
-    kept_tail old rows n (omega (arith, h)) ∙ ap (λ k. option_and_then (kept_number old) (slice_get rows n) ∷ map (kept_number old) (drop k (row ∷ rows))) (sym on)
+    made_tail f rows n x at ∙ ap (λ k. x ∷ map f (drop k (row ∷ rows))) (sym on)
 
-pub kept_next : (old : PlainPlant) (rows : List AlarmRow) (kept : List (Option ℕ)) (n : ℕ) → n < length rows
-    → kept ++ map (kept_number old) (drop n rows) ≡ (kept ++ option_and_then (kept_number old) (slice_get rows n) ∷ []) ++ map (kept_number old) (drop (n + 1) rows)
-kept_next old rows kept n h =
-    let one = option_and_then (kept_number old) (slice_get rows n) in
-    ap (λ (l : List (Option ℕ)). kept ++ l) (kept_tail old rows n h) ∙ sym (append_assoc kept (one ∷ []) (map (kept_number old) (drop (n + 1) rows)))
+pub made_next : {X : Type 0} (f : AlarmRow → X) (rows : List AlarmRow) (made : List X) (n : ℕ) (x : X) → option_map f (slice_get rows n) ≡ Some x
+    → made ++ map f (drop n rows) ≡ (made ++ x ∷ []) ++ map f (drop (n + 1) rows)
+made_next f rows made n x at = ap (λ l. made ++ l) (made_tail f rows n x at) ∙ sym (append_assoc made (x ∷ []) (map f (drop (n + 1) rows)))
 
-pub kept_end : (old : PlainPlant) (rows : List AlarmRow) (kept : List (Option ℕ)) (n : ℕ) → length rows ≤ n → kept ++ map (kept_number old) (drop n rows) ≡ kept
-kept_end old rows kept n h = ap (λ (l : List AlarmRow). kept ++ map (kept_number old) l) (drop_all n rows h) ∙ append-nil kept
+pub made_end : {X : Type 0} (f : AlarmRow → X) (rows : List AlarmRow) (made : List X) (n : ℕ) → length rows ≤ n → made ++ map f (drop n rows) ≡ made
+made_end f rows made n h = ap (λ (l : List AlarmRow). made ++ map f l) (drop_all n rows h) ∙ append-nil made
 
 -- what a reload that is taken found: room in the history, and the consoles' numbers and the epoch as they were
 pub record FoundReload (plant new : PlainPlant) (events : ℕ) : Type 0 where

@@ -13,6 +13,7 @@ use Rattle.alarm_machine.specs.Alarms.{PlainAlarm}
 use Rattle.alarm_bank.specs.declared.rows.Site.{Site}
 use Rattle.alarm_bank.specs.Banks.{IsSite}
 use Rattle.alarm_bank.specs.Moves.{put_all, changes_from}
+use Rattle.alarm_bank.specs.Reloads.{alarm_of}
 use Rattle.alarm_bank.proofs.BankLaws.{scan_each_length}
 use Rattle.st_tree.specs.Meaning.{Ran, Done, Trapped}
 use Rattle.plant_logic.specs.declared.logic.Variable.{Variable}
@@ -37,7 +38,8 @@ use Rattle.plant_config.specs.Names.{globals_of, programs_of, body_paths}
 use Rattle.scan_logic.specs.Scans.{Scanned, after_run, programs_from}
 use Rattle.plant_system.specs.Programs.{opening_faulted, with_inputs, global_in, world_after}
 use Rattle.plant_system.specs.Orders.{order_outcome, alarms_by, faulted_by}
-use Rattle.plant_system.specs.System.{System, system, after_event, taken_scan, scan_event, order_event, taken_reload, reload_event, opening_system, opening_alarm, scanned_by, after_scan_event, after_order_event, ordered, conditions, delays_of, no_scans, suppressions, scans_after, alarms_after, sites_of, outputs_from, out_at, outs_from}
+use Rattle.plant_system.specs.Reloads.{kept_number, kept_numbers, new_of, news_of}
+use Rattle.plant_system.specs.System.{System, system, after_event, taken_scan, scan_event, order_event, taken_reload, reload_event, opening_system, opening_alarm, scanned_by, after_scan_event, after_order_event, ordered, conditions, delays_of, kept_scans, no_scans, suppressions, scans_after, alarms_after, sites_of, outputs_from, out_at, outs_from}
 use Rattle.alarm_watch.specs.declared.watched.Watch.{Watch}
 use Rattle.alarm_watch.specs.Watched.{Follow, alarms_watched, watched_conditions}
 use Rattle.std_blocks.specs.Calls.{Call}
@@ -134,7 +136,7 @@ alarms_there plant history = system_keeps HasAlarms keeps plant history (length-
         let scans = length-scans_after now t s.plant.alarms s.scans h.1 in
         (length-alarms_after now t s.plant.alarms (scans_after now t s.plant.alarms s.scans) s.alarms scans h.0, scans)
     keeps s (event.Order console order) h = (length-alarms_by (ordered s console order) s.alarms ∙ h.0, h.1)
-    keeps s (event.Reload new) h = (length-map new.alarms _, length-map new.alarms _)
+    keeps s (event.Reload new) h = (length-map (news_of s.plant new) (alarm_of s.alarms) ∙ length-map new.alarms (new_of s.plant), length-map (kept_numbers s.plant new) (kept_scans s.scans) ∙ length-map new.alarms (kept_number s.plant))
 
 pub system_alarms : (plant : PlainPlant) (history : List Event) → length ((system plant history).alarms) ≡ length ((system plant history).plant.alarms)
 system_alarms plant history = (alarms_there plant history).0

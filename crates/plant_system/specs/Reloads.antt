@@ -1,6 +1,8 @@
 -- Which alarms go on when another plant takes the place of the present one.
-use Rattle.std.specs.Prelude.{ℕ, ◌+◌, ◌==◌, Bool, true, false, ◌&&◌, not, if◌then◌else◌, List, [], ◌∷◌, map, Option, Some, None, slice_get}
-use Rattle.std.specs.Option.{option_map_or, option_and_then}
+use Rattle.std.specs.Prelude.{ℕ, ◌==◌, Bool, true, false, ◌&&◌, not, if◌then◌else◌, List, [], ◌∷◌, map, Option, Some, None, slice_get}
+use Rattle.std.specs.List.{count_by}
+use Rattle.std.specs.Option.{is_none, is_some, option_map_or, option_and_then}
+use Rattle.alarm_bank.specs.declared.rows.NewAlarm.{NewAlarm}
 use Rattle.plant_file.specs.declared.console.Console.{Console}
 use Rattle.plant_config.specs.declared.rows.AlarmRow.{AlarmRow}
 use Rattle.plant_config.specs.Plants.{PlainPlant}
@@ -23,17 +25,25 @@ kept_number old row = option_and_then (if_alike old.alarms row) (alarm_number ol
 abbrev pub kept_numbers : PlainPlant → PlainPlant → List (Option ℕ)
 kept_numbers old new = map (kept_number old) new.alarms
 
+-- an alarm of a new plant, with the number of the old one as which it goes on, if there is one
+abbrev pub new_of : PlainPlant → AlarmRow → NewAlarm
+new_of old row = record { site = record { area = row.area; priority = row.priority }; latching = row.latching; max_shelve_ms = row.max_shelve_ms; kept = kept_number old row }
+
+-- the alarms of a new plant, each with that number
+abbrev pub news_of : PlainPlant → PlainPlant → List NewAlarm
+news_of old new = map (new_of old) new.alarms
+
+-- the numbers that these have
+abbrev pub kept_of : List NewAlarm → List (Option ℕ)
+kept_of news = map (λ (new : NewAlarm). new.kept) news
+
 -- how many go on
 abbrev pub kept_count : List (Option ℕ) → ℕ
-kept_count [] = 0
-kept_count (Some n ∷ kept) = kept_count kept + 1
-kept_count (None ∷ kept) = kept_count kept
+kept_count kept = count_by is_some kept
 
 -- how many begin anew
 abbrev pub fresh_count : List (Option ℕ) → ℕ
-fresh_count [] = 0
-fresh_count (Some n ∷ kept) = fresh_count kept
-fresh_count (None ∷ kept) = fresh_count kept + 1
+fresh_count kept = count_by is_none kept
 
 -- the numbers of consoles, in their order
 abbrev pub numbers_of : List Console → List ℕ

@@ -1,6 +1,5 @@
 -- The system: it holds its plant, and each event is a step from system to system.
-use Rattle.std.specs.Prelude.{ℕ, ◌+◌, ◌==◌, ℤ, nat_lt, nat_le, Bool, true, false, not, if◌then◌else◌, List, [], ◌∷◌, map, fold, Option, Some, None, Result, Ok, Err, slice_get}
-use Rattle.std.specs.Option.{option_map_or, option_and_then}
+use Rattle.std.specs.Prelude.{ℕ, ◌+◌, ◌==◌, ℤ, nat_lt, nat_le, Bool, true, false, not, if◌then◌else◌, List, [], ◌∷◌, map, fold, Option, Some, None, Result, Ok, Err, slice_get, slice_index_or}
 use Rattle.std.specs.Ordering.{int_eq}
 use Rattle.plant_types.specs.Pairs.{PlainPair}
 use Rattle.plant_types.specs.Values.{is_true, value_of_kind}
@@ -20,6 +19,7 @@ use Rattle.alarm_delays.specs.Delays.{counts, scans_each}
 use Rattle.alarm_bank.specs.declared.rows.Site.{Site}
 use Rattle.alarm_bank.specs.declared.rows.Counted.{Counted}
 use Rattle.alarm_bank.specs.Banks.{scan_each, counted}
+use Rattle.alarm_bank.specs.Reloads.{alarm_of}
 use Rattle.alarm_bank.specs.Moves.{changes_from}
 use Rattle.alarm_watch.specs.Watched.{suppression}
 use Rattle.plant_config.specs.declared.rows.AlarmRow.{AlarmRow}
@@ -38,7 +38,7 @@ use Rattle.scan_logic.specs.Scans.{Scanned}
 use Rattle.plant_system.specs.Programs.{opening_faulted, global_in, world_after}
 use Rattle.plant_system.specs.Image.{image_of}
 use Rattle.plant_system.specs.Orders.{order_outcome, alarms_by, faulted_by, reply_by}
-use Rattle.plant_system.specs.Reloads.{kept_number, numbers_of, same_numbers}
+use Rattle.plant_system.specs.Reloads.{kept_numbers, news_of, numbers_of, same_numbers}
 
 -- the whole state: the plant, the variables' values and the calls of standard blocks, for each program whether it is faulted, the alarms, the scans as each alarm saw them, the last scan's moment, and how many events there were
 pub record System : Type 0 where
@@ -112,22 +112,19 @@ after_order_event sys console order =
     let done = ordered sys console order in
     record sys { faulted = faulted_by done sys.faulted; alarms = alarms_by done sys.alarms; events = sys.events + 1 }
 
--- an alarm of a new plant: the old alarm as which it goes on, with its state, its shelf's end and its last condition and suppression, but with the longest shelving of the new one; if there is none, it is as before the first event
-abbrev pub kept_alarm : List PlainAlarm → Option ℕ → AlarmRow → PlainAlarm
-kept_alarm alarms kept row = option_map_or {T = PlainAlarm} (λ alarm. record alarm { max_shelve_ms = row.max_shelve_ms }) (option_and_then (slice_get alarms) kept) (opening_alarm row)
-
--- the scans that an alarm of a new plant has seen: those of the old alarm as which it goes on, else none
-abbrev pub kept_scans : List (List Call) → Option ℕ → AlarmRow → List Call
-kept_scans scans kept row = option_map_or (λ seen. seen) (option_and_then (slice_get scans) kept) (no_scans row)
+-- the scans that an alarm of a new plant has seen: those of the old alarm as which it goes on, if there is one; else none
+abbrev pub kept_scans : List (List Call) → Option ℕ → List Call
+kept_scans scans None = []
+kept_scans scans (Some k) = slice_index_or scans k []
 
 -- a reload: the new plant, with what goes over of the variables and the calls of standard blocks, no program faulted, each alarm as it goes on or as before the first event, and the last moment as it is
-abbrev pub reloaded : System → PlainPlant → System
-reloaded sys new = record {
+abbrev pub after_reload_event : System → PlainPlant → System
+after_reload_event sys new = record {
   plant = new;
   world = carried sys.plant.source new.source sys.world;
   faulted = opening_faulted (programs_of new);
-  alarms = map (λ row. kept_alarm sys.alarms (kept_number sys.plant row) row) new.alarms;
-  scans = map (λ row. kept_scans sys.scans (kept_number sys.plant row) row) new.alarms;
+  alarms = map (alarm_of sys.alarms) (news_of sys.plant new);
+  scans = map (kept_scans sys.scans) (kept_numbers sys.plant new);
   moment = sys.moment;
   events = sys.events + 1;
 }
@@ -136,7 +133,7 @@ reloaded sys new = record {
 abbrev pub after_event : System → Event → System
 after_event sys (event.Scan image t) = after_scan_event sys image t
 after_event sys (event.Order console order) = after_order_event sys console order
-after_event sys (event.Reload new) = reloaded sys new
+after_event sys (event.Reload new) = after_reload_event sys new
 
 -- what the events make of the system that begins with a plant
 unfoldable pub system : PlainPlant → List Event → System

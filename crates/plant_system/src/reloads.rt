@@ -1,12 +1,13 @@
 //! Whether a plant may take the place of the present one, and which alarms go on.
 
-ghost use Rattle.std.specs.Prelude.{◌≡◌, ◌<◌, length, slice_get, Ok, Err, IfErr, IfOk, OnOk};
-ghost use Rattle.std.specs.Option.{option_and_then};
+ghost use Rattle.std.specs.Prelude.{◌≡◌, ◌<◌, ◌≤◌, length, slice_get, Some, Ok, Err, IfErr, IfOk, OnOk};
+ghost use Rattle.std.specs.Option.{option_and_then, option_map};
 ghost use Rattle.event_history.specs.declared.event.Event.TheVariants as event;
-ghost use Rattle.plant_system.specs.Reloads.{kept_number, kept_numbers, numbers_of, same_numbers};
+ghost use Rattle.plant_system.specs.Reloads.{fresh_count, kept_count, kept_number, kept_of, new_of, news_of, numbers_of, same_numbers};
 ghost use Rattle.plant_system.specs.System.{taken_reload};
 
 use crate::event::{EngineFault, MOST_EVENTS};
+use alarm_bank::{NewAlarm, Site};
 use plant_config::Plant;
 use plant_file::Console;
 use std::alloc::{AllocError, Global};
@@ -59,18 +60,59 @@ fn kept_number(old: &Plant, new: &Plant, alarm: u32) -> Option<u32>
     }
 }
 
-/// For each alarm of a new plant the number of the old one as which it goes on, if there is one. Fails if allocation fails.
-pub fn kept_numbers(
-    alloc: Global,
-    old: &Plant,
-    new: &Plant,
-) -> Result<Vec<Option<u32>>, AllocError>
-    ensures { IfOk result (λ kept. kept.items ≡ kept_numbers old.now new.now) }
+/// An alarm of a new plant, with the number of the old one as which it goes on, if there is one.
+fn new_of(old: &Plant, new: &Plant, alarm: u32) -> NewAlarm
+    requires { alarm < length new.now.alarms }
+    ensures { option_map (new_of old.now) (slice_get new.now.alarms alarm) ≡ Some result }
+{
+    let kept = kept_number(old, new, alarm);
+    let row = &new.alarm_rows()[alarm as usize];
+    NewAlarm {
+        site: Site {
+            area: row.area,
+            priority: row.priority,
+        },
+        latching: row.latching,
+        max_shelve_ms: row.max_shelve_ms as u32,
+        kept,
+    }
+}
+
+/// The alarms of a new plant, each with the number of the old one as which it goes on, if there is one. Fails if allocation fails.
+pub fn news_of(alloc: Global, old: &Plant, new: &Plant) -> Result<Vec<NewAlarm>, AllocError>
+    ensures { IfOk result (λ news. news.items ≡ news_of old.now new.now) }
 {
     let count = new.alarms();
-    let mut kept = Vec::with_capacity(alloc, count as usize)?;
+    let mut news = Vec::with_capacity(alloc, count as usize)?;
     for alarm in 0..count {
-        kept.push(kept_number(old, new, alarm))?;
+        news.push(new_of(old, new, alarm))?;
+    }
+    Ok(news)
+}
+
+/// The numbers of the old alarms as which new ones go on. Fails if allocation fails.
+pub fn kept_of(alloc: Global, news: &[NewAlarm]) -> Result<Vec<Option<u32>>, AllocError>
+    ensures { IfOk result (λ kept. kept.items ≡ kept_of news.now) }
+{
+    let mut kept = Vec::new(alloc);
+    for new in news {
+        kept.push(new.kept)?;
     }
     Ok(kept)
+}
+
+/// How many go on.
+pub fn kept_count(kept: &[Option<u32>]) -> usize
+    ensures count { result ≡ kept_count kept.now }
+    ensures within { result ≤ length kept.now }
+{
+    kept.iter().filter(|kept| kept.is_some()).count()
+}
+
+/// How many begin anew.
+pub fn fresh_count(kept: &[Option<u32>]) -> usize
+    ensures count { result ≡ fresh_count kept.now }
+    ensures within { result ≤ length kept.now }
+{
+    kept.iter().filter(|kept| kept.is_none()).count()
 }
