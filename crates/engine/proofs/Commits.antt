@@ -105,7 +105,7 @@ scan_room moment log r there =
 
 -- as many entries as an order adds by names
 order_many : (plant : PlainPlant) (console : ℕ) (order : Order) (done : Result Effect OrderFault) (alarms : List PlainAlarm)
-    → length (order_entries console order done alarms) ≡ length (named_order plant console order (refusal_of done) ∷ change_entries plant (changes_from 0 alarms (alarms_by done alarms)))
+    → length (order_entries console order done alarms) ≡ length (named_order plant console order.verb order.target (refusal_of done) ∷ change_entries plant (changes_from 0 alarms (alarms_by done alarms)))
 order_many plant console order done alarms =
     let ours = length-map (one_or_none (changed_by done alarms)) change_entry in
     let theirs = length-map (changes_from 0 alarms (alarms_by done alarms)) (named_change plant) in

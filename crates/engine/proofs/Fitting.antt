@@ -10,7 +10,7 @@ use Rattle.event_history.specs.declared.event.Event.TheVariants as event
 use Rattle.event_history.specs.Reloads.{NoReload}
 use Rattle.operator_orders.specs.declared.order.Order.{Order}
 use Rattle.plant_system.specs.declared.event.TheConstants.{MOST_EVENTS}
-use Rattle.plant_system.specs.Orders.{order_outcome, alarms_by, faulted_by, reply_by}
+use Rattle.plant_system.specs.Orders.{order_outcome, unless_old, alarms_by, faulted_by, reply_by}
 use Rattle.plant_system.specs.System.{System, opening_system, after_event, after_scan_event, scan_event, ordered, system}
 use Rattle.plant_system.specs.States.{PlainState, PlainPrepared, PlainPreparedOrder, IsState, IsReport, after_effect}
 use Rattle.plant_system.specs.Steps.{ScanRan, IsPreparedScan, IsPreparedOrder}
@@ -60,7 +60,7 @@ order_fits e k console order p stays held made few rows_there =
     let own : e.plant ≡ sys.plant = sym (system_keeps_its_plant e.plant e.history stays) in
     let is : p.done ≡ ordered sys p.console p.order =
     made.done_is
-    ∙ (λ i. order_outcome (own i) (held.alarms_are i) (held.faulted_is i) (held.moment_is i) console order)
+    ∙ (λ i. unless_old (held.reloads_is i) order (order_outcome (own i) (held.alarms_are i) (held.faulted_is i) (held.moment_is i) console order))
     ∙ (λ i. ordered sys (sym made.console_is i) (sym made.order_is i)) in
     record {
       row_room = rows_there;

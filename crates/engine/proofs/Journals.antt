@@ -177,9 +177,9 @@ order_journal plant history console order log stays held =
     let few : All (λ (c : ℕ × PlainChange). c.0 < length sys.plant.alarms) changes = numbers_more changes (0 + length sys.alarms) (length sys.plant.alarms) (omega (arith, many)) (changes_within 0 sys.alarms (after_event sys (event.Order console order)).alarms) in
     let P = IsNamed sys.plant in
     journal_on plant history (event.Order console order) sys.moment log (order_entries console order done sys.alarms) stays refl
-    (ap (λ l. named_order sys.plant console order (refusal_of done) ∷ l) (changes_named sys.plant (one_or_none (changed_by done sys.alarms)) ∙ ap (change_entries sys.plant) (sym are)))
+    (ap (λ l. named_order sys.plant console order.verb order.target (refusal_of done) ∷ l) (changes_named sys.plant (one_or_none (changed_by done sys.alarms)) ∙ ap (change_entries sys.plant) (sym are)))
     (All-cons P (entry.Order console order.verb order.target (refusal_of done)) (map change_entry (one_or_none (changed_by done sys.alarms)))
-    (order_named sys.plant sys.alarms sys.faulted sys.moment console order (system_faulted plant history))
+    (order_named sys.plant sys.alarms sys.faulted sys.moment sys.reloads console order (system_faulted plant history))
     (All-map P change_entry (one_or_none (changed_by done sys.alarms)) (subst (All (λ (c : ℕ × PlainChange). c.0 < length sys.plant.alarms)) are few)))
     held
 

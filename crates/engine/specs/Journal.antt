@@ -19,7 +19,6 @@ use Rattle.journal_core.specs.Rows.{fault_entry, change_entry}
 use Rattle.journal_core.specs.Bodies.{fault_body, alarm_body, order_body, reload_body}
 use Rattle.plant_config.specs.Plants.{PlainPlant}
 use Rattle.plant_config.specs.Names.{programs_of, body_paths, tag_of, program_at, body_path}
-use Rattle.operator_orders.specs.Orders.{order_with}
 use Rattle.event_history.specs.declared.event.Event.{Event}
 use Rattle.event_history.specs.declared.event.Event.TheVariants as event
 use Rattle.operator_orders.specs.declared.order.Order.{Order}
@@ -57,14 +56,14 @@ abbrev pub named_change : PlainPlant → (ℕ × PlainChange) → NamedEntry
 named_change plant change = ChangeOf (tag_of plant change.0) change.1
 
 -- an order of a console, by the name of its target
-abbrev pub named_order : PlainPlant → ℕ → Order → Option OrderFault → NamedEntry
-named_order plant console order refused = OrderBy console order.verb (order_target plant order.verb order.target refused) refused
+abbrev pub named_order : PlainPlant → ℕ → Verb → Option ℕ → Option OrderFault → NamedEntry
+named_order plant console verb target refused = OrderBy console verb (order_target plant verb target refused) refused
 
 -- an entry by the names of a plant: a fault's place is the spot that it has in the source
 abbrev pub named_entry : PlainPlant → Entry → NamedEntry
 named_entry plant (entry.Fault place trap) = FaultAt (place_spot plant.source place) trap
 named_entry plant (entry.Alarm alarm change) = named_change plant (alarm, change)
-named_entry plant (entry.Order console verb target refused) = named_order plant console (order_with verb target) refused
+named_entry plant (entry.Order console verb target refused) = named_order plant console verb target refused
 named_entry plant (entry.Reload kept fresh) = ReloadOf kept fresh
 
 -- a row by the names of a plant
@@ -112,7 +111,7 @@ reload_entry old new = let kept = kept_numbers old new in ReloadOf (kept_count k
 -- the entries that an event adds, by the names of the plant that the system has at that time: a scan its faults in program order, an order itself with its reply; then the changes of alarms' codes in the order of the database. A reload adds itself alone
 abbrev pub added_entries : System → Event → List NamedEntry
 added_entries sys (event.Scan image t) = fault_entries (faults_of sys (event.Scan image t)) ++ change_entries sys.plant (changes_of sys (event.Scan image t))
-added_entries sys (event.Order console order) = named_order sys.plant console order (refusal_of (ordered sys console order)) ∷ change_entries sys.plant (changes_of sys (event.Order console order))
+added_entries sys (event.Order console order) = named_order sys.plant console order.verb order.target (refusal_of (ordered sys console order)) ∷ change_entries sys.plant (changes_of sys (event.Order console order))
 added_entries sys (event.Reload new) = reload_entry sys.plant new ∷ []
 
 -- the entries that a scan's report has, with the places of its faults

@@ -159,6 +159,13 @@ impl Engine {
         &self.state.delays
     }
 
+    /// How many reloads there were. An order is for the plant after so many.
+    pub fn reloads(&self) -> u32
+        ensures { result ≡ (state_of self.now).reloads }
+    {
+        self.state.reloads
+    }
+
     /// The moment of the last scan in milliseconds, 0 before the first.
     pub fn moment(&self) -> u64
         ensures moment { result ≡ (state_of self.now).moment }
@@ -350,7 +357,7 @@ impl Engine {
     }
 
     /// Adds an order that was made ready to the history, does it, and returns the reply: the change of the alarm's code if there is one,
-    /// or the refusal (O1 to O5). The order has a row in the journal, and so has that change. A refused order is in the history too, and
+    /// or the refusal (O1 to O6). The order has a row in the journal, and so has that change. A refused order is in the history too, and
     /// changes no alarm and no program. It allocates nothing and can't fail.
     pub fn commit_order(&mut self, prepared: PreparedOrder) -> Reply
         requires { FitsOrder self.old prepared }
@@ -410,7 +417,7 @@ impl Engine {
     /// Gives the order to restart the program of a number, from 0; `None` is for a program that isn't there. The program runs again from
     /// the next scan on, and no variable changes.
     ///
-    /// The replies are `Done(None)`, or in the order in which they are tested: O1 for no such program, O2 for a console that isn't
+    /// The order is for the present plant. The replies are `Done(None)`, or in the order in which they are tested: O1 for no such program, O2 for a console that isn't
     /// listed, O5 for a program that isn't faulted. The refusals are those of `prepare_order`.
     pub fn restart(
         &mut self,
@@ -419,14 +426,15 @@ impl Engine {
         program: Option<u32>,
     ) -> Result<Reply, EngineFault>
         ensures plant { self.new.plant ≡ self.old.plant }
-        ensures ok { OnOk result (self.new.history ≡ self.old.history ++ Event.Order console (restart_of program) ∷ []) }
-        ensures allowed { OnOk result (order_event (state_of self.old) console (restart_of program) ≡ Ok (Event.Order console (restart_of program))) }
-        ensures reply { IfOk result (λ r. r ≡ reply_to (state_of self.old) console (restart_of program)) }
-        ensures err { IfErr result (λ e. IsDue e (order_event (state_of self.old) console (restart_of program))) }
+        ensures ok { OnOk result (self.new.history ≡ self.old.history ++ Event.Order console (restart_of program (state_of self.old).reloads) ∷ []) }
+        ensures allowed { OnOk result (order_event (state_of self.old) console (restart_of program (state_of self.old).reloads) ≡ Ok (Event.Order console (restart_of program (state_of self.old).reloads))) }
+        ensures reply { IfOk result (λ r. r ≡ reply_to (state_of self.old) console (restart_of program (state_of self.old).reloads)) }
+        ensures err { IfErr result (λ e. IsDue e (order_event (state_of self.old) console (restart_of program (state_of self.old).reloads))) }
         ensures no_crew { IsNoCrews result }
         ensures kept { OnErr result (self.new.history ≡ self.old.history) }
         ensures row_room { OnErr result (self.old.row_room ≤ self.new.row_room) }
     {
-        self.order(alloc, console, Order::of(Verb::Restart, program))
+        let plant = self.reloads();
+        self.order(alloc, console, Order::of(Verb::Restart, program, plant))
     }
 }

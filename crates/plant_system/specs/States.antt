@@ -21,7 +21,7 @@ use Rattle.plant_system.specs.Reports.{PlainReport}
 use Rattle.plant_system.specs.System.{System, after_event, faults_of, changes_of, delays_of, outs_of, outputs_of, sites_of}
 use Rattle.plant_system.specs.Watches.{watches_of}
 
--- what is kept of a system beside its plant: the cells of the variables and clocks, the faulted programs, the area and priority of each alarm and what it watches, whether there was a scan, so that the alarms follow the cells, the alarms, their delays, the outputs and the last moment
+-- what is kept of a system beside its plant: the cells of the variables and clocks, the faulted programs, the area and priority of each alarm and what it watches, whether there was a scan, so that the alarms follow the cells, the alarms, their delays, the outputs, the last moment, and how many reloads there were
 pub record PlainState : Type 0 where
   pub cells : PlainCells
   pub faulted : List Bool
@@ -32,6 +32,7 @@ pub record PlainState : Type 0 where
   pub delays : PlainDelays
   pub outputs : List (ℕ × Value)
   pub moment : ℕ
+  pub reloads : ℕ
 
 -- of all scans that a system's alarms saw, what tells which conditions count
 abbrev pub delays_in : System → PlainDelays
@@ -48,6 +49,7 @@ pub record IsState (sys : System) (k : PlainState) : Type 0 where
   pub delays_are : k.delays ≡ delays_in sys
   pub outputs_are : k.outputs ≡ outputs_of sys
   pub moment_is : k.moment ≡ sys.moment
+  pub reloads_is : k.reloads ≡ sys.reloads
   pub in_range : k.moment ≤ LAST_MOMENT
 
 -- a report is what an event did: its moment, the faults in program order, the changes in the order of the database, and the outputs that it changed in order of declaration; the plant has each path, each alarm and each global that it names by number

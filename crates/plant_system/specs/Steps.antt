@@ -26,7 +26,7 @@ use Rattle.plant_system.specs.States.{PlainState, PlainPrepared, PlainPreparedOr
 use Rattle.operator_orders.specs.declared.order.Order.{Order}
 use Rattle.alarm_delays.specs.Delays.{after_conditions}
 use Rattle.alarm_watch.specs.Watched.{Follow, alarms_watched, watched_conditions}
-use Rattle.plant_system.specs.Orders.{order_outcome, reply_by}
+use Rattle.plant_system.specs.Orders.{order_outcome, unless_old, reply_by}
 
 -- an output, with the value that it has now
 abbrev pub output_in : (ℕ → ℤ) → ℕ × Value → ℕ × Value
@@ -73,6 +73,7 @@ pub record ScanRan (plant : PlainPlant) (old : PlainState) (image : List (ℕ ×
   pub faults_within : All (λ f. f.0.path < length (paths_of plant.source)) r.faults
   pub sites_are : new.sites ≡ old.sites
   pub watches_are : new.watches ≡ old.watches
+  pub reloads_are : new.reloads ≡ old.reloads
   pub follow : Follow (value_at new.cells) new.watches new.delays new.alarms
   pub alarms_are : new.alarms ≡ alarms_watched (value_at new.cells) t old.watches old.delays old.alarms
   pub delays_are : new.delays ≡ after_conditions (watched_conditions (value_at new.cells) old.watches) t old.delays
@@ -94,5 +95,5 @@ pub record IsPreparedScan (plant : PlainPlant) (old : PlainState) (events : ℕ)
 pub record IsPreparedOrder (plant : PlainPlant) (k : PlainState) (console : ℕ) (order : Order) (p : PlainPreparedOrder) : Type 0 where
   pub console_is : p.console ≡ console
   pub order_is : p.order ≡ order
-  pub done_is : p.done ≡ order_outcome plant k.alarms k.faulted k.moment console order
+  pub done_is : p.done ≡ unless_old k.reloads order (order_outcome plant k.alarms k.faulted k.moment console order)
   pub reply_is : p.reply ≡ reply_by p.done k.alarms

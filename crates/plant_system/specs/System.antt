@@ -37,10 +37,10 @@ use Rattle.plant_system.specs.declared.state.Effect.{Effect}
 use Rattle.scan_logic.specs.Scans.{Scanned}
 use Rattle.plant_system.specs.Programs.{opening_faulted, global_in, world_after}
 use Rattle.plant_system.specs.Image.{image_of}
-use Rattle.plant_system.specs.Orders.{order_outcome, alarms_by, faulted_by, reply_by}
+use Rattle.plant_system.specs.Orders.{order_outcome, unless_old, alarms_by, faulted_by, reply_by}
 use Rattle.plant_system.specs.Reloads.{kept_numbers, news_of, numbers_of, same_numbers}
 
--- the whole state: the plant, the variables' values and the calls of standard blocks, for each program whether it is faulted, the alarms, the scans as each alarm saw them, the last scan's moment, and how many events there were
+-- the whole state: the plant, the variables' values and the calls of standard blocks, for each program whether it is faulted, the alarms, the scans as each alarm saw them, the last scan's moment, and how many events and how many reloads there were
 pub record System : Type 0 where
   pub plant : PlainPlant
   pub world : World
@@ -49,6 +49,7 @@ pub record System : Type 0 where
   pub scans : List (List Call)
   pub moment : ℕ
   pub events : ℕ
+  pub reloads : ℕ
 
 -- an alarm before the first event
 abbrev pub opening_alarm : AlarmRow → PlainAlarm
@@ -68,6 +69,7 @@ opening_system plant = record {
   scans = map no_scans plant.alarms;
   moment = 0;
   events = 0;
+  reloads = 0;
 }
 
 -- the conditions of alarms, by the globals' values
@@ -104,7 +106,7 @@ after_scan_event sys image t =
 
 -- what an order does in a state, or why it is refused
 abbrev pub ordered : System → ℕ → Order → Result Effect OrderFault
-ordered sys console order = order_outcome sys.plant sys.alarms sys.faulted sys.moment console order
+ordered sys console order = unless_old sys.reloads order (order_outcome sys.plant sys.alarms sys.faulted sys.moment console order)
 
 -- an order: a refused one is an event too, and changes no alarm and no program
 abbrev pub after_order_event : System → ℕ → Order → System
@@ -127,6 +129,7 @@ after_reload_event sys new = record {
   scans = map (kept_scans sys.scans) (kept_numbers sys.plant new);
   moment = sys.moment;
   events = sys.events + 1;
+  reloads = sys.reloads + 1;
 }
 
 -- one event is one step, by the plant that the system holds

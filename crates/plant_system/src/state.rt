@@ -38,6 +38,8 @@ pub struct State {
     pub follows: bool,
     /// The outputs and their values, in order of declaration.
     pub outputs: Vec<(u32, Value)>,
+    /// How many reloads there were.
+    pub reloads: u32,
 }
 
 impl Model for State {
@@ -45,7 +47,7 @@ impl Model for State {
 
     ghost Value = { PlainState };
 
-    ghost view = { λ s. record { cells = s.cells; faulted = s.faulted.items; sites = s.bank.sites; watches = s.watches; follows = s.follows; alarms = s.bank.alarms; delays = s.delays; outputs = s.outputs.items; moment = s.bank.moment } };
+    ghost view = { λ s. record { cells = s.cells; faulted = s.faulted.items; sites = s.bank.sites; watches = s.watches; follows = s.follows; alarms = s.bank.alarms; delays = s.delays; outputs = s.outputs.items; moment = s.bank.moment; reloads = s.reloads } };
 }
 
 /// What a scan does to a state.
@@ -129,6 +131,7 @@ pub fn opening_state(alloc: Global, plant: &Plant) -> Result<State, AllocError>
         watches,
         follows: false,
         outputs,
+        reloads: 0,
     })
 }
 

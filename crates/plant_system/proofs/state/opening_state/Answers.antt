@@ -22,6 +22,7 @@ returns-clause-state c =
     c.in_ok-delays.ensures
     (rw globals at c.in_ok-outputs.ensures)
     (ap (λ (b : PlainBank). b.moment) c.in_ok-bank.ensures)
+    refl
 
 pub returns-clause-is_plant : goal.returns-clause-is_plant
 returns-clause-is_plant c = c.logic-logic.ensures.plant
