@@ -11,7 +11,7 @@ use Rattle.alarm_machine.specs.declared.states.OrderFault.{OrderFault}
 use Rattle.alarm_machine.specs.Codes.{PlainChange, code_of, change_between}
 use Rattle.alarm_machine.specs.Alarms.{PlainAlarm}
 use Rattle.alarm_bank.specs.declared.rows.Site.{Site}
-use Rattle.alarm_bank.specs.Banks.{IsSite}
+use Rattle.alarm_bank.specs.Banks.{IsSite, PlainBank}
 use Rattle.alarm_bank.specs.Moves.{put_all, changes_from}
 use Rattle.alarm_bank.specs.Reloads.{alarm_of}
 use Rattle.alarm_bank.proofs.BankLaws.{scan_each_length}
@@ -20,7 +20,7 @@ use Rattle.plant_logic.specs.declared.logic.Variable.{Variable}
 use Rattle.plant_logic.specs.Source.{Source}
 use Rattle.plant_logic.specs.Worlds.{World, opening, run_program}
 use Rattle.plant_logic.specs.Paths.{paths_of, path_text}
-use Rattle.plant_cells.specs.Cells.{value_at}
+use Rattle.plant_cells.specs.Cells.{PlainCells, value_at}
 use Rattle.block_frames.specs.Stands.{StandFor}
 use Rattle.plant_walk.specs.Sound.{IsSound}
 use Rattle.plant_config.specs.declared.rows.AlarmRow.{AlarmRow}
@@ -49,7 +49,7 @@ use Rattle.plant_types.specs.Values.{is_true}
 use Rattle.plant_system.proofs.Watches.{delays_by, kept_watched, step_watched}
 use Rattle.plant_system.specs.Watches.{watches_of}
 use Rattle.plant_system.specs.Reports.{PlainReport}
-use Rattle.plant_system.specs.States.{PlainState, PlainScanEffect, PlainPreparedOrder, after_effect, delays_in, IsState, IsReport}
+use Rattle.plant_system.specs.States.{PlainState, PlainScanEffect, PlainPreparedOrder, after_effect, delays_in, unscanned, IsState, IsReport}
 use Rattle.scan_logic.specs.Runs.{ProgramsRan}
 use Rattle.plant_system.specs.Steps.{ScanRan}
 use Rattle.plant_system.proofs.CellWorlds.{inputs_stand, values_stand, alarms_same, scans_same, outputs_stand, outs_stand}
@@ -347,20 +347,23 @@ sites_there plant is =
     (All-weaker (IsAlarmRow plant) (λ row. IsSite (length plant.areas) (site row)) (λ row there. record { area = there.area; lowest = there.lowest; highest = there.highest }) plant.alarms is.alarms)
 
 -- before the first event
-pub opening_agrees : (plant : PlainPlant) (k : PlainState) → StandFor plant.source k.cells (opening plant.source) → k.faulted ≡ opening_faulted (programs_of plant) → k.sites ≡ sites_of plant.alarms → k.watches ≡ watches_of plant.alarms → k.follows ≡ false → k.alarms ≡ map opening_alarm plant.alarms → k.delays ≡ delays_in (opening_system plant) → k.outputs ≡ outputs_from 0 plant.source.globals (value_at k.cells) → k.moment ≡ 0 → k.reloads ≡ 0 → IsState (opening_system plant) k
-opening_agrees plant k stands faulted sites watches never alarms delays outputs moment reloads = record {
-  world_stands = stands;
-  faulted_is = faulted;
-  sites_are = sites;
-  watches_are = watches;
-  follow = λ is. absurd (let both : true ≡ false = sym is ∙ never in cc);
-  alarms_are = alarms;
-  delays_are = delays;
-  outputs_are = outputs ∙ outputs_stand plant.source (value_at k.cells) (global_in (globals_of plant) (opening plant.source)) (values_stand plant.source k.cells (opening plant.source) stands);
-  moment_is = moment;
-  reloads_is = reloads;
-  in_range = rw moment (omega arith);
-}
+pub opening_agrees : (plant : PlainPlant) (cells : PlainCells) (bank : PlainBank) (delays : PlainDelays) → StandFor plant.source cells (opening plant.source)
+    → bank ≡ record { sites = sites_of plant.alarms; alarms = map opening_alarm plant.alarms; moment = 0 } → delays ≡ delays_in (opening_system plant) → IsState (opening_system plant) (unscanned plant cells bank delays 0)
+opening_agrees plant cells bank delays stands bank_is delays_are =
+    let moment : bank.moment ≡ 0 = ap (λ (b : PlainBank). b.moment) bank_is in
+    record {
+      world_stands = stands;
+      faulted_is = refl;
+      sites_are = ap (λ (b : PlainBank). b.sites) bank_is;
+      watches_are = refl;
+      reloads_is = refl;
+      follow = λ is. absurd (let never : false ≡ true = is in cc);
+      alarms_are = ap (λ (b : PlainBank). b.alarms) bank_is;
+      delays_are = delays_are;
+      outputs_are = outputs_stand plant.source (value_at cells) (global_in (globals_of plant) (opening plant.source)) (values_stand plant.source cells (opening plant.source) stands);
+      moment_is = moment;
+      in_range = rw moment (omega arith);
+    }
 
 -- an order where the history has room
 pub order_event_room : (plant : PlainPlant) (history : List Event) (console : ℕ) (order : Order) → length history < MOST_EVENTS → order_event (system plant history) console order ≡ Ok (event.Order console order)
