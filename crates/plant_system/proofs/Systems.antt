@@ -280,16 +280,15 @@ scan_reports sys old new image t r is seen within each held made =
     }
 
 -- the event of a scan, by what an engine keeps and how many events there were
-pub scan_event_is : (plant : PlainPlant) (history : List Event) (k : PlainState) (n : ℕ) (pairs : List PlainPair) (t : ℕ) → NoReload history → IsState (system plant history) k → n ≡ length history → taken_scan (globals_of plant) k.moment n pairs t ≡ scan_event (system plant history) pairs t
-scan_event_is plant history k n pairs t stays held is =
-    let own = system_keeps_its_plant plant history stays in
+pub scan_event_is : (plant now : PlainPlant) (history : List Event) (k : PlainState) (n : ℕ) (pairs : List PlainPair) (t : ℕ) → (system plant history).plant ≡ now → IsState (system plant history) k → n ≡ length history
+    → taken_scan (globals_of now) k.moment n pairs t ≡ scan_event (system plant history) pairs t
+scan_event_is plant now history k n pairs t own held is =
     let events = is ∙ sym (system_events plant history) in
     λ i. taken_scan (globals_of (sym own i)) (held.moment_is i) (events i) pairs t
 
 -- the event of a reload, by what an engine keeps
-pub reload_event_is : (plant : PlainPlant) (history : List Event) (n : ℕ) (new : PlainPlant) → NoReload history → n ≡ length history → taken_reload plant n new ≡ reload_event (system plant history) new
-reload_event_is plant history n new stays is =
-    let own = system_keeps_its_plant plant history stays in
+pub reload_event_is : (plant now : PlainPlant) (history : List Event) (n : ℕ) (new : PlainPlant) → (system plant history).plant ≡ now → n ≡ length history → taken_reload now n new ≡ reload_event (system plant history) new
+reload_event_is plant now history n new own is =
     let events = is ∙ sym (system_events plant history) in
     λ i. taken_reload (sym own i) (events i) new
 
