@@ -149,17 +149,18 @@ pub reload_state : (e : PlainEngine) (p : PlainPreparedReload) → FitsReload e 
 reload_state e p fits = subst (λ (s : System). IsState s p.state) (sym (system_next e.plant e.history (event.Reload p.plant))) fits.state_is
 
 -- and its journal
-pub reload_committed : (e : PlainEngine) (p : PlainPreparedReload) (k : PlainState) (log : PlainLog) → IsState (state_of e) k → FitsReload e p → IsJournal e.plant e.history log.rows
-    → IsJournal e.plant (e.history ++ event.Reload p.plant ∷ []) (after_entry k.moment log (entry.Reload p.kept p.fresh)).rows
-reload_committed e p k log held fits journal =
-    subst (λ m. IsJournal e.plant (e.history ++ event.Reload p.plant ∷ []) (after_entry m log (entry.Reload p.kept p.fresh)).rows) (sym held.moment_is)
+pub reload_committed : (e : PlainEngine) (p : PlainPreparedReload) (log : PlainLog) (moment : ℕ) → moment ≡ (state_of e).moment → FitsReload e p → IsJournal e.plant e.history log.rows
+    → IsJournal e.plant (e.history ++ event.Reload p.plant ∷ []) (after_entry moment log (entry.Reload p.kept p.fresh)).rows
+reload_committed e p log moment at fits journal =
+    subst (λ m. IsJournal e.plant (e.history ++ event.Reload p.plant ∷ []) (after_entry m log (entry.Reload p.kept p.fresh)).rows) (sym at)
     (reload_journal e.plant e.history p.plant p.kept p.fresh log fits.told journal)
 
-pub reload_until : (e : PlainEngine) (p : PlainPreparedReload) (k : PlainState) (log : PlainLog) → IsState (state_of e) k → FitsReload e p → All (λ row. row.moment ≤ k.moment) log.rows
-    → All (λ row. row.moment ≤ p.state.moment) (after_entry k.moment log (entry.Reload p.kept p.fresh)).rows
-reload_until e p k log held fits until =
-    let same : k.moment ≡ p.state.moment = held.moment_is ∙ sym fits.state_is.moment_is in
-    subst (λ m. All (λ (row : Row). row.moment ≤ m) (after_entry k.moment log (entry.Reload p.kept p.fresh)).rows) same (until_after k.moment k.moment log (entry.Reload p.kept p.fresh ∷ []) (omega arith) until)
+pub reload_until : (e : PlainEngine) (p : PlainPreparedReload) (k : PlainState) (log : PlainLog) (moment : ℕ) → moment ≡ (state_of e).moment → IsState (state_of e) k → FitsReload e p → All (λ row. row.moment ≤ k.moment) log.rows
+    → All (λ row. row.moment ≤ p.state.moment) (after_entry moment log (entry.Reload p.kept p.fresh)).rows
+reload_until e p k log moment at held fits until =
+    let same : moment ≡ p.state.moment = at ∙ sym fits.state_is.moment_is in
+    subst (λ m. All (λ (row : Row). row.moment ≤ m) (after_entry moment log (entry.Reload p.kept p.fresh)).rows) same
+    (until_after k.moment moment log (entry.Reload p.kept p.fresh ∷ []) (omega (arith, at, held.moment_is)) until)
 
 -- the plants of its rows: the row of the reload is the last one of the plant whose place it takes
 pub reload_past : (e : PlainEngine) (new now : PlainPlant) (past : List PastPlant) (rows : List Row) (last : ℕ) → (state_of e).plant ≡ now → IsJournal e.plant e.history rows → last ≡ length rows + 1 → ArePast (row_plants e.plant e.history) past now

@@ -10,13 +10,14 @@ use Rattle.event_history.specs.declared.event.Event.TheVariants as event
 use Rattle.operator_orders.specs.declared.order.Order.{Order}
 use Rattle.plant_system.specs.declared.event.TheConstants.{MOST_EVENTS}
 use Rattle.plant_system.specs.Orders.{order_outcome, unless_old, alarms_by, faulted_by, reply_by}
-use Rattle.plant_system.specs.System.{System, opening_system, after_event, after_scan_event, scan_event, ordered, system, taken_reload}
+use Rattle.plant_system.specs.System.{System, opening_system, after_event, after_scan_event, scan_event, reload_event, ordered, system}
 use Rattle.plant_system.specs.States.{PlainState, PlainPrepared, PlainPreparedOrder, IsState, IsReport, after_effect}
 use Rattle.plant_system.specs.Steps.{ScanRan, IsPreparedScan, IsPreparedOrder, IsReadyReload}
 use Rattle.plant_system.specs.declared.reloading.ReadyReload.{ReadyReload}
 use Rattle.plant_system.specs.Reloads.{fresh_count, kept_count, kept_numbers}
 use Rattle.plant_system.proofs.Images.{taken_within}
-use Rattle.plant_system.proofs.Systems.{reload_event_is, system_next, system_none, system_scans, kept_alarms, scan_agrees, scan_reports, scan_event_is, effect_anywhere, order_steps, order_event_room}
+use Rattle.plant_system.proofs.Reloading.{reload_found}
+use Rattle.plant_system.proofs.Systems.{system_events, system_next, system_reloads, system_none, system_scans, kept_alarms, scan_agrees, scan_reports, scan_event_is, effect_anywhere, order_steps, order_event_room}
 use Rattle.engine.specs.Lawful.{IsTaken}
 use Rattle.engine.specs.Engines.{PlainEngine, Fits, FitsOrder, FitsReload, IsEngine, state_of}
 use Rattle.engine.specs.Past.{ArePast}
@@ -70,18 +71,27 @@ order_fits e now k console order p own held made few rows_there =
     }
 
 -- a reload that was made ready from what an engine holds fits that engine, where there is room for its row and for the plant whose place it takes
-pub reload_fits : (e : PlainEngine) (now new : PlainPlant) (k : PlainState) (events : ℕ) (r : ReadyReload) → (state_of e).plant ≡ now → IsState (state_of e) k → IsReadyReload now new k r → taken_reload now events new ≡ Ok (event.Reload new) → events ≡ length e.history → 1 ≤ e.row_room → 1 ≤ e.reload_room
+pub reload_fits : (e : PlainEngine) (now new : PlainPlant) (k : PlainState) (r : ReadyReload) → (state_of e).plant ≡ now → IsState (state_of e) k → IsReadyReload now new k r → reload_event (state_of e) new ≡ Ok (event.Reload new) → 1 ≤ e.row_room → 1 ≤ e.reload_room
     → FitsReload e (record { plant = new; state = r.state; kept = r.kept; fresh = r.fresh })
-reload_fits e now new k events r own held made taken counted rows_there there =
+reload_fits e now new k r own held made taken rows_there there =
     let sys = state_of e in
     let kept : kept_numbers now new ≡ kept_numbers sys.plant new = ap (λ (p : PlainPlant). kept_numbers p new) (sym own) in
     record {
       state_is = made.state_is sys own held;
       told = record { kept_is = made.kept_is ∙ ap kept_count kept; fresh_is = made.fresh_is ∙ ap fresh_count kept };
-      taken = (sym (reload_event_is e.plant now e.history events new own counted) ∙ taken, made.plant_is);
+      taken = (taken, made.plant_is);
       row_room = rows_there;
       reload_room = there;
     }
+
+-- and there were few reloads before
+pub reload_few : (e : PlainEngine) (new : PlainPlant) (k : PlainState) → IsState (state_of e) k → reload_event (state_of e) new ≡ Ok (event.Reload new) → k.reloads < MOST_EVENTS
+reload_few e new k held taken =
+    let sys = state_of e in
+    let found = reload_found sys.plant sys.events new taken in
+    let events = system_events e.plant e.history in
+    let few = system_reloads e.plant e.history in
+    omega (arith, found.room, events, few, held.reloads_is)
 
 -- before the first event
 pub opening_engine : (plant : PlainPlant) (k : PlainState) → IsPlant plant → IsState (opening_system plant) k → IsEngine plant [] [] k plant []

@@ -1,6 +1,7 @@
 -- The plant of a row is found among those whose place another one took.
 use Rattle.std.proofs.Common.{◌≡◌, ℕ, zero, suc, ◌+◌, ◌<◌, ◌≤◌, if◌then◌else◌, Bool, true, false, List, [], ◌∷◌, ◌++◌, length, length-append, replicate, All, drop, refl, ap, sym, ◌∙◌, subst, arith, inl, inr, Option, Some, None}
 use Rattle.std.specs.Prelude.{nat_le, slice_get}
+use Rattle.std.specs.Option.{option_map_or}
 use Rattle.std.proofs.lemmas.Option.{same_Some, slice_get_cases, slice_get_within}
 use Rattle.std.proofs.lemmas.List.{drop_all}
 use Rattle.std.proofs.lemmas.List.Elements.{All-nil, All-head, All-tail, All-push, All-weaker}
@@ -38,7 +39,7 @@ pub found_none : (past : List PastPlant) (n number : ℕ) (present : PlainPlant)
 found_none past n number present all = ap (λ (l : List PastPlant). plant_at l present number) (drop_all n past all)
 
 pub placed_here : (past : List PastPlant) (at : ℕ) (p : PastPlant) (present : PlainPlant) → slice_get past at ≡ Some p → placed past (Some at) present ≡ p.plant
-placed_here past at p present is = ap (λ (o : Option PastPlant). elim o [ None ↦ present | Some (x : PastPlant) ↦ x.plant ]) is
+placed_here past at p present is = ap (λ (o : Option PastPlant). option_map_or (λ (x : PastPlant). x.plant) o present) is
 
 -- past the last rows of all earlier ones it is the present one
 pub past_all : (past : List PastPlant) (present : PlainPlant) (m number : ℕ) → All (λ (p : PastPlant). p.last ≤ m) past → m < number → plant_at past present number ≡ present

@@ -376,7 +376,7 @@ impl Engine {
     {
         let PreparedReload { plant, ready } = prepared;
         let ReadyReload { state, kept, fresh } = ready;
-        let moment = self.state.bank.moment();
+        let moment = self.moment();
         self.log.push(moment, Entry::Reload { kept, fresh });
         self.history.push(&Event::Reload(Shown::of(&plant)));
         let last = self.log.len();

@@ -3,7 +3,8 @@
 ghost use Rattle.std.specs.Prelude.{◌≡◌, ◌<◌, IfOk, length};
 ghost use Rattle.alarm_bank.specs.Reloads.{bank_reloaded};
 ghost use Rattle.alarm_delays.specs.Delays.{reloaded as delays_reloaded};
-ghost use Rattle.plant_system.specs.Reloads.{kept_numbers, kept_of, news_of};
+ghost use Rattle.plant_config.specs.Plants.{IsPlant};
+ghost use Rattle.plant_system.specs.Reloads.{kept_numbers, news_of};
 ghost use Rattle.plant_system.specs.States.{bank_in};
 ghost use Rattle.plant_system.specs.Steps.{IsReady, IsReadyReload};
 ghost use Rattle.plant_system.specs.System.{delays_of};
@@ -38,6 +39,7 @@ fn bank_after(
     news: &[NewAlarm],
 ) -> Result<Bank, AllocError>
     requires each { length state.now.alarms ≡ length plant.now.alarms }
+    requires plant { IsPlant new.now }
     requires news { news.now ≡ news_of plant.now new.now }
     ensures { IfOk result (λ bank. bank ≡ bank_reloaded news.now (bank_in state.now)) }
 {
@@ -70,11 +72,12 @@ pub fn ready_reload(
     requires room { state.now.reloads < MOST_EVENTS }
     ensures { IfOk result (IsReadyReload plant.now new.now state.now) }
 {
+    let logic = new.logic();
     let news = news_of(alloc, plant, new)?;
     let kept = kept_of(alloc, news.as_slice())?;
     let bank = bank_after(alloc, plant, state, new, news.as_slice())?;
     let delays = delays_after(alloc, plant, state, new, kept.as_slice())?;
-    let cells = carry(alloc, plant.logic(), &state.cells, new.logic())?;
+    let cells = carry(alloc, plant.logic(), &state.cells, logic)?;
     let reloads = state.reloads + 1;
     let state = state_with(alloc, new, cells, bank, delays, reloads)?;
     Ok(ReadyReload {
