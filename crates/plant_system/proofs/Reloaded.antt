@@ -11,7 +11,7 @@ use Rattle.alarm_bank.specs.declared.rows.NewAlarm.{NewAlarm}
 use Rattle.alarm_bank.specs.declared.rows.Site.{Site}
 use Rattle.alarm_bank.specs.Banks.{PlainBank}
 use Rattle.alarm_bank.specs.Reloads.{alarm_of, all_fit, bank_reloaded, is_there, sites_of as sites_of_news}
-use Rattle.alarm_delays.specs.Delays.{PlainDelays, reloaded as delays_reloaded}
+use Rattle.alarm_delays.specs.Delays.{PlainDelays, delays_reloaded}
 use Rattle.alarm_delays.proofs.Keeping.{kept_agree}
 use Rattle.plant_logic.specs.Worlds.{World}
 use Rattle.plant_logic.specs.Carried.{carried}

@@ -2,7 +2,7 @@
 
 ghost use Rattle.std.specs.Prelude.{◌≡◌, ◌<◌, IfOk, length};
 ghost use Rattle.alarm_bank.specs.Reloads.{bank_reloaded};
-ghost use Rattle.alarm_delays.specs.Delays.{reloaded as delays_reloaded};
+ghost use Rattle.alarm_delays.specs.Delays.{delays_reloaded};
 ghost use Rattle.plant_config.specs.Plants.{IsPlant};
 ghost use Rattle.plant_system.specs.Reloads.{kept_numbers, news_of};
 ghost use Rattle.plant_system.specs.States.{bank_in};
