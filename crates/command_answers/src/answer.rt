@@ -273,7 +273,7 @@ fn answer_order(
 {
     engine.keeps_its_plant();
     let last = engine.moment();
-    let order = Order::of(verb, target_of(engine.plant(), verb, word));
+    let order = Order::of(verb, target_of(engine.plant(), verb, word), 0);
     match engine.order(alloc, console, order) {
         Ok(reply) => {
             engine.keeps_its_plant();
