@@ -39,11 +39,11 @@ use Rattle.scan_logic.specs.Scans.{Scanned, after_run, programs_from}
 use Rattle.plant_system.specs.Programs.{opening_faulted, with_inputs, global_in, world_after}
 use Rattle.plant_system.specs.Orders.{order_outcome, unless_old, alarms_by, faulted_by}
 use Rattle.plant_system.specs.Reloads.{kept_number, kept_numbers, new_of, news_of}
-use Rattle.plant_system.specs.System.{System, system, after_event, taken_scan, scan_event, order_event, taken_reload, reload_event, opening_system, opening_alarm, scanned_by, after_scan_event, after_order_event, ordered, conditions, delays_of, kept_scans, no_scans, suppressions, scans_after, alarms_after, sites_of, outputs_from, out_at, outs_from}
+use Rattle.plant_system.specs.System.{System, system, after_event, taken_scan, scan_event, order_event, taken_reload, reload_event, opening_system, opening_alarm, scanned_by, after_scan_event, after_order_event, ordered, conditions, delays_of, no_scans, suppressions, scans_after, alarms_after, sites_of, outputs_from, out_at, outs_from}
 use Rattle.alarm_watch.specs.declared.watched.Watch.{Watch}
 use Rattle.alarm_watch.specs.Watched.{Follow, alarms_watched, watched_conditions}
 use Rattle.std_blocks.specs.Calls.{Call}
-use Rattle.alarm_delays.specs.Delays.{PlainDelays, after_conditions, after_met, counts}
+use Rattle.alarm_delays.specs.Delays.{PlainDelays, after_conditions, after_met, counts, kept_scans}
 use Rattle.alarm_delays.proofs.DelayLaws.{length_scans}
 use Rattle.plant_types.specs.Values.{is_true}
 use Rattle.plant_system.proofs.Watches.{delays_by, kept_watched, step_watched}

@@ -1,5 +1,5 @@
 -- The system: it holds its plant, and each event is a step from system to system.
-use Rattle.std.specs.Prelude.{ℕ, ◌+◌, ◌==◌, ℤ, nat_lt, nat_le, Bool, true, false, not, if◌then◌else◌, List, [], ◌∷◌, map, fold, Option, Some, None, Result, Ok, Err, slice_get, slice_index_or}
+use Rattle.std.specs.Prelude.{ℕ, ◌+◌, ◌==◌, ℤ, nat_lt, nat_le, Bool, true, false, not, if◌then◌else◌, List, [], ◌∷◌, map, fold, Option, Some, None, Result, Ok, Err, slice_get}
 use Rattle.std.specs.Ordering.{int_eq}
 use Rattle.plant_types.specs.Pairs.{PlainPair}
 use Rattle.plant_types.specs.Values.{is_true, value_of_kind}
@@ -15,7 +15,7 @@ use Rattle.alarm_machine.specs.declared.states.OrderFault.{OrderFault}
 use Rattle.alarm_machine.specs.Codes.{PlainChange}
 use Rattle.alarm_machine.specs.Alarms.{PlainAlarm, new_alarm}
 use Rattle.std_blocks.specs.Calls.{Call}
-use Rattle.alarm_delays.specs.Delays.{counts, scans_each}
+use Rattle.alarm_delays.specs.Delays.{counts, kept_scans, scans_each}
 use Rattle.alarm_bank.specs.declared.rows.Site.{Site}
 use Rattle.alarm_bank.specs.declared.rows.Counted.{Counted}
 use Rattle.alarm_bank.specs.Banks.{scan_each, counted}
@@ -113,11 +113,6 @@ abbrev pub after_order_event : System → ℕ → Order → System
 after_order_event sys console order =
     let done = ordered sys console order in
     record sys { faulted = faulted_by done sys.faulted; alarms = alarms_by done sys.alarms; events = sys.events + 1 }
-
--- the scans that an alarm of a new plant has seen: those of the old alarm as which it goes on, if there is one; else none
-abbrev pub kept_scans : List (List Call) → Option ℕ → List Call
-kept_scans scans None = []
-kept_scans scans (Some k) = slice_index_or scans k []
 
 -- a reload: the new plant, with what goes over of the variables and the calls of standard blocks, no program faulted, each alarm as it goes on or as before the first event, and the last moment as it is
 abbrev pub after_reload_event : System → PlainPlant → System
