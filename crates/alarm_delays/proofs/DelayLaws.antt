@@ -10,8 +10,8 @@ use Rattle.std_blocks.proofs.Steps.{ton_steps, ton_shows}
 use Rattle.alarm_machine.specs.Alarms.{PlainAlarm, after_scan}
 use Rattle.alarm_bank.specs.Banks.{scan_each}
 use Rattle.alarm_machine.specs.declared.limits.TheConstants.{LAST_MOMENT}
-use Rattle.alarm_bank.specs.Moves.{UnmarkedStay}
-use Rattle.alarm_delays.specs.Delays.{PlainDelays, PlainSeen, IsDelays, Wakes, ArePast, AreTold, have_none, told_since, seen_since, since_in, since_told, after_met, after_conditions, delayed, delayed_each, has_come, since_after, since_each, put_since, AreMet, ConditionsStay, RawStay, FollowsOn, scan_of, scans_each, since_of, counts}
+use Rattle.alarm_bank.specs.Moves.{AreMoved, UnmarkedStay}
+use Rattle.alarm_delays.specs.Delays.{PlainDelays, IsDelays, Wakes, ArePast, Follows, have_none, last_conditions, told_by, after_met, after_conditions, delayed, delayed_each, has_come, since_after, since_each, put_since, AreMet, ConditionsStay, RawStay, FollowsOn, scan_of, scans_each, since_of, counts}
 
 pub past_on : (last t : ℕ) (since : List (Option ℕ)) → last ≤ t → ArePast last since → ArePast t since
 past_on last t since h past n r at = let p = past n r at in omega (arith, h, p)
@@ -19,10 +19,9 @@ past_on last t since h past n r at = let p = past n r at in omega (arith, h, p)
 pub wakes_on : (last t : ℕ) (delays : List ℕ) (since : List (Option ℕ)) (due : List ℕ) → last ≤ t → Wakes last delays since due → Wakes t delays since due
 wakes_on last t delays since due h wakes n delay r d s early = wakes n delay r d s (omega (arith, h, early))
 
-pub delays_on : (delays : List ℕ) (since : List (Option ℕ)) (last t : ℕ) (due : List ℕ) (kept : List (Option ℕ)) (is_plain : Bool) → last ≤ t → t ≤ LAST_MOMENT → IsDelays delays since last due kept is_plain → IsDelays delays since t due kept is_plain
-delays_on delays since last t due kept is_plain h range is = record {
+pub delays_on : (delays : List ℕ) (since : List (Option ℕ)) (last t : ℕ) (due : List ℕ) (is_plain : Bool) → last ≤ t → t ≤ LAST_MOMENT → IsDelays delays since last due is_plain → IsDelays delays since t due is_plain
+delays_on delays since last t due is_plain h range is = record {
   each = is.each;
-  room = is.room;
   places = is.places;
   plain = is.plain;
   few = is.few;
@@ -55,64 +54,44 @@ index_other (y ∷ due) zero (suc n) key h = refl
 index_other (y ∷ due) (suc at) zero key h = refl
 index_other (y ∷ due) (suc at) (suc n) key h = index_other due at n key (λ e. h (ap suc e))
 
-put_past : (since : List (Option ℕ)) (last at : ℕ) (v : Option ℕ) → ArePast last since → ((r : ℕ) → v ≡ Some r → r ≤ last) → ArePast last (slice_set since at v)
-put_past since last at v was past n r e = elim (set_cases since at n v (Some r) e) [ inl p ↦ past r (sym p.1) | inr p ↦ was n r p.1 ]
+module _ (delays : List ℕ) (since : List (Option ℕ)) (last : ℕ) (due : List ℕ) (is_plain : Bool) (at : ℕ) (v : Option ℕ) (key : ℕ) (is : IsDelays delays since last due is_plain) (within : at < length delays)
+    (past : (r : ℕ) → v ≡ Some r → r ≤ last) (wakes : (delay r : ℕ) → slice_get delays at ≡ Some delay → v ≡ Some r → last - r < delay → key ≤ r + delay) where
+  put_past : ArePast last (slice_set since at v)
+  put_past n r e = elim (set_cases since at n v (Some r) e) [ inl p ↦ past r (sym p.1) | inr p ↦ is.past n r p.1 ]
 
-put_wakes : (delays : List ℕ) (since : List (Option ℕ)) (last : ℕ) (due : List ℕ) (at : ℕ) (v : Option ℕ) (key : ℕ) → at < length due → Wakes last delays since due
-    → ((delay r : ℕ) → slice_get delays at ≡ Some delay → v ≡ Some r → last - r < delay → key ≤ r + delay) → Wakes last delays (slice_set since at v) (slice_set due at key)
-put_wakes delays since last due at v key within was wakes n delay r d e early = elim (set_cases since at n v (Some r) e) [
-  | inl p ↦ let same = p.0 in let k = wakes delay r (ap (slice_get delays) (sym same) ∙ d) (sym p.1) early in
-      let index = ap (slice_index (slice_set due at key)) same ∙ index_same due at key within in omega (arith, k, index)
-  | inr p ↦ let k = was n delay r d p.1 early in let index = index_other due at n key p.0 in omega (arith, k, index)
-]
+  put_wakes : Wakes last delays (slice_set since at v) (slice_set due at key)
+  put_wakes n delay r d e early = elim (set_cases since at n v (Some r) e) [
+    | inl p ↦ let same = p.0 in let k = wakes delay r (ap (slice_get delays) (sym same) ∙ d) (sym p.1) early in
+        let index = ap (slice_index (slice_set due at key)) same ∙ index_same due at key (omega (arith, within, is.places)) in omega (arith, k, index)
+    | inr p ↦ let k = is.wakes n delay r d p.1 early in let index = index_other due at n key p.0 in omega (arith, k, index)
+  ]
 
--- a condition that is put in its place, with a moment by which it comes to count
-pub put_delays : (delays : List ℕ) (kept : List (Option ℕ)) (last : ℕ) (due : List ℕ) (is_plain : Bool) (count : ℕ) (seen : List PlainSeen) (at : ℕ) (v : Option ℕ) (key : ℕ) → is_plain ≡ false
-    → IsDelays delays (since_in is_plain count seen kept) last due kept is_plain → at < length delays
-    → ((r : ℕ) → v ≡ Some r → r ≤ last) → ((delay r : ℕ) → slice_get delays at ≡ Some delay → v ≡ Some r → last - r < delay → key ≤ r + delay)
-    → IsDelays delays (since_in is_plain count seen (slice_set kept at v)) last (slice_set due at key) (slice_set kept at v) is_plain
-put_delays delays kept last due true count seen at v key waits is within past wakes = absurd (cc waits)
-put_delays delays kept last due false count seen at v key waits is within past wakes = record {
-  each = length-set kept at v ∙ is.each;
-  room = length-set kept at v ∙ is.room;
-  places = length-set due at key ∙ is.places;
-  plain = is.plain;
-  few = is.few;
-  in_range = is.in_range;
-  past = put_past kept last at v is.past past;
-  wakes = put_wakes delays kept last due at v key (omega (arith, within, is.places)) is.wakes wakes;
-}
+  pub put_delays : IsDelays delays (slice_set since at v) last (slice_set due at key) is_plain
+  put_delays = record {
+    each = length-set since at v ∙ is.each;
+    places = length-set due at key ∙ is.places;
+    plain = is.plain;
+    few = is.few;
+    in_range = is.in_range;
+    past = put_past;
+    wakes = put_wakes;
+  }
 
--- and without one, where the alarm has no delay
-pub put_none : (delays : List ℕ) (kept : List (Option ℕ)) (last : ℕ) (due : List ℕ) (is_plain : Bool) (count : ℕ) (seen : List PlainSeen) (at : ℕ) (v : Option ℕ) → is_plain ≡ false
-    → IsDelays delays (since_in is_plain count seen kept) last due kept is_plain → slice_get delays at ≡ Some 0
-    → ((r : ℕ) → v ≡ Some r → r ≤ last) → IsDelays delays (since_in is_plain count seen (slice_set kept at v)) last due (slice_set kept at v) is_plain
-put_none delays kept last due true count seen at v waits is none past = absurd (cc waits)
-put_none delays kept last due false count seen at v waits is none past = record {
-  each = length-set kept at v ∙ is.each;
-  room = length-set kept at v ∙ is.room;
+-- of an alarm that has no delay no moment is awaited
+pub put_none : (delays : List ℕ) (since : List (Option ℕ)) (last : ℕ) (due : List ℕ) (is_plain : Bool) (at : ℕ) (v : Option ℕ) → IsDelays delays since last due is_plain → slice_get delays at ≡ Some 0
+    → ((r : ℕ) → v ≡ Some r → r ≤ last) → IsDelays delays (slice_set since at v) last due is_plain
+put_none delays since last due is_plain at v is none past = record {
+  each = length-set since at v ∙ is.each;
   places = is.places;
   plain = is.plain;
   few = is.few;
   in_range = is.in_range;
-  past = put_past kept last at v is.past past;
-  wakes = λ n delay r d e early. elim (set_cases kept at n v (Some r) e) [
+  past = λ n r e. elim (set_cases since at n v (Some r) e) [ inl p ↦ past r (sym p.1) | inr p ↦ is.past n r p.1 ];
+  wakes = λ n delay r d e early. elim (set_cases since at n v (Some r) e) [
     | inl p ↦ let zero_is : delay ≡ 0 = same_Some delay 0 (sym d ∙ ap (slice_get delays) p.0 ∙ none) in absurd (omega (arith, zero_is, early))
     | inr p ↦ is.wakes n delay r d p.1 early
   ];
 }
-
--- what contracts see of that
-pub put_seen : (is_plain : Bool) (count : ℕ) (seen : List PlainSeen) (kept : List (Option ℕ)) (last at : ℕ) (c : Bool) → is_plain ≡ false
-    → since_in is_plain count seen (slice_set kept at (since_after c last (slice_index_or kept at None))) ≡ put_since last (since_in is_plain count seen kept) (at, c)
-put_seen true count seen kept last at c waits = absurd (cc waits)
-put_seen false count seen kept last at c waits = refl
-
--- since when a condition is met after a scan is no later than that
-pub after_past : (c : Bool) (t : ℕ) (before : Option ℕ) (r : ℕ) → ((q : ℕ) → before ≡ Some q → q ≤ t) → since_after c t before ≡ Some r → r ≤ t
-after_past false t before r past e = absurd (cc e)
-after_past true t None r past e = let same : t ≡ r = cc e in omega (arith, same)
-after_past true t (Some q) r past e = past r e
 
 -- ---- plants in which no alarm has a delay
 
@@ -124,58 +103,17 @@ pub none_but : (d : ℕ) (ds : List ℕ) → 0 < d → have_none (d ∷ ds) ≡ 
 none_but zero ds e = absurd (omega (arith, e))
 none_but (suc d) ds e = refl
 
-pub none_each : (ds : List ℕ) (n delay : ℕ) → have_none ds ≡ true → slice_get ds n ≡ Some delay → delay ≡ 0
-none_each [] n delay none e = absurd (cc e)
-none_each (zero ∷ ds) zero delay none e = sym (same_Some 0 delay e)
-none_each (suc d ∷ ds) n delay none e = absurd (cc none)
-none_each (zero ∷ ds) (suc n) delay none e = none_each ds n delay none e
+pub none_at : (ds : List ℕ) (n : ℕ) → have_none ds ≡ true → n < length ds → slice_get ds n ≡ Some 0
+none_at [] n none h = absurd (omega (arith, h))
+none_at (suc d ∷ ds) n none h = absurd (cc none)
+none_at (zero ∷ ds) zero none h = refl
+none_at (zero ∷ ds) (suc n) none h = none_at ds n none (omega (arith, h))
 
-told_length : (cs : List Bool) (t : ℕ) (rs : List (Option ℕ)) → length (told_since cs t rs) ≡ length rs
-told_length [] t rs = refl
-told_length (c ∷ cs) t [] = refl
-told_length (c ∷ cs) t (r ∷ rs) = ap suc (told_length cs t rs)
-
-told_each : (cs : List Bool) (t : ℕ) (rs : List (Option ℕ)) → length cs ≡ length rs → told_since cs t rs ≡ since_each cs t rs
-told_each [] t [] e = refl
-told_each [] t (r ∷ rs) e = absurd (omega (arith, e))
-told_each (c ∷ cs) t [] e = refl
-told_each (c ∷ cs) t (r ∷ rs) e = ap (λ (l : List (Option ℕ)). since_after c t r ∷ l) (told_each cs t rs (omega (arith, e)))
-
-told_past : (cs : List Bool) (last t : ℕ) (rs : List (Option ℕ)) → last ≤ t → ArePast last rs → ArePast t (told_since cs t rs)
-told_past [] last t rs later past n r e = past_on last t rs later past n r e
-told_past (c ∷ cs) last t [] later past n r e = absurd (cc e)
-told_past (c ∷ cs) last t (q ∷ rs) later past zero r e = after_past c t q r (λ x is. past_on last t (q ∷ rs) later past 0 x (ap Some is)) (same_Some (since_after c t q) (Some r) e)
-told_past (c ∷ cs) last t (q ∷ rs) later past (suc n) r e = told_past cs last t rs later (λ m x h. past (suc m) x h) n r e
-
-fold_more : (f : List (Option ℕ) → PlainSeen → List (Option ℕ)) (rs : List (Option ℕ)) (xs : List PlainSeen) (x : PlainSeen) → fold f rs (xs ++ x ∷ []) ≡ f (fold f rs xs) x
-fold_more f rs [] x = refl
-fold_more f rs (y ∷ xs) x = fold_more f (f rs y) xs x
-
--- a scan that is seen
-pub see_since : (is_plain : Bool) (count : ℕ) (seen : List PlainSeen) (kept : List (Option ℕ)) (t : ℕ) (alarms : List PlainAlarm) → is_plain ≡ true
-    → since_in is_plain count (seen ++ record { moment = t; alarms = alarms } ∷ []) kept ≡ seen_since (since_in is_plain count seen kept) (record { moment = t; alarms = alarms })
-see_since true count seen kept t alarms plain = fold_more seen_since (replicate {A = Option ℕ} count None) seen (record { moment = t; alarms = alarms })
-see_since false count seen kept t alarms plain = absurd (cc plain)
-
-pub see_delays : (delays : List ℕ) (last t : ℕ) (due : List ℕ) (kept : List (Option ℕ)) (is_plain : Bool) (count : ℕ) (seen : List PlainSeen) (alarms : List PlainAlarm) → have_none delays ≡ true → last ≤ t → t ≤ LAST_MOMENT
-    → IsDelays delays (since_in is_plain count seen kept) last due kept is_plain → IsDelays delays (since_in is_plain count (seen ++ record { moment = t; alarms = alarms } ∷ []) kept) t due kept is_plain
-see_delays delays last t due kept is_plain count seen alarms none later range is =
-    let was = since_in is_plain count seen kept in
-    let cs : List Bool = map (λ (a : PlainAlarm). a.condition) alarms in
-    subst (λ (l : List (Option ℕ)). IsDelays delays l t due kept is_plain) (sym (see_since is_plain count seen kept t alarms (is.plain ∙ none))) (record {
-      each = told_length cs t was ∙ is.each;
-      room = is.room;
-      places = is.places;
-      plain = is.plain;
-      few = is.few;
-      in_range = range;
-      past = told_past cs last t was later is.past;
-      wakes = λ n delay r d e early. let zero_is = none_each delays n delay none d in absurd (omega (arith, zero_is, early));
-    })
-
-pub since_first : (is_plain : Bool) (count : ℕ) → since_in is_plain count [] (replicate {A = Option ℕ} count None) ≡ replicate {A = Option ℕ} count None
-since_first true count = refl
-since_first false count = refl
+-- since when a condition is met after a scan is no later than that
+pub after_past : (c : Bool) (t : ℕ) (before : Option ℕ) (r : ℕ) → ((q : ℕ) → before ≡ Some q → q ≤ t) → since_after c t before ≡ Some r → r ≤ t
+after_past false t before r past e = absurd (cc e)
+after_past true t None r past e = let same : t ≡ r = cc e in omega (arith, same)
+after_past true t (Some q) r past e = past r e
 
 -- ---- the conditions that count
 
@@ -215,27 +153,6 @@ come delay t r h = ap not (step h)
     step : delay ≤ t - r → nat_lt (t - r) delay ≡ false
     step h = grind (arith, nat_tests)
 
--- without a delay a condition counts at once
-none_delayed : (c : Bool) (t : ℕ) (r : Option ℕ) → delayed c 0 t r ≡ c
-none_delayed false t r = refl
-none_delayed true t None = come 0 t t (omega arith)
-none_delayed true t (Some q) = come 0 t q (omega arith)
-
--- by what is kept, which tells since when conditions have been met unless no alarm has a delay
-pub kept_delayed : (c : Bool) (delay t : ℕ) (is_plain : Bool) (delays : List ℕ) (count : ℕ) (seen : List PlainSeen) (kept : List (Option ℕ)) (at : ℕ) (k r : Option ℕ) → is_plain ≡ have_none delays → slice_get delays at ≡ Some delay
-    → slice_get kept at ≡ Some k → slice_get (since_in is_plain count seen kept) at ≡ Some r → delayed c delay t k ≡ delayed c delay t r
-kept_delayed c delay t true delays count seen kept at k r plain d ke re =
-    let zero_is : delay ≡ 0 = none_each delays at delay (sym plain) d in
-    (λ i. delayed c (zero_is i) t k) ∙ none_delayed c t k ∙ sym (none_delayed c t r) ∙ (λ i. delayed c (sym zero_is i) t r)
-kept_delayed c delay t false delays count seen kept at k r plain d ke re = ap (λ o. delayed c delay t o) (same_Some k r (sym ke ∙ re))
-
-pub none_counted : (cs : List Bool) (t : ℕ) (ds : List ℕ) (rs : List (Option ℕ)) → length cs ≡ length ds → length rs ≡ length ds → have_none ds ≡ true → delayed_each cs t ds rs ≡ cs
-none_counted [] t ds rs p q none = refl
-none_counted (c ∷ cs) t [] rs p q none = absurd (omega (arith, p))
-none_counted (c ∷ cs) t (d ∷ ds) [] p q none = absurd (omega (arith, q))
-none_counted (c ∷ cs) t (suc d ∷ ds) (r ∷ rs) p q none = absurd (cc none)
-none_counted (c ∷ cs) t (zero ∷ ds) (r ∷ rs) p q none = (λ i. none_delayed c t r i ∷ none_counted cs t ds rs (omega (arith, p)) (omega (arith, q)) none i)
-
 -- an alarm whose condition stays as it was, and doesn't come to count by time alone
 stays : (delay last t : ℕ) (r : Option ℕ) → ((q : ℕ) → r ≡ Some q → q ≤ last) → last ≤ t → ((q : ℕ) → r ≡ Some q → last - q < delay → t < q + delay) → delayed (is_some r) delay t r ≡ has_come delay last r
 stays delay last t None past h early = refl
@@ -245,29 +162,15 @@ stays delay last t (Some q) past h early =
       | inr came ↦ come delay t q (omega (arith, came, h)) ∙ sym (come delay last q (omega (arith, came)))
     ]
 
--- an alarm that isn't marked doesn't come to count by time alone
-abbrev pub AreAwaited : PlainDelays → ℕ → List Bool → Type 0
-AreAwaited d t marks = (n delay q : ℕ) → slice_get d.delays n ≡ Some delay → slice_get d.since n ≡ Some (Some q) → d.last - q < delay → slice_get marks n ≡ Some false → t < q + delay
+-- what awaits an alarm that isn't marked: its condition doesn't come to count by a moment
+abbrev pub NoneComes : PlainDelays → List Bool → ℕ → Type 0
+NoneComes d marks t = (n delay r : ℕ) → slice_get d.delays n ≡ Some delay → slice_get d.since n ≡ Some (Some r) → d.last - r < delay → slice_get marks n ≡ Some false → t < r + delay
 
-pub unmarked_stay : (d : PlainDelays) (marks marks' cs ss : List Bool) (t : ℕ) (alarms : List PlainAlarm) → length d.since ≡ length d.delays → ArePast d.last d.since → d.last ≤ t → length alarms ≡ length d.delays
-    → ((n : ℕ) → slice_get marks' n ≡ Some false → slice_get marks n ≡ Some false) → AreAwaited d t marks'
-    → RawStay marks cs ss d alarms → UnmarkedStay marks' (delayed_each cs t d.delays d.since) ss alarms
-unmarked_stay d marks marks' cs ss t alarms many past later each kept awaited raw n a unmarked at =
-    let within = slice_get_within alarms n a at in
-    let delay : ℕ = slice_index_or d.delays n 0 in
-    let r : Option ℕ = slice_index_or d.since n None in
-    let d_at : slice_get d.delays n ≡ Some delay = slice_get-get_or d.delays n 0 (omega (arith, within, each)) in
-    let r_at : slice_get d.since n ≡ Some r = slice_get-get_or d.since n None (omega (arith, within, each, many)) in
-    let was = kept n unmarked in
-    let c_at = raw.conditions n r was r_at in
-    let same = stays delay d.last t r (λ q e. past n q (r_at ∙ ap Some e)) later (λ q e waits. awaited n delay q d_at (r_at ∙ ap Some e) waits unmarked) in
-    (each_at cs t d.delays d.since n (is_some r) delay r c_at d_at r_at ∙ ap Some (same ∙ sym (raw.counted n was a delay r at d_at r_at)), raw.suppressions n a was at)
-
--- where those whose key has come are marked
-pub due_awaited : (d : PlainDelays) (due : List ℕ) (kept : List (Option ℕ)) (is_plain : Bool) (marks : List Bool) (t : ℕ) → IsDelays d.delays d.since d.last due kept is_plain
-    → ((n : ℕ) → n < length due → slice_index due n ≤ t → slice_get marks n ≡ Some false → ⊥) → AreAwaited d t marks
-due_awaited d due kept is_plain marks t is marked n delay q d_at r_at waits clear =
-    let wakes = is.wakes n delay q d_at r_at waits in
+-- that holds where the tree of moments has marked what it awaits
+pub none_comes : (d : PlainDelays) (due : List ℕ) (is_plain : Bool) (marks : List Bool) (t : ℕ) → IsDelays d.delays d.since d.last due is_plain
+    → ((n : ℕ) → n < length due → slice_index due n ≤ t → slice_get marks n ≡ Some false → ⊥) → NoneComes d marks t
+none_comes d due is_plain marks t is marked n delay r d_at r_at waits clear =
+    let wakes = is.wakes n delay r d_at r_at waits in
     let within = slice_get_within d.delays n delay d_at in
     elim (cases_lt t (slice_index due n)) [
       | inl sooner ↦ omega (arith, sooner, wakes)
@@ -275,27 +178,39 @@ due_awaited d due kept is_plain marks t is marked n delay q d_at r_at waits clea
     ]
 
 -- and where no alarm has a delay
-pub none_awaited : (d : PlainDelays) (marks : List Bool) (t : ℕ) → have_none d.delays ≡ true → AreAwaited d t marks
-none_awaited d marks t none n delay q d_at r_at waits clear = let zero_is = none_each d.delays n delay none d_at in absurd (omega (arith, zero_is, waits))
+pub none_awaited : (d : PlainDelays) (marks : List Bool) (t : ℕ) → have_none d.delays ≡ true → NoneComes d marks t
+none_awaited d marks t none n delay r d_at r_at waits clear =
+    let zero_is : delay ≡ 0 = same_Some delay 0 (sym d_at ∙ none_at d.delays n none (slice_get_within d.delays n delay d_at)) in absurd (omega (arith, zero_is, waits))
+
+pub unmarked_stay : (d : PlainDelays) (marks marks' cs ss : List Bool) (t : ℕ) (alarms : List PlainAlarm) → length d.since ≡ length d.delays → ArePast d.last d.since → d.last ≤ t → length alarms ≡ length d.delays
+    → ((n : ℕ) → slice_get marks' n ≡ Some false → slice_get marks n ≡ Some false) → NoneComes d marks' t
+    → RawStay marks cs ss d alarms → UnmarkedStay marks' (delayed_each cs t d.delays d.since) ss alarms
+unmarked_stay d marks marks' cs ss t alarms many past later each kept comes raw n a unmarked at =
+    let within = slice_get_within alarms n a at in
+    let delay : ℕ = slice_index_or d.delays n 0 in
+    let r : Option ℕ = slice_index_or d.since n None in
+    let d_at : slice_get d.delays n ≡ Some delay = slice_get-get_or d.delays n 0 (omega (arith, within, each)) in
+    let r_at : slice_get d.since n ≡ Some r = slice_get-get_or d.since n None (omega (arith, within, each, many)) in
+    let was = kept n unmarked in
+    let c_at = raw.conditions n r was r_at in
+    let same = stays delay d.last t r (λ q e. past n q (r_at ∙ ap Some e)) later (λ q e waits. comes n delay q d_at (r_at ∙ ap Some e) waits unmarked) in
+    (each_at cs t d.delays d.since n (is_some r) delay r c_at d_at r_at ∙ ap Some (same ∙ sym (raw.counted n was a delay r at d_at r_at)), raw.suppressions n a was at)
 
 pub none_more : (n : ℕ) → replicate {A = Option ℕ} n None ++ None ∷ [] ≡ replicate {A = Option ℕ} (suc n) None
 none_more zero = refl
 none_more (suc n) = ap (λ (xs : List (Option ℕ)). None ∷ xs) (none_more n)
 
-pub delays_none : (delays : List ℕ) (n m count : ℕ) (is_plain : Bool) → n ≡ length delays → m ≡ length delays → count ≡ length delays → length delays < 2 ^ 32 → is_plain ≡ have_none delays
-    → IsDelays delays (since_in is_plain count [] (replicate {A = Option ℕ} n None)) 0 (replicate m 18446744073709551615) (replicate {A = Option ℕ} n None) is_plain
-delays_none delays n m count is_plain n_is m_is count_is few plain =
-    subst (λ (l : List (Option ℕ)). IsDelays delays (since_in is_plain count [] l) 0 (replicate m 18446744073709551615) l is_plain) (ap (λ k. replicate {A = Option ℕ} k None) (count_is ∙ sym n_is))
-    (subst (λ (l : List (Option ℕ)). IsDelays delays l 0 (replicate m 18446744073709551615) (replicate {A = Option ℕ} count None) is_plain) (sym (since_first is_plain count)) (record {
-      each = length-replicate count None ∙ count_is;
-      room = length-replicate count None ∙ count_is;
-      places = length-replicate m 18446744073709551615 ∙ m_is;
-      plain = plain;
-      few = few;
-      in_range = omega arith;
-      past = λ k r e. absurd (none_since count k r e);
-      wakes = λ k delay r d e early. absurd (none_since count k r e);
-    }))
+pub delays_none : (delays : List ℕ) (n m : ℕ) (is_plain : Bool) → n ≡ length delays → m ≡ length delays → length delays < 2 ^ 32 → is_plain ≡ have_none delays
+    → IsDelays delays (replicate {A = Option ℕ} n None) 0 (replicate m 18446744073709551615) is_plain
+delays_none delays n m is_plain n_is m_is few plain = record {
+  each = length-replicate n None ∙ n_is;
+  places = length-replicate m 18446744073709551615 ∙ m_is;
+  plain = plain;
+  few = few;
+  in_range = omega arith;
+  past = λ k r e. absurd (none_since n k r e);
+  wakes = λ k delay r d e early. absurd (none_since n k r e);
+}
 
 -- ---- the conditions of some alarms
 
@@ -325,20 +240,6 @@ put_after t n before (c ∷ cs) (r ∷ rs) met e h =
 pub put_all : (t : ℕ) (cs : List Bool) (rs : List (Option ℕ)) (met : List (ℕ × Bool)) → AreMet 0 cs rs met → fold (put_since t) rs met ≡ since_each cs t rs
 put_all t cs rs met h = put_after t 0 [] cs rs met refl h
 
--- so what delays are told of a scan leaves them as its conditions do
-pub told_all : (cs : List Bool) (t : ℕ) (d : PlainDelays) (met : List (ℕ × Bool)) (alarms : List PlainAlarm) → AreTold cs d met alarms → after_met met t alarms d ≡ after_conditions cs t d
-told_all cs t d met alarms told = ap (λ l. record d { since = l; last = t }) (by_case (have_none d.delays) told.named told.seen)
-  where
-    by_case : (none : Bool) → (none ≡ false → AreMet 0 cs d.since met) → (none ≡ true → map (λ (a : PlainAlarm). a.condition) alarms ≡ cs) → since_told none met t alarms d.since ≡ since_each cs t d.since
-    by_case true named seen = ap (λ l. told_since l t d.since) (seen refl) ∙ told_each cs t d.since told.each
-    by_case false named seen = put_all t cs d.since met (named refl)
-
--- where no alarm has a delay it doesn't matter what is named
-pub seen_met : (met : List (ℕ × Bool)) (t : ℕ) (alarms : List PlainAlarm) (d : PlainDelays) → have_none d.delays ≡ true → after_met [] t alarms d ≡ after_met met t alarms d
-seen_met met t alarms d none =
-    (λ i. record d { since = since_told (none i) [] t alarms d.since; last = t })
-    ∙ (λ i. record d { since = since_told (sym none i) met t alarms d.since; last = t })
-
 pub past_set : (since : List (Option ℕ)) (at : ℕ) (v : Option ℕ) → length since ≤ at → slice_set since at v ≡ since
 past_set [] at v h = refl
 past_set (r ∷ since) zero v h = absurd (omega arith)
@@ -346,6 +247,131 @@ past_set (r ∷ since) (suc at) v h = ap (λ (xs : List (Option ℕ)). r ∷ xs)
 
 pub same_delays : (d old : PlainDelays) (since : List (Option ℕ)) (t : ℕ) → d.delays ≡ old.delays → d.since ≡ since → d.last ≡ t → d ≡ record old { since = since; last = t }
 same_delays d old since t a b e = λ i. record { delays = a i; since = b i; last = e i }
+
+-- ---- what two lists tell of a scan
+
+fold_on : (f : List (Option ℕ) → ℕ × Bool → List (Option ℕ)) (rs : List (Option ℕ)) (xs ys : List (ℕ × Bool)) → fold f (fold f rs xs) ys ≡ fold f rs (xs ++ ys)
+fold_on f rs [] ys = refl
+fold_on f rs (x ∷ xs) ys = fold_on f (f rs x) xs ys
+
+-- delays that have taken what is met, where some alarm has a delay
+pub met_taken : (d old : PlainDelays) (met : List (ℕ × Bool)) (t : ℕ) (moved : List (ℕ × PlainAlarm)) → have_none old.delays ≡ false → d.delays ≡ old.delays → d.since ≡ fold (put_since t) old.since met → d.last ≡ t
+    → d ≡ after_met met t moved old
+met_taken d old met t moved some a b e =
+    let since : d.since ≡ fold (put_since t) old.since (told_by (have_none old.delays) met moved) = b ∙ ap (λ (p : Bool). fold (put_since t) old.since (told_by p met moved)) (sym some) in
+    (λ i. record { delays = a i; since = since i; last = e i })
+
+-- and where none has, and the alarms that move are taken next
+pub moved_taken : (d old : PlainDelays) (met : List (ℕ × Bool)) (t : ℕ) (moved : List (ℕ × PlainAlarm)) → have_none old.delays ≡ true → d.delays ≡ old.delays → d.since ≡ fold (put_since t) old.since met → d.last ≡ t
+    → record d { since = fold (put_since d.last) d.since (last_conditions moved) } ≡ after_met met t moved old
+moved_taken d old met t moved none a b e =
+    let since : fold (put_since d.last) d.since (last_conditions moved) ≡ fold (put_since t) old.since (told_by (have_none old.delays) met moved) =
+    (λ i. fold (put_since (e i)) (b i) (last_conditions moved)) ∙ fold_on (put_since t) old.since met (last_conditions moved) ∙ ap (λ (p : Bool). fold (put_since t) old.since (told_by p met moved)) (sym none) in
+    (λ i. record { delays = a i; since = since i; last = e i })
+
+-- without a delay a condition counts at once
+none_delayed : (c : Bool) (t : ℕ) (r : Option ℕ) → delayed c 0 t r ≡ c
+none_delayed false t r = refl
+none_delayed true t None = come 0 t t (omega arith)
+none_delayed true t (Some q) = come 0 t q (omega arith)
+
+pub none_counted : (cs : List Bool) (t : ℕ) (ds : List ℕ) (rs : List (Option ℕ)) → length cs ≡ length ds → length rs ≡ length ds → have_none ds ≡ true → delayed_each cs t ds rs ≡ cs
+none_counted [] t ds rs p q none = refl
+none_counted (c ∷ cs) t [] rs p q none = absurd (omega (arith, p))
+none_counted (c ∷ cs) t (d ∷ ds) [] p q none = absurd (omega (arith, q))
+none_counted (c ∷ cs) t (suc d ∷ ds) (r ∷ rs) p q none = absurd (cc none)
+none_counted (c ∷ cs) t (zero ∷ ds) (r ∷ rs) p q none = (λ i. none_delayed c t r i ∷ none_counted cs t ds rs (omega (arith, p)) (omega (arith, q)) none i)
+
+-- an alarm whose last condition a scan leaves has the condition by which its delay is known
+abbrev pub AreKnown : List Bool → List PlainAlarm → List (Option ℕ) → Type 0
+AreKnown cs alarms rs = (n : ℕ) (c : Bool) (a : PlainAlarm) (r : Option ℕ) → slice_get cs n ≡ Some c → slice_get alarms n ≡ Some a → slice_get rs n ≡ Some r → c ≡ a.condition → c ≡ is_some r
+
+-- the alarms that a scan moves tell which conditions have changed, by the conditions that count
+pub moves_met : (n : ℕ) (cs ss : List Bool) (t : ℕ) (alarms : List PlainAlarm) (rs : List (Option ℕ)) (moved : List (ℕ × PlainAlarm)) → length cs ≡ length alarms → length ss ≡ length alarms → length rs ≡ length alarms
+    → AreKnown cs alarms rs → AreMoved n alarms (scan_each cs ss t alarms) moved → AreMet n cs rs (last_conditions moved)
+moves_met n [] ss t [] [] moved p q l known h = ap last_conditions h
+moves_met n [] ss t [] (r ∷ rs) moved p q l known h = absurd (omega (arith, l))
+moves_met n [] ss t (a ∷ alarms) rs moved p q l known h = absurd (omega (arith, p))
+moves_met n (c ∷ cs) ss t [] rs moved p q l known h = absurd (omega (arith, p))
+moves_met n (c ∷ cs) [] t (a ∷ alarms) rs moved p q l known h = absurd (omega (arith, q))
+moves_met n (c ∷ cs) (s ∷ ss) t (a ∷ alarms) [] moved p q l known h = absurd (omega (arith, l))
+moves_met n (c ∷ cs) (s ∷ ss) t (a ∷ alarms) (r ∷ rs) moved p q l known h =
+    let rest : AreKnown cs alarms rs = λ m x b y. known (suc m) x b y in
+    elim h [
+      | inl same ↦ inl (known 0 c a r refl refl refl (ap (λ (b : PlainAlarm). b.condition) same.0), moves_met (n + 1) cs ss t alarms rs moved (omega (arith, p)) (omega (arith, q)) (omega (arith, l)) rest same.1)
+      | inr one ↦ inr (last_conditions one.1, ap last_conditions one.2, moves_met (n + 1) cs ss t alarms rs one.1 (omega (arith, p)) (omega (arith, q)) (omega (arith, l)) rest one.3)
+    ]
+
+-- what an alarm follows without a delay is the condition
+follows_met : (delay t : ℕ) (r : Option ℕ) → delay ≡ 0 → has_come delay t r ≡ is_some r
+follows_met (suc delay) t r e = absurd (omega (arith, e))
+follows_met zero t None e = refl
+follows_met zero t (Some q) e = come 0 t q (omega arith)
+
+-- alarms that follow, and have no delay, are known
+pub follow_known : (cs : List Bool) (alarms : List PlainAlarm) (d : PlainDelays) → length alarms ≡ length d.delays → have_none d.delays ≡ true → Follows d alarms → AreKnown cs alarms d.since
+follow_known cs alarms d each none follow n c a r c_at a_at r_at same =
+    let within = slice_get_within alarms n a a_at in
+    let none_is = none_at d.delays n none (omega (arith, within, each)) in
+    same ∙ follow n a 0 r a_at none_is r_at ∙ follows_met 0 d.last r refl
+
+-- since when conditions are met after a scan knows its conditions
+after_met_since : (c : Bool) (t : ℕ) (r : Option ℕ) → is_some (since_after c t r) ≡ c
+after_met_since false t r = refl
+after_met_since true t None = refl
+after_met_since true t (Some q) = refl
+
+pub since_known : (cs : List Bool) (alarms : List PlainAlarm) (t : ℕ) (rs : List (Option ℕ)) → AreKnown cs alarms (since_each cs t rs)
+since_known [] alarms t rs n c a r c_at a_at r_at same = absurd (cc c_at)
+since_known (x ∷ cs) alarms t [] n c a r c_at a_at r_at same = absurd (cc r_at)
+since_known (x ∷ cs) [] t (y ∷ rs) n c a r c_at a_at r_at same = absurd (cc a_at)
+since_known (x ∷ cs) (b ∷ alarms) t (y ∷ rs) zero c a r c_at a_at r_at same =
+    let c_is : x ≡ c = same_Some x c c_at in let r_is : since_after x t y ≡ r = same_Some (since_after x t y) r r_at in
+    sym c_is ∙ sym (after_met_since x t y) ∙ ap (λ (o : Option ℕ). is_some o) r_is
+since_known (x ∷ cs) (b ∷ alarms) t (y ∷ rs) (suc n) c a r c_at a_at r_at same = since_known cs alarms t rs n c a r c_at a_at r_at same
+
+-- a scan taken twice is taken once
+again_since : (c : Bool) (t : ℕ) (r : Option ℕ) → since_after c t (since_after c t r) ≡ since_after c t r
+again_since false t r = refl
+again_since true t None = refl
+again_since true t (Some q) = refl
+
+again_each : (cs : List Bool) (t : ℕ) (rs : List (Option ℕ)) → since_each cs t (since_each cs t rs) ≡ since_each cs t rs
+again_each [] t rs = refl
+again_each (c ∷ cs) t [] = refl
+again_each (c ∷ cs) t (r ∷ rs) = (λ i. again_since c t r i ∷ again_each cs t rs i)
+
+since_length : (cs : List Bool) (t : ℕ) (rs : List (Option ℕ)) → length cs ≡ length rs → length (since_each cs t rs) ≡ length rs
+since_length [] t [] e = refl
+since_length [] t (r ∷ rs) e = absurd (omega (arith, e))
+since_length (c ∷ cs) t [] e = absurd (omega (arith, e))
+since_length (c ∷ cs) t (r ∷ rs) e = ap suc (since_length cs t rs (omega (arith, e)))
+
+-- what both lists tell, where no alarm has a delay
+both_told : (cs ss : List Bool) (t : ℕ) (alarms : List PlainAlarm) (rs : List (Option ℕ)) (met : List (ℕ × Bool)) (moved : List (ℕ × PlainAlarm)) → length cs ≡ length alarms → length ss ≡ length alarms → length rs ≡ length alarms
+    → AreMet 0 cs rs met → AreMoved 0 alarms (scan_each cs ss t alarms) moved → fold (put_since t) rs (met ++ last_conditions moved) ≡ since_each cs t rs
+both_told cs ss t alarms rs met moved p q l are moves =
+    let many = since_length cs t rs (p ∙ sym l) in
+    sym (fold_on (put_since t) rs met (last_conditions moved)) ∙ ap (λ (o : List (Option ℕ)). fold (put_since t) o (last_conditions moved)) (put_all t cs rs met are)
+    ∙ put_all t cs (since_each cs t rs) (last_conditions moved) (moves_met 0 cs ss t alarms (since_each cs t rs) moved p q (many ∙ l) (since_known cs alarms t rs) moves) ∙ again_each cs t rs
+
+-- what is listed tells the scan, whatever the delays
+pub told_all : (cs ss : List Bool) (t : ℕ) (d : PlainDelays) (alarms : List PlainAlarm) (met : List (ℕ × Bool)) (moved : List (ℕ × PlainAlarm)) → length alarms ≡ length d.delays → length cs ≡ length d.delays → length ss ≡ length d.delays
+    → length d.since ≡ length d.delays → AreMet 0 cs d.since met → AreMoved 0 alarms (scan_each (delayed_each cs t d.delays d.since) ss t alarms) moved → after_met met t moved d ≡ after_conditions cs t d
+told_all cs ss t d alarms met moved each conds sups since are moves = ap (λ (l : List (Option ℕ)). record d { since = l; last = t }) (by_delays (have_none d.delays) refl)
+  where
+    by_delays : (plain : Bool) → have_none d.delays ≡ plain → fold (put_since t) d.since (told_by plain met moved) ≡ since_each cs t d.since
+    by_delays false some = put_all t cs d.since met are
+    by_delays true none =
+        let counted = none_counted cs t d.delays d.since conds since none in
+        both_told cs ss t alarms d.since met moved (conds ∙ sym each) (sups ∙ sym each) (since ∙ sym each) are (subst (λ (l : List Bool). AreMoved 0 alarms (scan_each l ss t alarms) moved) counted moves)
+
+-- and so do the alarms that move, where none has a delay and all follow
+pub told_plain : (cs ss : List Bool) (t : ℕ) (d : PlainDelays) (alarms : List PlainAlarm) (moved : List (ℕ × PlainAlarm)) → length alarms ≡ length d.delays → length cs ≡ length d.delays → length ss ≡ length d.delays
+    → length d.since ≡ length d.delays → have_none d.delays ≡ true → Follows d alarms → AreMoved 0 alarms (scan_each cs ss t alarms) moved → after_met [] t moved d ≡ after_conditions cs t d
+told_plain cs ss t d alarms moved each conds sups since none follow moves =
+    ap (λ (p : Bool). record d { since = fold (put_since t) d.since (told_by p [] moved); last = t }) none
+    ∙ ap (λ (l : List (Option ℕ)). record d { since = l; last = t }) (put_all t cs d.since (last_conditions moved) (moves_met 0 cs ss t alarms d.since moved (conds ∙ sym each) (sups ∙ sym each) (since ∙ sym each) (follow_known cs alarms d each none follow) moves))
 
 -- ---- after a scan
 

@@ -1,5 +1,5 @@
 -- The entries of a history, as a board takes them in: event by event, from the system's state before it.
-use Rattle.std.specs.Prelude.{ℕ, List, [], ◌∷◌, map, Option, Result, Ok, Err}
+use Rattle.std.specs.Prelude.{ℕ, List, [], ◌∷◌, ◌++◌, map, Option, Result, Ok, Err}
 use Rattle.plant_types.specs.declared.values.Value.{Value}
 use Rattle.alarm_machine.specs.declared.states.OrderFault.{OrderFault}
 use Rattle.alarm_machine.specs.Codes.{PlainChange}
@@ -32,15 +32,16 @@ given_by sys image t =
     let now = global_in (globals_of sys.plant) (scanned_by sys image t).world in
     bank_event.Scan t (map counts (scans_after now t sys.plant.alarms sys.scans)) (suppressions now sys.plant.alarms)
 
--- the entry of an event in a state: of an order its console and the reply there
-abbrev pub entry_of : System → Event → Entry
-entry_of sys (event.Scan image t) = entry.Scan (given_by sys image t)
-entry_of sys (event.Order console order) = entry.Order console (record { order = order; reply = board_reply (reply_to sys console order) })
+-- the entry of an event in a state: of a scan what it gives to the alarms, of an order its console and the reply there. A reload has none
+abbrev pub entries_in : System → Event → List Entry
+entries_in sys (event.Scan image t) = entry.Scan (given_by sys image t) ∷ []
+entries_in sys (event.Order console order) = entry.Order console (record { order = order; reply = board_reply (reply_to sys console order) }) ∷ []
+entries_in sys (event.Reload new) = []
 
 -- the entries of events that come one after another from a state on
 abbrev pub entries_from : System → List Event → List Entry
 entries_from sys [] = []
-entries_from sys (e ∷ events) = entry_of sys e ∷ entries_from (after_event sys e) events
+entries_from sys (e ∷ events) = entries_in sys e ++ entries_from (after_event sys e) events
 
 -- the entries of a history
 unfoldable pub entries_of : PlainPlant → List Event → List Entry

@@ -13,6 +13,7 @@ use journal_core::{Entry, Log, Row, row_text};
 use operator_orders::Order;
 use plant_config::Plant;
 use plant_system::{Effect, Report, State};
+use stamps::Epoch;
 use std::alloc::{AllocError, Global};
 
 /// Why an order is refused, if it is.
@@ -94,7 +95,7 @@ fn target_name(plant: &Plant, verb: Verb, number: u32) -> &str
     }
 }
 
-/// The target of an order as its row has it: its name, `?` where the order was refused because there is none.
+/// The target of an order as its row has it: its name, `?` where the order was refused because there is none, or because it was made for an older plant.
 fn order_name(
     plant: &Plant,
     console: u32,
@@ -106,19 +107,23 @@ fn order_name(
     ensures { result.now ≡ target_text (order_target plant.now verb target refused) }
 {
     match (refused, target) {
-        (Some(OrderFault::UnknownTarget), _) => "?",
+        (Some(OrderFault::UnknownTarget | OrderFault::OldPlant), _) => "?",
         (_, Some(number)) => target_name(plant, verb, number),
         (_, None) => "?",
     }
 }
 
-/// The text of a row, with the name that it bears. Fails if allocation fails.
-pub fn line_text(alloc: Global, plant: &Plant, row: &Row) -> Result<String, AllocError>
+/// The text of a row, after an epoch, with the name that it has in a plant. Fails if allocation fails.
+pub fn line_text(
+    alloc: Global,
+    epoch: &Epoch,
+    plant: &Plant,
+    row: &Row,
+) -> Result<String, AllocError>
     requires named { IsNamed plant.now row.now.entry }
     requires range { row.now.moment ≤ LAST_MOMENT }
-    ensures { IfOk result (λ text. string_bytes text ≡ row_text plant.now.epoch row.now (name_of plant.now row.now.entry)) }
+    ensures { IfOk result (λ text. string_bytes text ≡ row_text epoch.now row.now (name_of plant.now row.now.entry)) }
 {
-    let epoch = plant.epoch();
     match row.entry {
         Entry::Fault(place, _) => {
             let path = plant.body_path(alloc, place.path)?;
@@ -136,5 +141,6 @@ pub fn line_text(alloc: Global, plant: &Plant, row: &Row) -> Result<String, Allo
             row,
             order_name(plant, console, verb, target, refused),
         ),
+        Entry::Reload { .. } => row_text(alloc, epoch, row, ""),
     }
 }

@@ -1,6 +1,6 @@
-//! The engine of a plant: one event, a scan or an order, is one step of the system.
+//! The engine of a plant: one event, a scan, an order or a reload, is one step of the system.
 //!
-//! Contracts see an engine as its plant, its history, and its room for more rows of the journal. All else that it keeps is what the system, a
+//! Contracts see an engine as the plant with which it began, its history, and its room for more rows of the journal and more reloads. All else that it keeps is what the system, a
 //! fold over that history, has, and the journal, the rows that its events added; of the events themselves it keeps the number alone. An event is
 //! first made ready, which may be refused and changes nothing but the room, and then committed, which allocates nothing and can't fail.
 //!
@@ -10,6 +10,8 @@
 mod engine;
 mod journal;
 mod laws;
+mod past;
+mod reload;
 
 pub use alarm_bank::Summary;
 pub use alarm_machine::{AlarmState, Change, Code, OrderFault, Verb};
@@ -18,13 +20,14 @@ pub use engine::Engine;
 pub use event_history::Event;
 pub use journal_core::{Entry, Log, Row};
 pub use laws::{
-    event_keeps_plant, lawful_history_is_short, lawful_history_stays_in_range,
-    outputs_are_worth_their_numbers, system_keeps_consoles_and_epoch, system_keeps_its_plant,
+    event_keeps_plant, lawful_history_is_short, lawful_history_keeps_consoles_and_epoch,
+    lawful_history_stays_in_range, outputs_are_worth_their_numbers, system_keeps_its_plant,
 };
 pub use operator_orders::Order;
 pub use plant_config::{AlarmRow, ConfigFault, Files, Limit, Plant, Variable};
 pub use plant_file::Console;
 pub use plant_system::{EngineFault, Prepared, PreparedOrder, Reply, Report};
 pub use plant_types::{Given, Items, Kind, Pair, Place, Region, Text, Trap, Value};
+pub use reload::{PreparedReload, ReloadRefused, Reloaded};
 pub use slice_store::{Done, Job, Start};
 pub use stamps::Epoch;

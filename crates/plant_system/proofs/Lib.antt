@@ -2,6 +2,9 @@ mod AlarmExamples
 pub mod CellWorlds
 pub mod Images
 pub mod OrderLaws
+pub mod Reloaded
+pub mod Reloading
+mod ReloadExamples
 pub mod Outs
 pub mod Systems
 pub mod Twins

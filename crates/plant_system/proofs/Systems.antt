@@ -11,15 +11,16 @@ use Rattle.alarm_machine.specs.declared.states.OrderFault.{OrderFault}
 use Rattle.alarm_machine.specs.Codes.{PlainChange, code_of, change_between}
 use Rattle.alarm_machine.specs.Alarms.{PlainAlarm}
 use Rattle.alarm_bank.specs.declared.rows.Site.{Site}
-use Rattle.alarm_bank.specs.Banks.{IsSite}
+use Rattle.alarm_bank.specs.Banks.{IsSite, PlainBank}
 use Rattle.alarm_bank.specs.Moves.{put_all, changes_from}
+use Rattle.alarm_bank.specs.Reloads.{alarm_of}
 use Rattle.alarm_bank.proofs.BankLaws.{scan_each_length}
 use Rattle.st_tree.specs.Meaning.{Ran, Done, Trapped}
 use Rattle.plant_logic.specs.declared.logic.Variable.{Variable}
 use Rattle.plant_logic.specs.Source.{Source}
 use Rattle.plant_logic.specs.Worlds.{World, opening, run_program}
 use Rattle.plant_logic.specs.Paths.{paths_of, path_text}
-use Rattle.plant_cells.specs.Cells.{value_at}
+use Rattle.plant_cells.specs.Cells.{PlainCells, value_at}
 use Rattle.block_frames.specs.Stands.{StandFor}
 use Rattle.plant_walk.specs.Sound.{IsSound}
 use Rattle.plant_config.specs.declared.rows.AlarmRow.{AlarmRow}
@@ -27,6 +28,7 @@ use Rattle.plant_config.specs.Plants.{PlainPlant, IsPlant, IsAlarmRow}
 use Rattle.plant_system.specs.declared.event.TheConstants.{MOST_EVENTS}
 use Rattle.event_history.specs.declared.event.Event.{Event}
 use Rattle.event_history.specs.declared.event.Event.TheVariants as event
+use Rattle.event_history.specs.Reloads.{NoReload}
 use Rattle.operator_orders.specs.declared.order.Order.{Order}
 use Rattle.plant_system.specs.declared.event.EngineFault.{EngineFault}
 use Rattle.plant_system.specs.declared.event.EngineFault.TheVariants as refusal
@@ -35,36 +37,40 @@ use Rattle.plant_system.specs.declared.state.Effect.TheVariants as effect
 use Rattle.plant_config.specs.Names.{globals_of, programs_of, body_paths}
 use Rattle.scan_logic.specs.Scans.{Scanned, after_run, programs_from}
 use Rattle.plant_system.specs.Programs.{opening_faulted, with_inputs, global_in, world_after}
-use Rattle.plant_system.specs.Orders.{order_outcome, alarms_by, faulted_by}
-use Rattle.plant_system.specs.System.{System, system, after_event, taken_scan, scan_event, order_event, opening_system, opening_alarm, scanned_by, after_scan_event, after_order_event, ordered, conditions, delays_of, no_scans, suppressions, scans_after, alarms_after, sites_of, outputs_from, out_at, outs_from}
+use Rattle.plant_system.specs.Orders.{order_outcome, unless_old, alarms_by, faulted_by}
+use Rattle.plant_system.specs.Reloads.{kept_number, kept_numbers, new_of, news_of}
+use Rattle.plant_system.specs.System.{System, system, after_event, taken_scan, scan_event, order_event, taken_reload, reload_event, opening_system, opening_alarm, scanned_by, after_scan_event, after_order_event, ordered, conditions, delays_of, no_scans, suppressions, scans_after, alarms_after, sites_of, outputs_from, out_at, outs_from}
 use Rattle.alarm_watch.specs.declared.watched.Watch.{Watch}
 use Rattle.alarm_watch.specs.Watched.{Follow, alarms_watched, watched_conditions}
 use Rattle.std_blocks.specs.Calls.{Call}
-use Rattle.alarm_delays.specs.Delays.{PlainDelays, after_conditions, after_met, counts}
+use Rattle.alarm_delays.specs.Delays.{PlainDelays, after_conditions, after_met, counts, kept_scans}
 use Rattle.alarm_delays.proofs.DelayLaws.{length_scans}
 use Rattle.plant_types.specs.Values.{is_true}
 use Rattle.plant_system.proofs.Watches.{delays_by, kept_watched, step_watched}
 use Rattle.plant_system.specs.Watches.{watches_of}
 use Rattle.plant_system.specs.Reports.{PlainReport}
-use Rattle.plant_system.specs.States.{PlainState, PlainScanEffect, PlainPreparedOrder, after_effect, delays_in, IsState, IsReport}
+use Rattle.plant_system.specs.States.{PlainState, PlainScanEffect, PlainPreparedOrder, after_effect, delays_in, unscanned, IsState, IsReport}
 use Rattle.scan_logic.specs.Runs.{ProgramsRan}
 use Rattle.plant_system.specs.Steps.{ScanRan}
 use Rattle.plant_system.proofs.CellWorlds.{inputs_stand, values_stand, alarms_same, scans_same, outputs_stand, outs_stand}
 use Rattle.plant_system.proofs.Follows.{follow_order}
 use Rattle.plant_system.proofs.Images.{has_number}
 
-pub event_keeps_plant : (s : System) (e : Event) → (after_event s e).plant ≡ s.plant
-event_keeps_plant s (event.Scan image t) = refl
-event_keeps_plant s (event.Order console order) = refl
+pub event_keeps_plant : (s : System) (e : Event) → NoReload (e ∷ []) → (after_event s e).plant ≡ s.plant
+event_keeps_plant s (event.Scan image t) stays = refl
+event_keeps_plant s (event.Order console order) stays = refl
+event_keeps_plant s (event.Reload new) stays = absurd stays
 
-plant_from : (s : System) (history : List Event) → (fold after_event s history).plant ≡ s.plant
-plant_from s [] = refl
-plant_from s (e ∷ history) = plant_from (after_event s e) history ∙ event_keeps_plant s e
+plant_from : (s : System) (history : List Event) → NoReload history → (fold after_event s history).plant ≡ s.plant
+plant_from s [] stays = refl
+plant_from s (event.Scan image t ∷ history) stays = plant_from (after_event s (event.Scan image t)) history stays
+plant_from s (event.Order console order ∷ history) stays = plant_from (after_event s (event.Order console order)) history stays
+plant_from s (event.Reload new ∷ history) stays = absurd stays
 
--- a system keeps the plant that it began with
-pub system_keeps_its_plant : (plant : PlainPlant) (history : List Event) → (system plant history).plant ≡ plant
+-- a system keeps the plant that it began with, where no event is a reload
+pub system_keeps_its_plant : (plant : PlainPlant) (history : List Event) → NoReload history → (system plant history).plant ≡ plant
 unfolding system
-system_keeps_its_plant plant history = plant_from (opening_system plant) history
+system_keeps_its_plant plant history stays = plant_from (opening_system plant) history stays
 
 pub system_next : (plant : PlainPlant) (history : List Event) (e : Event) → system plant (history ++ e ∷ []) ≡ after_event (system plant history) e
 unfolding system
@@ -130,6 +136,7 @@ alarms_there plant history = system_keeps HasAlarms keeps plant history (length-
         let scans = length-scans_after now t s.plant.alarms s.scans h.1 in
         (length-alarms_after now t s.plant.alarms (scans_after now t s.plant.alarms s.scans) s.alarms scans h.0, scans)
     keeps s (event.Order console order) h = (length-alarms_by (ordered s console order) s.alarms ∙ h.0, h.1)
+    keeps s (event.Reload new) h = (length-map (news_of s.plant new) (alarm_of s.alarms) ∙ length-map new.alarms (new_of s.plant), length-map (kept_numbers s.plant new) (kept_scans s.scans) ∙ length-map new.alarms (kept_number s.plant))
 
 pub system_alarms : (plant : PlainPlant) (history : List Event) → length ((system plant history).alarms) ≡ length ((system plant history).plant.alarms)
 system_alarms plant history = (alarms_there plant history).0
@@ -144,6 +151,7 @@ system_faulted plant history =
     (λ s. elim [
       | event.Scan image t ↦ λ h. length-world_after s.plant image t s.faulted s.world ∙ h
       | event.Order console order ↦ λ h. length-faulted_by (ordered s console order) s.faulted ∙ h
+      | event.Reload new ↦ λ h. length-map (programs_of new) (λ (program : List ℕ). false)
     ])
     plant history (length-map (programs_of plant) (λ (program : List ℕ). false))
 
@@ -151,11 +159,24 @@ events_from : (s : System) (history : List Event) → (fold after_event s histor
 events_from s [] = omega arith
 events_from s (event.Scan image t ∷ history) = let h = events_from (after_event s (event.Scan image t)) history in omega (arith, h)
 events_from s (event.Order console order ∷ history) = let h = events_from (after_event s (event.Order console order)) history in omega (arith, h)
+events_from s (event.Reload new ∷ history) = let h = events_from (after_event s (event.Reload new)) history in omega (arith, h)
 
 -- as many events as the history has
 pub system_events : (plant : PlainPlant) (history : List Event) → (system plant history).events ≡ length history
 unfolding system
 system_events plant history = events_from (opening_system plant) history ∙ zero-add (length history)
+
+-- no more reloads than events
+pub system_reloads : (plant : PlainPlant) (history : List Event) → (system plant history).reloads ≤ length history
+system_reloads plant history =
+    let few = system_keeps (λ s. s.reloads ≤ s.events) keeps plant history (omega arith) in
+    let events = system_events plant history in
+    omega (arith, few, events)
+  where
+    keeps : (s : System) (e : Event) → s.reloads ≤ s.events → (after_event s e).reloads ≤ (after_event s e).events
+    keeps s (event.Scan image t) h = omega (arith, h)
+    keeps s (event.Order console order) h = omega (arith, h)
+    keeps s (event.Reload new) h = omega (arith, h)
 
 -- an engine has an alarm for each row of the database
 pub kept_alarms : (plant : PlainPlant) (history : List Event) (k : PlainState) → IsState (system plant history) k → length k.alarms ≡ length ((system plant history).plant.alarms)
@@ -194,6 +215,7 @@ scan_agrees sys old new image t r is each within held made =
       faulted_is = runs.faulted_is;
       sites_are = made.sites_are ∙ held.sites_are;
       watches_are = made.watches_are ∙ held.watches_are;
+      reloads_is = made.reloads_are ∙ held.reloads_is;
       follow = λ _. made.follow;
       alarms_are = made.alarms_are
           ∙ (λ i. alarms_watched (value_at new.cells) t (held.watches_are i) (held.delays_are i) (held.alarms_are i))
@@ -258,11 +280,17 @@ scan_reports sys old new image t r is seen within each held made =
     }
 
 -- the event of a scan, by what an engine keeps and how many events there were
-pub scan_event_is : (plant : PlainPlant) (history : List Event) (k : PlainState) (n : ℕ) (pairs : List PlainPair) (t : ℕ) → IsState (system plant history) k → n ≡ length history → taken_scan (globals_of plant) k.moment n pairs t ≡ scan_event (system plant history) pairs t
-scan_event_is plant history k n pairs t held is =
-    let own = system_keeps_its_plant plant history in
+pub scan_event_is : (plant now : PlainPlant) (history : List Event) (k : PlainState) (n : ℕ) (pairs : List PlainPair) (t : ℕ) → (system plant history).plant ≡ now → IsState (system plant history) k → n ≡ length history
+    → taken_scan (globals_of now) k.moment n pairs t ≡ scan_event (system plant history) pairs t
+scan_event_is plant now history k n pairs t own held is =
     let events = is ∙ sym (system_events plant history) in
     λ i. taken_scan (globals_of (sym own i)) (held.moment_is i) (events i) pairs t
+
+-- the event of a reload, by what an engine keeps
+pub reload_event_is : (plant now : PlainPlant) (history : List Event) (n : ℕ) (new : PlainPlant) → (system plant history).plant ≡ now → n ≡ length history → taken_reload now n new ≡ reload_event (system plant history) new
+reload_event_is plant now history n new own is =
+    let events = is ∙ sym (system_events plant history) in
+    λ i. taken_reload (sym own i) (events i) new
 
 -- what an effect makes of one state that is kept for a system, it makes of each
 pub effect_anywhere : (sys next : System) (old k : PlainState) (effect : PlainScanEffect) → IsState sys old → IsState sys k → IsState next (after_effect effect old) → IsState next (after_effect effect k)
@@ -271,13 +299,13 @@ effect_anywhere sys next old k effect held keeps after = record {
   faulted_is = after.faulted_is;
   sites_are = keeps.sites_are ∙ sym held.sites_are ∙ after.sites_are;
   watches_are = keeps.watches_are ∙ sym held.watches_are ∙ after.watches_are;
+  reloads_is = keeps.reloads_is ∙ sym held.reloads_is ∙ after.reloads_is;
   follow = λ _.
-      subst (λ (watches : List Watch). Follow (value_at effect.cells) watches (after_met effect.met effect.moment (put_all k.alarms effect.moved) k.delays) (put_all k.alarms effect.moved)) (held.watches_are ∙ sym keeps.watches_are)
-      (subst (λ (d : PlainDelays). Follow (value_at effect.cells) old.watches (after_met effect.met effect.moment (put_all k.alarms effect.moved) d) (put_all k.alarms effect.moved)) (held.delays_are ∙ sym keeps.delays_are)
-      (subst (λ (alarms : List PlainAlarm). Follow (value_at effect.cells) old.watches (after_met effect.met effect.moment (put_all alarms effect.moved) old.delays) (put_all alarms effect.moved)) (held.alarms_are ∙ sym keeps.alarms_are) (after.follow refl)));
+      subst (λ (watches : List Watch). Follow (value_at effect.cells) watches (after_met effect.met effect.moment effect.moved k.delays) (put_all k.alarms effect.moved)) (held.watches_are ∙ sym keeps.watches_are)
+      (subst (λ (d : PlainDelays). Follow (value_at effect.cells) old.watches (after_met effect.met effect.moment effect.moved d) (put_all k.alarms effect.moved)) (held.delays_are ∙ sym keeps.delays_are)
+      (subst (λ (alarms : List PlainAlarm). Follow (value_at effect.cells) old.watches (after_met effect.met effect.moment effect.moved old.delays) (put_all alarms effect.moved)) (held.alarms_are ∙ sym keeps.alarms_are) (after.follow refl)));
   alarms_are = ap (λ l. put_all l effect.moved) (keeps.alarms_are ∙ sym held.alarms_are) ∙ after.alarms_are;
-  delays_are = ap (λ l. after_met effect.met effect.moment (put_all l effect.moved) k.delays) (keeps.alarms_are ∙ sym held.alarms_are)
-      ∙ ap (λ d. after_met effect.met effect.moment (put_all old.alarms effect.moved) d) (keeps.delays_are ∙ sym held.delays_are) ∙ after.delays_are;
+  delays_are = ap (λ d. after_met effect.met effect.moment effect.moved d) (keeps.delays_are ∙ sym held.delays_are) ∙ after.delays_are;
   outputs_are = after.outputs_are;
   moment_is = after.moment_is;
   in_range = after.in_range;
@@ -291,7 +319,8 @@ order_steps sys old console order done is held = record {
   faulted_is = ap (λ d. faulted_by d old.faulted) is ∙ ap (faulted_by (ordered sys console order)) held.faulted_is;
   sites_are = held.sites_are;
   watches_are = held.watches_are;
-  follow = λ followed. follow_order (value_at old.cells) old.watches old.delays sys.plant old.alarms sys.faulted sys.moment console order done (is ∙ ap (λ l. order_outcome sys.plant l sys.faulted sys.moment console order) (sym held.alarms_are)) (held.follow followed);
+  reloads_is = held.reloads_is;
+  follow = λ followed. follow_order (value_at old.cells) old.watches old.delays sys.plant old.alarms sys.faulted sys.moment sys.reloads console order done (is ∙ ap (λ l. unless_old sys.reloads order (order_outcome sys.plant l sys.faulted sys.moment console order)) (sym held.alarms_are)) (held.follow followed);
   alarms_are = ap (λ d. alarms_by d old.alarms) is ∙ ap (alarms_by (ordered sys console order)) held.alarms_are;
   delays_are = held.delays_are;
   outputs_are = held.outputs_are;
@@ -316,19 +345,23 @@ sites_there plant is =
     (All-weaker (IsAlarmRow plant) (λ row. IsSite (length plant.areas) (site row)) (λ row there. record { area = there.area; lowest = there.lowest; highest = there.highest }) plant.alarms is.alarms)
 
 -- before the first event
-pub opening_agrees : (plant : PlainPlant) (k : PlainState) → StandFor plant.source k.cells (opening plant.source) → k.faulted ≡ opening_faulted (programs_of plant) → k.sites ≡ sites_of plant.alarms → k.watches ≡ watches_of plant.alarms → k.follows ≡ false → k.alarms ≡ map opening_alarm plant.alarms → k.delays ≡ delays_in (opening_system plant) → k.outputs ≡ outputs_from 0 plant.source.globals (value_at k.cells) → k.moment ≡ 0 → IsState (opening_system plant) k
-opening_agrees plant k stands faulted sites watches never alarms delays outputs moment = record {
-  world_stands = stands;
-  faulted_is = faulted;
-  sites_are = sites;
-  watches_are = watches;
-  follow = λ is. absurd (let both : true ≡ false = sym is ∙ never in cc);
-  alarms_are = alarms;
-  delays_are = delays;
-  outputs_are = outputs ∙ outputs_stand plant.source (value_at k.cells) (global_in (globals_of plant) (opening plant.source)) (values_stand plant.source k.cells (opening plant.source) stands);
-  moment_is = moment;
-  in_range = rw moment (omega arith);
-}
+pub opening_agrees : (plant : PlainPlant) (cells : PlainCells) (bank : PlainBank) (delays : PlainDelays) → StandFor plant.source cells (opening plant.source)
+    → bank ≡ record { sites = sites_of plant.alarms; alarms = map opening_alarm plant.alarms; moment = 0 } → delays ≡ delays_in (opening_system plant) → IsState (opening_system plant) (unscanned plant cells bank delays 0)
+opening_agrees plant cells bank delays stands bank_is delays_are =
+    let moment : bank.moment ≡ 0 = ap (λ (b : PlainBank). b.moment) bank_is in
+    record {
+      world_stands = stands;
+      faulted_is = refl;
+      sites_are = ap (λ (b : PlainBank). b.sites) bank_is;
+      watches_are = refl;
+      reloads_is = refl;
+      follow = λ is. absurd (let never : false ≡ true = is in cc);
+      alarms_are = ap (λ (b : PlainBank). b.alarms) bank_is;
+      delays_are = delays_are;
+      outputs_are = outputs_stand plant.source (value_at cells) (global_in (globals_of plant) (opening plant.source)) (values_stand plant.source cells (opening plant.source) stands);
+      moment_is = moment;
+      in_range = rw moment (omega arith);
+    }
 
 -- an order where the history has room
 pub order_event_room : (plant : PlainPlant) (history : List Event) (console : ℕ) (order : Order) → length history < MOST_EVENTS → order_event (system plant history) console order ≡ Ok (event.Order console order)

@@ -1,0 +1,10 @@
+use Rattle.std.proofs.Common.{◌≡◌, take}
+use Rattle.std.specs.Prelude.{vec_capacity}
+use Rattle.alarm_bank.specs.Reloads.{sites_of}
+use Rattle.alarm_bank.proofs.annunciator.fill_sites.Given as goal
+
+abbrev pub invariant-loop-new : goal.invariant-loop-new
+invariant-loop-new l = record {
+  items : l.room.items ≡ sites_of (take l.new-index l.news);
+  room : vec_capacity l.room ≡ vec_capacity l.fn.room;
+}
