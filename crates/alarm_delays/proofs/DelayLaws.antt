@@ -11,7 +11,7 @@ use Rattle.alarm_machine.specs.Alarms.{PlainAlarm, after_scan}
 use Rattle.alarm_bank.specs.Banks.{scan_each}
 use Rattle.alarm_machine.specs.declared.limits.TheConstants.{LAST_MOMENT}
 use Rattle.alarm_bank.specs.Moves.{UnmarkedStay}
-use Rattle.alarm_delays.specs.Delays.{PlainDelays, PlainSeen, IsDelays, Wakes, ArePast, AreTold, have_none, told_since, seen_since, since_in, since_told, after_met, after_conditions, delayed, delayed_each, has_come, since_after, since_each, put_since, AreMet, ConditionsStay, RawStay, FollowsOn, scan_of, scans_each, since_of, counts}
+use Rattle.alarm_delays.specs.Delays.{PlainDelays, IsDelays, Wakes, ArePast, delayed, delayed_each, has_come, since_after, since_each, put_since, AreMet, ConditionsStay, RawStay, FollowsOn, scan_of, scans_each, since_of, counts}
 
 pub past_on : (last t : ℕ) (since : List (Option ℕ)) → last ≤ t → ArePast last since → ArePast t since
 past_on last t since h past n r at = let p = past n r at in omega (arith, h, p)
@@ -19,12 +19,10 @@ past_on last t since h past n r at = let p = past n r at in omega (arith, h, p)
 pub wakes_on : (last t : ℕ) (delays : List ℕ) (since : List (Option ℕ)) (due : List ℕ) → last ≤ t → Wakes last delays since due → Wakes t delays since due
 wakes_on last t delays since due h wakes n delay r d s early = wakes n delay r d s (omega (arith, h, early))
 
-pub delays_on : (delays : List ℕ) (since : List (Option ℕ)) (last t : ℕ) (due : List ℕ) (kept : List (Option ℕ)) (is_plain : Bool) → last ≤ t → t ≤ LAST_MOMENT → IsDelays delays since last due kept is_plain → IsDelays delays since t due kept is_plain
-delays_on delays since last t due kept is_plain h range is = record {
+pub delays_on : (delays : List ℕ) (since : List (Option ℕ)) (last t : ℕ) (due : List ℕ) → last ≤ t → t ≤ LAST_MOMENT → IsDelays delays since last due → IsDelays delays since t due
+delays_on delays since last t due h range is = record {
   each = is.each;
-  room = is.room;
   places = is.places;
-  plain = is.plain;
   few = is.few;
   in_range = range;
   past = past_on last t since h is.past;
@@ -55,127 +53,33 @@ index_other (y ∷ due) zero (suc n) key h = refl
 index_other (y ∷ due) (suc at) zero key h = refl
 index_other (y ∷ due) (suc at) (suc n) key h = index_other due at n key (λ e. h (ap suc e))
 
-put_past : (since : List (Option ℕ)) (last at : ℕ) (v : Option ℕ) → ArePast last since → ((r : ℕ) → v ≡ Some r → r ≤ last) → ArePast last (slice_set since at v)
-put_past since last at v was past n r e = elim (set_cases since at n v (Some r) e) [ inl p ↦ past r (sym p.1) | inr p ↦ was n r p.1 ]
+module _ (delays : List ℕ) (since : List (Option ℕ)) (last : ℕ) (due : List ℕ) (at : ℕ) (v : Option ℕ) (key : ℕ) (is : IsDelays delays since last due) (within : at < length delays)
+    (past : (r : ℕ) → v ≡ Some r → r ≤ last) (wakes : (delay r : ℕ) → slice_get delays at ≡ Some delay → v ≡ Some r → last - r < delay → key ≤ r + delay) where
+  put_past : ArePast last (slice_set since at v)
+  put_past n r e = elim (set_cases since at n v (Some r) e) [ inl p ↦ past r (sym p.1) | inr p ↦ is.past n r p.1 ]
 
-put_wakes : (delays : List ℕ) (since : List (Option ℕ)) (last : ℕ) (due : List ℕ) (at : ℕ) (v : Option ℕ) (key : ℕ) → at < length due → Wakes last delays since due
-    → ((delay r : ℕ) → slice_get delays at ≡ Some delay → v ≡ Some r → last - r < delay → key ≤ r + delay) → Wakes last delays (slice_set since at v) (slice_set due at key)
-put_wakes delays since last due at v key within was wakes n delay r d e early = elim (set_cases since at n v (Some r) e) [
-  | inl p ↦ let same = p.0 in let k = wakes delay r (ap (slice_get delays) (sym same) ∙ d) (sym p.1) early in
-      let index = ap (slice_index (slice_set due at key)) same ∙ index_same due at key within in omega (arith, k, index)
-  | inr p ↦ let k = was n delay r d p.1 early in let index = index_other due at n key p.0 in omega (arith, k, index)
-]
+  put_wakes : Wakes last delays (slice_set since at v) (slice_set due at key)
+  put_wakes n delay r d e early = elim (set_cases since at n v (Some r) e) [
+    | inl p ↦ let same = p.0 in let k = wakes delay r (ap (slice_get delays) (sym same) ∙ d) (sym p.1) early in
+        let index = ap (slice_index (slice_set due at key)) same ∙ index_same due at key (omega (arith, within, is.places)) in omega (arith, k, index)
+    | inr p ↦ let k = is.wakes n delay r d p.1 early in let index = index_other due at n key p.0 in omega (arith, k, index)
+  ]
 
--- a condition that is put in its place, with a moment by which it comes to count
-pub put_delays : (delays : List ℕ) (kept : List (Option ℕ)) (last : ℕ) (due : List ℕ) (is_plain : Bool) (count : ℕ) (seen : List PlainSeen) (at : ℕ) (v : Option ℕ) (key : ℕ) → is_plain ≡ false
-    → IsDelays delays (since_in is_plain count seen kept) last due kept is_plain → at < length delays
-    → ((r : ℕ) → v ≡ Some r → r ≤ last) → ((delay r : ℕ) → slice_get delays at ≡ Some delay → v ≡ Some r → last - r < delay → key ≤ r + delay)
-    → IsDelays delays (since_in is_plain count seen (slice_set kept at v)) last (slice_set due at key) (slice_set kept at v) is_plain
-put_delays delays kept last due true count seen at v key waits is within past wakes = absurd (cc waits)
-put_delays delays kept last due false count seen at v key waits is within past wakes = record {
-  each = length-set kept at v ∙ is.each;
-  room = length-set kept at v ∙ is.room;
-  places = length-set due at key ∙ is.places;
-  plain = is.plain;
-  few = is.few;
-  in_range = is.in_range;
-  past = put_past kept last at v is.past past;
-  wakes = put_wakes delays kept last due at v key (omega (arith, within, is.places)) is.wakes wakes;
-}
-
--- and without one, where the alarm has no delay
-pub put_none : (delays : List ℕ) (kept : List (Option ℕ)) (last : ℕ) (due : List ℕ) (is_plain : Bool) (count : ℕ) (seen : List PlainSeen) (at : ℕ) (v : Option ℕ) → is_plain ≡ false
-    → IsDelays delays (since_in is_plain count seen kept) last due kept is_plain → slice_get delays at ≡ Some 0
-    → ((r : ℕ) → v ≡ Some r → r ≤ last) → IsDelays delays (since_in is_plain count seen (slice_set kept at v)) last due (slice_set kept at v) is_plain
-put_none delays kept last due true count seen at v waits is none past = absurd (cc waits)
-put_none delays kept last due false count seen at v waits is none past = record {
-  each = length-set kept at v ∙ is.each;
-  room = length-set kept at v ∙ is.room;
-  places = is.places;
-  plain = is.plain;
-  few = is.few;
-  in_range = is.in_range;
-  past = put_past kept last at v is.past past;
-  wakes = λ n delay r d e early. elim (set_cases kept at n v (Some r) e) [
-    | inl p ↦ let zero_is : delay ≡ 0 = same_Some delay 0 (sym d ∙ ap (slice_get delays) p.0 ∙ none) in absurd (omega (arith, zero_is, early))
-    | inr p ↦ is.wakes n delay r d p.1 early
-  ];
-}
-
--- what contracts see of that
-pub put_seen : (is_plain : Bool) (count : ℕ) (seen : List PlainSeen) (kept : List (Option ℕ)) (last at : ℕ) (c : Bool) → is_plain ≡ false
-    → since_in is_plain count seen (slice_set kept at (since_after c last (slice_index_or kept at None))) ≡ put_since last (since_in is_plain count seen kept) (at, c)
-put_seen true count seen kept last at c waits = absurd (cc waits)
-put_seen false count seen kept last at c waits = refl
+  pub put_delays : IsDelays delays (slice_set since at v) last (slice_set due at key)
+  put_delays = record {
+    each = length-set since at v ∙ is.each;
+    places = length-set due at key ∙ is.places;
+    few = is.few;
+    in_range = is.in_range;
+    past = put_past;
+    wakes = put_wakes;
+  }
 
 -- since when a condition is met after a scan is no later than that
 pub after_past : (c : Bool) (t : ℕ) (before : Option ℕ) (r : ℕ) → ((q : ℕ) → before ≡ Some q → q ≤ t) → since_after c t before ≡ Some r → r ≤ t
 after_past false t before r past e = absurd (cc e)
 after_past true t None r past e = let same : t ≡ r = cc e in omega (arith, same)
 after_past true t (Some q) r past e = past r e
-
--- ---- plants in which no alarm has a delay
-
-pub none_zero : (d : ℕ) (ds : List ℕ) → d ≡ 0 → have_none (d ∷ ds) ≡ have_none ds
-none_zero zero ds e = refl
-none_zero (suc d) ds e = absurd (omega (arith, e))
-
-pub none_but : (d : ℕ) (ds : List ℕ) → 0 < d → have_none (d ∷ ds) ≡ false
-none_but zero ds e = absurd (omega (arith, e))
-none_but (suc d) ds e = refl
-
-pub none_each : (ds : List ℕ) (n delay : ℕ) → have_none ds ≡ true → slice_get ds n ≡ Some delay → delay ≡ 0
-none_each [] n delay none e = absurd (cc e)
-none_each (zero ∷ ds) zero delay none e = sym (same_Some 0 delay e)
-none_each (suc d ∷ ds) n delay none e = absurd (cc none)
-none_each (zero ∷ ds) (suc n) delay none e = none_each ds n delay none e
-
-told_length : (cs : List Bool) (t : ℕ) (rs : List (Option ℕ)) → length (told_since cs t rs) ≡ length rs
-told_length [] t rs = refl
-told_length (c ∷ cs) t [] = refl
-told_length (c ∷ cs) t (r ∷ rs) = ap suc (told_length cs t rs)
-
-told_each : (cs : List Bool) (t : ℕ) (rs : List (Option ℕ)) → length cs ≡ length rs → told_since cs t rs ≡ since_each cs t rs
-told_each [] t [] e = refl
-told_each [] t (r ∷ rs) e = absurd (omega (arith, e))
-told_each (c ∷ cs) t [] e = refl
-told_each (c ∷ cs) t (r ∷ rs) e = ap (λ (l : List (Option ℕ)). since_after c t r ∷ l) (told_each cs t rs (omega (arith, e)))
-
-told_past : (cs : List Bool) (last t : ℕ) (rs : List (Option ℕ)) → last ≤ t → ArePast last rs → ArePast t (told_since cs t rs)
-told_past [] last t rs later past n r e = past_on last t rs later past n r e
-told_past (c ∷ cs) last t [] later past n r e = absurd (cc e)
-told_past (c ∷ cs) last t (q ∷ rs) later past zero r e = after_past c t q r (λ x is. past_on last t (q ∷ rs) later past 0 x (ap Some is)) (same_Some (since_after c t q) (Some r) e)
-told_past (c ∷ cs) last t (q ∷ rs) later past (suc n) r e = told_past cs last t rs later (λ m x h. past (suc m) x h) n r e
-
-fold_more : (f : List (Option ℕ) → PlainSeen → List (Option ℕ)) (rs : List (Option ℕ)) (xs : List PlainSeen) (x : PlainSeen) → fold f rs (xs ++ x ∷ []) ≡ f (fold f rs xs) x
-fold_more f rs [] x = refl
-fold_more f rs (y ∷ xs) x = fold_more f (f rs y) xs x
-
--- a scan that is seen
-pub see_since : (is_plain : Bool) (count : ℕ) (seen : List PlainSeen) (kept : List (Option ℕ)) (t : ℕ) (alarms : List PlainAlarm) → is_plain ≡ true
-    → since_in is_plain count (seen ++ record { moment = t; alarms = alarms } ∷ []) kept ≡ seen_since (since_in is_plain count seen kept) (record { moment = t; alarms = alarms })
-see_since true count seen kept t alarms plain = fold_more seen_since (replicate {A = Option ℕ} count None) seen (record { moment = t; alarms = alarms })
-see_since false count seen kept t alarms plain = absurd (cc plain)
-
-pub see_delays : (delays : List ℕ) (last t : ℕ) (due : List ℕ) (kept : List (Option ℕ)) (is_plain : Bool) (count : ℕ) (seen : List PlainSeen) (alarms : List PlainAlarm) → have_none delays ≡ true → last ≤ t → t ≤ LAST_MOMENT
-    → IsDelays delays (since_in is_plain count seen kept) last due kept is_plain → IsDelays delays (since_in is_plain count (seen ++ record { moment = t; alarms = alarms } ∷ []) kept) t due kept is_plain
-see_delays delays last t due kept is_plain count seen alarms none later range is =
-    let was = since_in is_plain count seen kept in
-    let cs : List Bool = map (λ (a : PlainAlarm). a.condition) alarms in
-    subst (λ (l : List (Option ℕ)). IsDelays delays l t due kept is_plain) (sym (see_since is_plain count seen kept t alarms (is.plain ∙ none))) (record {
-      each = told_length cs t was ∙ is.each;
-      room = is.room;
-      places = is.places;
-      plain = is.plain;
-      few = is.few;
-      in_range = range;
-      past = told_past cs last t was later is.past;
-      wakes = λ n delay r d e early. let zero_is = none_each delays n delay none d in absurd (omega (arith, zero_is, early));
-    })
-
-pub since_first : (is_plain : Bool) (count : ℕ) → since_in is_plain count [] (replicate {A = Option ℕ} count None) ≡ replicate {A = Option ℕ} count None
-since_first true count = refl
-since_first false count = refl
 
 -- ---- the conditions that count
 
@@ -215,27 +119,6 @@ come delay t r h = ap not (step h)
     step : delay ≤ t - r → nat_lt (t - r) delay ≡ false
     step h = grind (arith, nat_tests)
 
--- without a delay a condition counts at once
-none_delayed : (c : Bool) (t : ℕ) (r : Option ℕ) → delayed c 0 t r ≡ c
-none_delayed false t r = refl
-none_delayed true t None = come 0 t t (omega arith)
-none_delayed true t (Some q) = come 0 t q (omega arith)
-
--- by what is kept, which tells since when conditions have been met unless no alarm has a delay
-pub kept_delayed : (c : Bool) (delay t : ℕ) (is_plain : Bool) (delays : List ℕ) (count : ℕ) (seen : List PlainSeen) (kept : List (Option ℕ)) (at : ℕ) (k r : Option ℕ) → is_plain ≡ have_none delays → slice_get delays at ≡ Some delay
-    → slice_get kept at ≡ Some k → slice_get (since_in is_plain count seen kept) at ≡ Some r → delayed c delay t k ≡ delayed c delay t r
-kept_delayed c delay t true delays count seen kept at k r plain d ke re =
-    let zero_is : delay ≡ 0 = none_each delays at delay (sym plain) d in
-    (λ i. delayed c (zero_is i) t k) ∙ none_delayed c t k ∙ sym (none_delayed c t r) ∙ (λ i. delayed c (sym zero_is i) t r)
-kept_delayed c delay t false delays count seen kept at k r plain d ke re = ap (λ o. delayed c delay t o) (same_Some k r (sym ke ∙ re))
-
-pub none_counted : (cs : List Bool) (t : ℕ) (ds : List ℕ) (rs : List (Option ℕ)) → length cs ≡ length ds → length rs ≡ length ds → have_none ds ≡ true → delayed_each cs t ds rs ≡ cs
-none_counted [] t ds rs p q none = refl
-none_counted (c ∷ cs) t [] rs p q none = absurd (omega (arith, p))
-none_counted (c ∷ cs) t (d ∷ ds) [] p q none = absurd (omega (arith, q))
-none_counted (c ∷ cs) t (suc d ∷ ds) (r ∷ rs) p q none = absurd (cc none)
-none_counted (c ∷ cs) t (zero ∷ ds) (r ∷ rs) p q none = (λ i. none_delayed c t r i ∷ none_counted cs t ds rs (omega (arith, p)) (omega (arith, q)) none i)
-
 -- an alarm whose condition stays as it was, and doesn't come to count by time alone
 stays : (delay last t : ℕ) (r : Option ℕ) → ((q : ℕ) → r ≡ Some q → q ≤ last) → last ≤ t → ((q : ℕ) → r ≡ Some q → last - q < delay → t < q + delay) → delayed (is_some r) delay t r ≡ has_come delay last r
 stays delay last t None past h early = refl
@@ -245,57 +128,41 @@ stays delay last t (Some q) past h early =
       | inr came ↦ come delay t q (omega (arith, came, h)) ∙ sym (come delay last q (omega (arith, came)))
     ]
 
--- an alarm that isn't marked doesn't come to count by time alone
-abbrev pub AreAwaited : PlainDelays → ℕ → List Bool → Type 0
-AreAwaited d t marks = (n delay q : ℕ) → slice_get d.delays n ≡ Some delay → slice_get d.since n ≡ Some (Some q) → d.last - q < delay → slice_get marks n ≡ Some false → t < q + delay
-
-pub unmarked_stay : (d : PlainDelays) (marks marks' cs ss : List Bool) (t : ℕ) (alarms : List PlainAlarm) → length d.since ≡ length d.delays → ArePast d.last d.since → d.last ≤ t → length alarms ≡ length d.delays
-    → ((n : ℕ) → slice_get marks' n ≡ Some false → slice_get marks n ≡ Some false) → AreAwaited d t marks'
+pub unmarked_stay : (d : PlainDelays) (due : List ℕ) (marks marks' cs ss : List Bool) (t : ℕ) (alarms : List PlainAlarm) → IsDelays d.delays d.since d.last due → d.last ≤ t → length alarms ≡ length d.delays
+    → ((n : ℕ) → slice_get marks' n ≡ Some false → slice_get marks n ≡ Some false) → ((n : ℕ) → n < length due → slice_index due n ≤ t → slice_get marks' n ≡ Some false → ⊥)
     → RawStay marks cs ss d alarms → UnmarkedStay marks' (delayed_each cs t d.delays d.since) ss alarms
-unmarked_stay d marks marks' cs ss t alarms many past later each kept awaited raw n a unmarked at =
+unmarked_stay d due marks marks' cs ss t alarms is later each kept marked raw n a unmarked at =
     let within = slice_get_within alarms n a at in
     let delay : ℕ = slice_index_or d.delays n 0 in
     let r : Option ℕ = slice_index_or d.since n None in
     let d_at : slice_get d.delays n ≡ Some delay = slice_get-get_or d.delays n 0 (omega (arith, within, each)) in
-    let r_at : slice_get d.since n ≡ Some r = slice_get-get_or d.since n None (omega (arith, within, each, many)) in
+    let r_at : slice_get d.since n ≡ Some r = slice_get-get_or d.since n None (omega (arith, within, each, is.each)) in
     let was = kept n unmarked in
     let c_at = raw.conditions n r was r_at in
-    let same = stays delay d.last t r (λ q e. past n q (r_at ∙ ap Some e)) later (λ q e waits. awaited n delay q d_at (r_at ∙ ap Some e) waits unmarked) in
+    let same = stays delay d.last t r (λ q e. is.past n q (r_at ∙ ap Some e)) later (λ q e waits. early n delay q r d_at r_at e waits within unmarked) in
     (each_at cs t d.delays d.since n (is_some r) delay r c_at d_at r_at ∙ ap Some (same ∙ sym (raw.counted n was a delay r at d_at r_at)), raw.suppressions n a was at)
-
--- where those whose key has come are marked
-pub due_awaited : (d : PlainDelays) (due : List ℕ) (kept : List (Option ℕ)) (is_plain : Bool) (marks : List Bool) (t : ℕ) → IsDelays d.delays d.since d.last due kept is_plain
-    → ((n : ℕ) → n < length due → slice_index due n ≤ t → slice_get marks n ≡ Some false → ⊥) → AreAwaited d t marks
-due_awaited d due kept is_plain marks t is marked n delay q d_at r_at waits clear =
-    let wakes = is.wakes n delay q d_at r_at waits in
-    let within = slice_get_within d.delays n delay d_at in
-    elim (cases_lt t (slice_index due n)) [
-      | inl sooner ↦ omega (arith, sooner, wakes)
-      | inr due_now ↦ absurd (marked n (omega (arith, within, is.places)) (omega (arith, due_now)) clear)
-    ]
-
--- and where no alarm has a delay
-pub none_awaited : (d : PlainDelays) (marks : List Bool) (t : ℕ) → have_none d.delays ≡ true → AreAwaited d t marks
-none_awaited d marks t none n delay q d_at r_at waits clear = let zero_is = none_each d.delays n delay none d_at in absurd (omega (arith, zero_is, waits))
+  where
+    early : (m delay q : ℕ) (r : Option ℕ) → slice_get d.delays m ≡ Some delay → slice_get d.since m ≡ Some r → r ≡ Some q → d.last - q < delay → m < length alarms → slice_get marks' m ≡ Some false → t < q + delay
+    early m delay q r d_at r_at e waits within clear =
+        let wakes = is.wakes m delay q d_at (r_at ∙ ap Some e) waits in
+        elim (cases_lt t (slice_index due m)) [
+          | inl sooner ↦ omega (arith, sooner, wakes)
+          | inr due_now ↦ absurd (marked m (omega (arith, within, each, is.places)) (omega (arith, due_now)) clear)
+        ]
 
 pub none_more : (n : ℕ) → replicate {A = Option ℕ} n None ++ None ∷ [] ≡ replicate {A = Option ℕ} (suc n) None
 none_more zero = refl
 none_more (suc n) = ap (λ (xs : List (Option ℕ)). None ∷ xs) (none_more n)
 
-pub delays_none : (delays : List ℕ) (n m count : ℕ) (is_plain : Bool) → n ≡ length delays → m ≡ length delays → count ≡ length delays → length delays < 2 ^ 32 → is_plain ≡ have_none delays
-    → IsDelays delays (since_in is_plain count [] (replicate {A = Option ℕ} n None)) 0 (replicate m 18446744073709551615) (replicate {A = Option ℕ} n None) is_plain
-delays_none delays n m count is_plain n_is m_is count_is few plain =
-    subst (λ (l : List (Option ℕ)). IsDelays delays (since_in is_plain count [] l) 0 (replicate m 18446744073709551615) l is_plain) (ap (λ k. replicate {A = Option ℕ} k None) (count_is ∙ sym n_is))
-    (subst (λ (l : List (Option ℕ)). IsDelays delays l 0 (replicate m 18446744073709551615) (replicate {A = Option ℕ} count None) is_plain) (sym (since_first is_plain count)) (record {
-      each = length-replicate count None ∙ count_is;
-      room = length-replicate count None ∙ count_is;
-      places = length-replicate m 18446744073709551615 ∙ m_is;
-      plain = plain;
-      few = few;
-      in_range = omega arith;
-      past = λ k r e. absurd (none_since count k r e);
-      wakes = λ k delay r d e early. absurd (none_since count k r e);
-    }))
+pub delays_none : (delays : List ℕ) (n m : ℕ) → n ≡ length delays → m ≡ length delays → length delays < 2 ^ 32 → IsDelays delays (replicate {A = Option ℕ} n None) 0 (replicate m 18446744073709551615)
+delays_none delays n m n_is m_is few = record {
+  each = length-replicate n None ∙ n_is;
+  places = length-replicate m 18446744073709551615 ∙ m_is;
+  few = few;
+  in_range = omega arith;
+  past = λ k r e. absurd (none_since n k r e);
+  wakes = λ k delay r d e early. absurd (none_since n k r e);
+}
 
 -- ---- the conditions of some alarms
 
@@ -324,20 +191,6 @@ put_after t n before (c ∷ cs) (r ∷ rs) met e h =
 
 pub put_all : (t : ℕ) (cs : List Bool) (rs : List (Option ℕ)) (met : List (ℕ × Bool)) → AreMet 0 cs rs met → fold (put_since t) rs met ≡ since_each cs t rs
 put_all t cs rs met h = put_after t 0 [] cs rs met refl h
-
--- so what delays are told of a scan leaves them as its conditions do
-pub told_all : (cs : List Bool) (t : ℕ) (d : PlainDelays) (met : List (ℕ × Bool)) (alarms : List PlainAlarm) → AreTold cs d met alarms → after_met met t alarms d ≡ after_conditions cs t d
-told_all cs t d met alarms told = ap (λ l. record d { since = l; last = t }) (by_case (have_none d.delays) told.named told.seen)
-  where
-    by_case : (none : Bool) → (none ≡ false → AreMet 0 cs d.since met) → (none ≡ true → map (λ (a : PlainAlarm). a.condition) alarms ≡ cs) → since_told none met t alarms d.since ≡ since_each cs t d.since
-    by_case true named seen = ap (λ l. told_since l t d.since) (seen refl) ∙ told_each cs t d.since told.each
-    by_case false named seen = put_all t cs d.since met (named refl)
-
--- where no alarm has a delay it doesn't matter what is named
-pub seen_met : (met : List (ℕ × Bool)) (t : ℕ) (alarms : List PlainAlarm) (d : PlainDelays) → have_none d.delays ≡ true → after_met [] t alarms d ≡ after_met met t alarms d
-seen_met met t alarms d none =
-    (λ i. record d { since = since_told (none i) [] t alarms d.since; last = t })
-    ∙ (λ i. record d { since = since_told (sym none i) met t alarms d.since; last = t })
 
 pub past_set : (since : List (Option ℕ)) (at : ℕ) (v : Option ℕ) → length since ≤ at → slice_set since at v ≡ since
 past_set [] at v h = refl

@@ -1,2 +1,3 @@
 pub mod DelayLaws
 mod Examples
+pub mod Keeping

@@ -1,5 +1,5 @@
 -- On-delays of alarms: a condition counts once it has been met for so long, as the Q of a TON whose IN is the condition and whose PT is the delay (IEC 61131-3).
-use Rattle.std.specs.Prelude.{◌≡◌, ℕ, zero, suc, map, replicate, ◌+◌, ◌<◌, ◌≤◌, ◌-◌, pos, Bool, true, false, Option, Some, None, List, [], ◌∷◌, length, slice_get, slice_set, slice_index, slice_index_or, ◌⊎◌, is_some, fold, ◌^◌}
+use Rattle.std.specs.Prelude.{◌≡◌, ℕ, ◌+◌, ◌<◌, ◌≤◌, ◌-◌, pos, Bool, true, false, map, Option, Some, None, List, [], ◌∷◌, length, slice_get, slice_set, slice_index, slice_index_or, ◌⊎◌, is_some, fold, ◌^◌}
 use Rattle.alarm_machine.specs.declared.limits.TheConstants.{LAST_MOMENT}
 use Rattle.std_blocks.specs.Calls.{Call, call}
 use Rattle.std_blocks.specs.Timers.{ton}
@@ -69,38 +69,10 @@ Wakes last delays since due = (n delay r : ℕ) → slice_get delays n ≡ Some 
 abbrev pub ArePast : ℕ → List (Option ℕ) → Type 0
 ArePast last since = (n r : ℕ) → slice_get since n ≡ Some (Some r) → r ≤ last
 
--- whether no alarm has a delay
-abbrev pub have_none : List ℕ → Bool
-have_none [] = true
-have_none (zero ∷ ds) = have_none ds
-have_none (suc d ∷ ds) = false
-
--- a scan by what it left: its moment, and the alarms
-pub record PlainSeen : Type 0 where
-  pub moment : ℕ
-  pub alarms : List PlainAlarm
-
--- since when conditions have been met after a scan with these
-abbrev pub told_since : List Bool → ℕ → List (Option ℕ) → List (Option ℕ)
-told_since [] t rs = rs
-told_since (c ∷ cs) t [] = []
-told_since (c ∷ cs) t (r ∷ rs) = since_after c t r ∷ told_since cs t rs
-
--- the same by the alarms after it, of which none has a delay: the last condition of each is the one that the scan gave it
-abbrev pub seen_since : List (Option ℕ) → PlainSeen → List (Option ℕ)
-seen_since rs seen = told_since (map (λ a. a.condition) seen.alarms) seen.moment rs
-
--- since when the conditions of so many alarms have been met: where none has a delay by all scans, else as it is kept
-abbrev pub since_in : Bool → ℕ → List PlainSeen → List (Option ℕ) → List (Option ℕ)
-since_in true count seen kept = fold seen_since (replicate count None) seen
-since_in false count seen kept = kept
-
 -- what is kept beside the delays
-pub record IsDelays (delays : List ℕ) (since : List (Option ℕ)) (last : ℕ) (due : List ℕ) (kept : List (Option ℕ)) (is_plain : Bool) : Type 0 where
+pub record IsDelays (delays : List ℕ) (since : List (Option ℕ)) (last : ℕ) (due : List ℕ) : Type 0 where
   pub each : length since ≡ length delays
-  pub room : length kept ≡ length delays
   pub places : length due ≡ length delays
-  pub plain : is_plain ≡ have_none delays
   pub few : length delays < 2 ^ 32
   pub in_range : last ≤ LAST_MOMENT
   pub past : ArePast last since
@@ -139,14 +111,9 @@ DelaysAgree = (c : Bool) (delay t : ℕ) (scans : List Call)
 abbrev pub put_since : ℕ → List (Option ℕ) → ℕ × Bool → List (Option ℕ)
 put_since t since one = slice_set since one.0 (since_after one.1 t (slice_index_or since one.0 None))
 
--- since when conditions have been met after a scan: where no alarm has a delay by the alarms after it, else by those that are named, each with its condition
-abbrev pub since_told : Bool → List (ℕ × Bool) → ℕ → List PlainAlarm → List (Option ℕ) → List (Option ℕ)
-since_told true met t alarms since = seen_since since (record { moment = t; alarms = alarms })
-since_told false met t alarms since = fold (put_since t) since met
-
--- delays after a scan that left these alarms
-abbrev pub after_met : List (ℕ × Bool) → ℕ → List PlainAlarm → PlainDelays → PlainDelays
-after_met met t alarms d = record d { since = since_told (have_none d.delays) met t alarms d.since; last = t }
+-- delays after a scan by these alarms, each with its condition
+abbrev pub after_met : List (ℕ × Bool) → ℕ → PlainDelays → PlainDelays
+after_met met t d = record d { since = fold (put_since t) d.since met; last = t }
 
 -- the alarms whose conditions may have changed, from a number on, in order, each with its condition; those of all others stay as they were
 abbrev pub AreMet : ℕ → List Bool → List (Option ℕ) → List (ℕ × Bool) → Type 0
@@ -155,11 +122,23 @@ AreMet n [] (r ∷ rs) met = ⊥
 AreMet n (c ∷ cs) [] met = ⊥
 AreMet n (c ∷ cs) (r ∷ rs) met = ((c ≡ is_some r) × AreMet (n + 1) cs rs met) ⊎ ((rest : List (ℕ × Bool)) × (met ≡ (n, c) ∷ rest) × AreMet (n + 1) cs rs rest)
 
--- what delays are told of a scan with these conditions: where an alarm has a delay, those that may have changed are named; where none has, the alarms have them as their last ones
-pub record AreTold (cs : List Bool) (d : PlainDelays) (met : List (ℕ × Bool)) (alarms : List PlainAlarm) : Type 0 where
-  pub each : length cs ≡ length d.since
-  pub named : have_none d.delays ≡ false → AreMet 0 cs d.since met
-  pub seen : have_none d.delays ≡ true → map (λ a. a.condition) alarms ≡ cs
+-- since when the condition of a new alarm has been met: as of the old alarm whose scans it keeps, if it keeps some and that one is there; else it isn't met yet
+abbrev pub kept_since : List (Option ℕ) → Option ℕ → Option ℕ
+kept_since old None = None
+kept_since old (Some k) = slice_index_or old k None
+
+-- the scans of a new alarm: those of the old alarm that it keeps, if it keeps some and that one is there; else none
+abbrev pub kept_scans : List (List Call) → Option ℕ → List Call
+kept_scans old None = []
+kept_scans old (Some k) = slice_index_or old k []
+
+-- delays of new alarms, each with the number of the old alarm whose scans it keeps, if it keeps some; the last moment stays
+abbrev pub reloaded : List ℕ → List (Option ℕ) → PlainDelays → PlainDelays
+reloaded delays kept d = record { delays = delays; since = map (kept_since d.since) kept; last = d.last }
+
+-- since when conditions of new alarms have been met is as the scans that they keep have it
+abbrev pub KeptAgree : Type 0
+KeptAgree = (scans : List (List Call)) (kept : List (Option ℕ)) → map since_of (map (kept_scans scans) kept) ≡ map (kept_since (map since_of scans)) kept
 
 -- after a scan by the conditions that count, the last condition of each alarm is the one that counted
 abbrev pub FollowsOn : Type 0

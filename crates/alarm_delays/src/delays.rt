@@ -1,28 +1,23 @@
 //! The delays of alarms, and since when their conditions have been met.
 
-ghost use Rattle.std.specs.Prelude.{◌≡◌, ◌<◌, ◌≤◌, ◌^◌, ◌+◌, ◌-◌, ℕ, Bool, List, [], Some, None, Option, true, false, length, map, replicate, slice_get, slice_set, IfOk, OnOk};
+ghost use Rattle.std.specs.Prelude.{◌≡◌, ◌<◌, ◌≤◌, ◌^◌, ◌+◌, ◌-◌, ℕ, Bool, List, Some, None, Option, true, false, length, map, replicate, slice_get, slice_set, IfOk, OnOk};
 ghost use Rattle.alarm_machine.specs.declared.limits.TheConstants.{LAST_MOMENT};
 ghost use Rattle.alarm_bank.specs.Banks.{scan_each};
 ghost use Rattle.alarm_bank.specs.Moves.{AreMovesOf};
-ghost use Rattle.alarm_delays.specs.Delays.{AreMet, AreTold, ConditionsStay, DelaysAgree, IsFirstMark, FollowsOn, RawStay, have_none, after_conditions, after_met, delayed, delayed_each, put_since, since_after};
+ghost use Rattle.alarm_delays.specs.Delays.{AreMet, ConditionsStay, DelaysAgree, IsFirstMark, FollowsOn, KeptAgree, RawStay, after_conditions, after_met, delayed, delayed_each, kept_since, put_since, reloaded, since_after};
 
-use crate::seen::Seen;
 use alarm_bank::{Bank, Shelf, Signals, next_mark};
 use alarm_machine::{Alarm, Change};
 use std::alloc::{AllocError, Global};
 use std::marker::Model;
-use trace::{Shown, Trace};
 
-/// The delay of each alarm in milliseconds, since when its condition has been met, and the moment of the last scan. Beside them stand an index
-/// of the moments at which conditions come to count by time alone, and whether no alarm has a delay. Then conditions count at once, and nothing is kept of
-/// them: since when they have been met contracts see by the alarms after each scan.
+/// The delay of each alarm in milliseconds, since when its condition has been met, and the moment of the last scan. Beside them stands an index
+/// of the moments at which conditions come to count by time alone.
 pub struct Delays {
     delays: Vec<u32>,
     since: Vec<Option<u64>>,
     last: u64,
     due: Shelf,
-    is_plain: bool,
-    seen: Trace<Seen>,
 }
 
 impl Drop for Delays {
@@ -32,21 +27,18 @@ impl Drop for Delays {
             since: _,
             last: _,
             due: _,
-            is_plain: _,
-            seen: _,
         } = self;
     }
 }
 
 impl Model for Delays {
-    ghost use Rattle.std.specs.Prelude.{length};
-    ghost use Rattle.alarm_delays.specs.Delays.{PlainDelays, IsDelays, since_in};
+    ghost use Rattle.alarm_delays.specs.Delays.{PlainDelays, IsDelays};
 
     ghost Value = { PlainDelays };
 
-    ghost view = { λ d. record { delays = d.delays.items; since = since_in d.is_plain (length d.delays.items) d.seen d.since.items; last = d.last } };
+    ghost view = { λ d. record { delays = d.delays.items; since = d.since.items; last = d.last } };
 
-    ghost invariant = { λ d. IsDelays d.delays.items (since_in d.is_plain (length d.delays.items) d.seen d.since.items) d.last d.due d.since.items d.is_plain };
+    ghost invariant = { λ d. IsDelays d.delays.items d.since.items d.last d.due };
 }
 
 /// Whether a condition counts in a scan, by since when it had been met before.
@@ -60,18 +52,6 @@ fn delayed(condition: bool, delay: u32, moment: u64, since: Option<u64>) -> bool
         Some(start) => u64::from(delay) <= moment.saturating_sub(start),
         None => delay == 0,
     }
-}
-
-/// Whether no alarm has a delay.
-fn have_none(delays: &[u32]) -> bool
-    ensures { result ≡ have_none delays.now }
-{
-    for delay in delays {
-        if *delay > 0 {
-            return false;
-        }
-    }
-    true
 }
 
 /// Of so many conditions none is met. Fails if allocation fails.
@@ -159,15 +139,65 @@ impl Delays {
     {
         let since = none_yet(alloc, delays.len())?;
         let due = Shelf::new(alloc, delays.len())?;
-        let is_plain = have_none(delays.as_slice());
         Ok(Delays {
             delays,
             since,
             last: 0,
             due,
-            is_plain,
-            seen: Trace::new(),
         })
+    }
+
+    /// Since when the condition of a new alarm has been met that keeps the scans of the alarm of a number, or of none.
+    fn kept_since(&self, kept: Option<u32>) -> Option<u64>
+        ensures since { result ≡ kept_since self.now.since kept }
+        ensures past { (r : ℕ) → result ≡ Some r → r ≤ self.now.last }
+    {
+        match kept {
+            Some(number) if (number as usize) < self.since.len() => self.since[number as usize],
+            _ => None,
+        }
+    }
+
+    /// Takes since when the condition of one alarm has been met.
+    fn keep(&mut self, at: usize, since: Option<u64>)
+        requires there { at < length self.old.delays }
+        requires past { (r : ℕ) → since ≡ Some r → r ≤ self.old.last }
+        ensures { self.new ≡ record self.old { since = slice_set self.old.since at since } }
+    {
+        self.since[at] = since;
+        let delay = self.delays[at];
+        if delay == 0 {
+            return;
+        }
+        self.due.put(at, due_at(self.last, delay, since));
+    }
+
+    /// The moment of the last scan.
+    fn last(&self) -> u64
+        ensures last { result ≡ self.now.last }
+        ensures range { result ≤ LAST_MOMENT }
+    {
+        self.last
+    }
+
+    /// The delays of new alarms, after the same last scan. One that keeps the scans of the old alarm of a number has been met since when that one has,
+    /// whatever its own delay is; the others have had no scan yet. The old delays stay as they are. Fails if allocation fails.
+    pub fn reloaded(
+        &self,
+        alloc: Global,
+        delays: Vec<u32>,
+        kept: &[Option<u32>],
+    ) -> Result<Delays, AllocError>
+        requires few { length delays.items < 2 ^ 32 }
+        requires each { length kept.now ≡ length delays.items }
+        ensures { IfOk result (λ made. made ≡ reloaded delays.items kept.now self.now) }
+    {
+        let mut made = Delays::new(alloc, delays)?;
+        made.go_on(self.last());
+        for at in 0..kept.len() {
+            made.keep(at, self.kept_since(kept[at]));
+        }
+        Ok(made)
     }
 
     /// Whether the condition of an alarm counts in a scan.
@@ -176,19 +206,6 @@ impl Delays {
         ensures { (delay : ℕ) (r : Option ℕ) → slice_get self.now.delays at ≡ Some delay → slice_get self.now.since at ≡ Some r → result ≡ delayed condition delay moment r }
     {
         delayed(condition, self.delays[at], moment, self.since[at])
-    }
-
-    /// Goes on to a scan's moment, where no alarm has a delay. It keeps nothing.
-    fn see(&mut self, bank: &Bank, moment: u64)
-        requires plain { have_none self.old.delays ≡ true }
-        requires later { self.old.last ≤ moment }
-        requires range { moment ≤ LAST_MOMENT }
-        ensures { self.new ≡ after_met [] moment bank.now.alarms self.old }
-    {
-        self.last = moment;
-        let bank = Shown::of(bank);
-        let seen = self.seen.then(&Seen { moment, bank });
-        self.seen = seen;
     }
 
     /// Goes on to a scan's moment.
@@ -202,8 +219,7 @@ impl Delays {
 
     /// Takes the condition of one alarm in the scan of the last moment. It allocates nothing.
     fn put(&mut self, at: usize, condition: bool)
-        requires there { at < length self.old.delays }
-        requires some { have_none self.old.delays ≡ false }
+        requires { at < length self.old.delays }
         ensures { self.new ≡ record self.old { since = put_since self.old.last self.old.since (at, condition) } }
     {
         let since = since_after(condition, self.last, self.since[at]);
@@ -217,7 +233,6 @@ impl Delays {
 
     /// Takes the condition of the alarm of a number in the scan of the last moment. A number that isn't there changes nothing.
     fn put_at(&mut self, number: u32, condition: bool)
-        requires { have_none self.old.delays ≡ false }
         ensures { self.new ≡ record self.old { since = put_since self.old.last self.old.since (number, condition) } }
     {
         let at = number as usize;
@@ -236,18 +251,14 @@ impl Delays {
         }
     }
 
-    /// Takes a scan by the alarms whose conditions it changed, or may have, each by its number with its condition, in order; where no alarm has a delay by the
-    /// bank after it. It takes no memory and looks at no other alarm. Then all are what the scan makes of them.
-    pub fn apply(&mut self, met: &[(u32, bool)], bank: &Bank, moment: u64)
+    /// Takes a scan by the alarms whose conditions it changed, or may have, each by its number with its condition, in order; it takes no memory and
+    /// looks at no other alarm. Then all are what the scan makes of them.
+    pub fn apply(&mut self, met: &[(u32, bool)], moment: u64)
         requires later { self.old.last ≤ moment }
         requires range { moment ≤ LAST_MOMENT }
-        ensures put { self.new ≡ after_met met.now moment bank.now.alarms self.old }
-        ensures scanned { (cs : List Bool) → AreTold cs self.old met.now bank.now.alarms → self.new ≡ after_conditions cs moment self.old }
+        ensures put { self.new ≡ after_met met.now moment self.old }
+        ensures scanned { (cs : List Bool) → AreMet 0 cs self.old.since met.now → self.new ≡ after_conditions cs moment self.old }
     {
-        if self.is_plain {
-            self.see(bank, moment);
-            return;
-        }
         self.go_on(moment);
         for (number, condition) in met {
             self.put_at(*number, *condition);
@@ -287,33 +298,8 @@ impl Delays {
         Ok(end)
     }
 
-    /// Lists what a scan moves as `list_moved` does, where no alarm has a delay: all conditions count at once.
-    fn list_plain<S: Signals>(
-        &self,
-        bank: &Bank,
-        raw: &S,
-        moment: u64,
-        marks: &[bool],
-        moved: &mut Vec<(u32, Alarm)>,
-        changes: &mut Vec<(u32, Change)>,
-    ) -> Result<(), AllocError>
-        requires plain { have_none self.now.delays ≡ true }
-        requires later { self.now.last ≤ moment }
-        requires each { length bank.now.alarms ≡ length self.now.delays }
-        requires marks { length marks.now ≡ length self.now.delays }
-        requires conditions { length (S.conditions raw.now) ≡ length self.now.delays }
-        requires suppressions { length (S.suppressions raw.now) ≡ length self.now.delays }
-        requires unmarked { RawStay marks.now (S.conditions raw.now) (S.suppressions raw.now) self.now bank.now.alarms }
-        ensures { OnOk result (AreMovesOf bank.now.alarms (scan_each (delayed_each (S.conditions raw.now) moment self.now.delays self.now.since) (S.suppressions raw.now) moment bank.now.alarms) moved.new.items changes.new.items) }
-    {
-        let _last = self.last;
-        let first = next_mark(marks, 0);
-        bank.list_moved_among(marks, first, marks.len(), raw, moment, moved, changes)?;
-        Ok(())
-    }
-
     /// Lists the alarms of a bank that a scan moves, and the changes of their codes, as `Bank::list_moved` does, by the conditions that count; and for
-    /// `apply` the alarms whose conditions may have changed, unless no alarm has a delay. It looks at the marked alarms, and marks and looks at those whose conditions may come to
+    /// `apply` the alarms whose conditions may have changed. It looks at the marked alarms, and marks and looks at those whose conditions may come to
     /// count by time alone. Fails if allocation fails.
     pub fn list_moved<S: Signals>(
         &self,
@@ -332,12 +318,8 @@ impl Delays {
         requires suppressions { length (S.suppressions raw.now) ≡ length self.now.delays }
         requires unmarked { RawStay marks.old (S.conditions raw.now) (S.suppressions raw.now) self.now bank.now.alarms }
         ensures moved { OnOk result (AreMovesOf bank.now.alarms (scan_each (delayed_each (S.conditions raw.now) moment self.now.delays self.now.since) (S.suppressions raw.now) moment bank.now.alarms) moved.new.items changes.new.items) }
-        ensures met { OnOk result (have_none self.now.delays ≡ false → AreMet 0 (S.conditions raw.now) self.now.since met.new.items) }
+        ensures met { OnOk result (AreMet 0 (S.conditions raw.now) self.now.since met.new.items) }
     {
-        if self.is_plain {
-            self.list_plain(bank, raw, moment, marks, moved, changes)?;
-            return Ok(());
-        }
         self.due.mark_most(moment, marks);
         let first = next_mark(marks, 0);
         let end = self.list_met(raw, marks, first, met)?;
@@ -346,8 +328,7 @@ impl Delays {
             delays: self,
             moment,
         };
-        bank.list_moved_among(marks, first, end, &counted, moment, moved, changes)?;
-        Ok(())
+        bank.list_moved_among(marks, first, end, &counted, moment, moved, changes)
     }
 }
 
@@ -360,4 +341,9 @@ pub fn delays_agree()
 /// Law: alarms that take their scans by the conditions that count go on following the delays. (It does nothing when it is called.)
 pub fn alarms_follow()
     ensures { FollowsOn }
+{}
+
+/// Law: since when the conditions of new alarms have been met is what the scans tell that they keep. (It does nothing when it is called.)
+pub fn kept_scans_agree()
+    ensures { KeptAgree }
 {}

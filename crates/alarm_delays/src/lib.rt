@@ -5,6 +5,5 @@
 #![tactic(auto)]
 
 mod delays;
-mod seen;
 
-pub use delays::{Delays, alarms_follow, delays_agree};
+pub use delays::{Delays, alarms_follow, delays_agree, kept_scans_agree};

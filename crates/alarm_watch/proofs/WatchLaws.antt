@@ -5,9 +5,9 @@ use Rattle.std.proofs.lemmas.List.{length-map}
 use Rattle.std.proofs.lemmas.Option.{slice_get-map, slice_get_within, slice_get-get_or, get_or_from_slice_get}
 use Rattle.plant_types.specs.Values.{is_true}
 use Rattle.alarm_machine.specs.Alarms.{PlainAlarm}
-use Rattle.alarm_bank.proofs.BankLaws.{conditions_scanned, suppressions_scanned}
-use Rattle.alarm_delays.specs.Delays.{PlainDelays, AreMet, RawStay, after_conditions, after_met, delayed_each, have_none, since_each}
-use Rattle.alarm_delays.proofs.DelayLaws.{each_length, follows_on, none_counted, told_all}
+use Rattle.alarm_bank.proofs.BankLaws.{suppressions_scanned}
+use Rattle.alarm_delays.specs.Delays.{PlainDelays, RawStay, after_conditions, delayed_each, since_each}
+use Rattle.alarm_delays.proofs.DelayLaws.{each_length, follows_on}
 use Rattle.alarm_watch.specs.declared.watched.Watch.{Watch}
 use Rattle.alarm_watch.specs.Chains.{ChangesAreMarked, HasKey, condition_keys, suppress_keys}
 use Rattle.alarm_watch.specs.Watched.{suppression, watched_conditions, watched_suppressions, alarms_watched, Follow}
@@ -78,18 +78,3 @@ follow_after now t watches d alarms each delays since =
       suppressions = suppressions_scanned (delayed_each (watched_conditions now watches) t d.delays d.since) (watched_suppressions now watches) t alarms (omega (arith, counted, delays, each)) (omega (arith, suppressions, each));
       counted = follows_on d (watched_conditions now watches) (watched_suppressions now watches) t alarms (omega (arith, conditions, each)) (omega (arith, suppressions, each));
     }
-
--- what the delays are told of a scan of alarms that watch globals leaves them as their conditions do
-pub told_watched : (now : ℕ → ℤ) (t : ℕ) (watches : List Watch) (d : PlainDelays) (alarms : List PlainAlarm) (met : List (ℕ × Bool)) → length alarms ≡ length watches → length d.delays ≡ length watches → length d.since ≡ length watches
-    → (have_none d.delays ≡ false → AreMet 0 (watched_conditions now watches) d.since met) → after_met met t (alarms_watched now t watches d alarms) d ≡ after_conditions (watched_conditions now watches) t d
-told_watched now t watches d alarms met each delays since named =
-    let cs = watched_conditions now watches in
-    let ss = watched_suppressions now watches in
-    let conditions = length-map watches (λ (w : Watch). is_true (now w.condition)) in
-    let suppressions = length-map watches (λ (w : Watch). suppression now w.suppress) in
-    let counted = each_length cs t d.delays d.since (omega (arith, conditions, delays)) (omega (arith, since, delays)) in
-    told_all cs t d met (alarms_watched now t watches d alarms) (record {
-      each = omega (arith, conditions, since);
-      named = named;
-      seen = λ none. conditions_scanned (delayed_each cs t d.delays d.since) ss t alarms (omega (arith, counted, delays, each)) (omega (arith, suppressions, each)) ∙ none_counted cs t d.delays d.since (omega (arith, conditions, delays)) (omega (arith, since, delays)) none;
-    })

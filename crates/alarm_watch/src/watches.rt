@@ -5,7 +5,7 @@ ghost use Rattle.alarm_bank.specs.Moves.{AreMovesOf};
 ghost use Rattle.plant_cells.specs.Cells.{value_at};
 ghost use Rattle.alarm_watch.specs.Chains.{condition_keys, suppress_keys, ChangesAreMarked};
 ghost use Rattle.alarm_watch.specs.Watched.{alarms_watched, watched_conditions, Follow};
-ghost use Rattle.alarm_delays.specs.Delays.{AreMet, have_none};
+ghost use Rattle.alarm_delays.specs.Delays.{AreMet};
 
 use crate::chains::{Ranges, chains_of, mark_changed, ranges_of};
 use crate::watched::{Watch, Watched};
@@ -133,8 +133,8 @@ impl Watches {
         mark_changed(&self.conditions, &self.suppressions, before, now, marks);
     }
 
-    /// Lists the alarms that a scan moves, and the changes of their codes, as `Bank::list_moved` does, by the conditions that count; and for `Delays::apply` the
-    /// alarms whose conditions may have changed, unless no alarm has a delay. `now` is what the scan's programs leave. Where the alarms follow the cells, it looks only at
+    /// Lists the alarms that a scan moves, and the changes of their codes, as `Bank::list_moved` does, by the conditions that count; and the alarms whose
+    /// conditions may have changed, for `Delays::apply`. `now` is what the scan's programs leave. Where the alarms follow the cells, it looks only at
     /// the alarms one of whose globals changed and at those that come to count by time alone, or at all if a shelf ends. The marks are for their
     /// room. Fails if allocation fails.
     pub fn list_moved(
@@ -153,7 +153,7 @@ impl Watches {
         requires delays { length last.now.delays.now.delays ≡ length self.now }
         requires follow { last.now.follows ≡ true → Follow (value_at last.now.cells.now) self.now last.now.delays.now last.now.bank.now.alarms }
         ensures moved { OnOk result (AreMovesOf last.now.bank.now.alarms (alarms_watched (value_at now.now) moment self.now last.now.delays.now last.now.bank.now.alarms) moved.new.items changes.new.items) }
-        ensures met { OnOk result (have_none last.now.delays.now.delays ≡ false → AreMet 0 (watched_conditions (value_at now.now) self.now) last.now.delays.now.since met.new.items) }
+        ensures met { OnOk result (AreMet 0 (watched_conditions (value_at now.now) self.now) last.now.delays.now.since met.new.items) }
     {
         let LastScan {
             bank,

@@ -60,7 +60,7 @@ pub record IsReport (sys : System) (e : Event) (r : PlainReport) : Type 0 where
   pub outs_are : r.outs ≡ outs_of sys e
   pub outs_within : All (λ o. o.0 < length (globals_of sys.plant)) r.outs
 
--- what a scan does to a state: the cells, the faulted programs and the outputs that it leaves, the alarms whose conditions may have changed where one has a delay, those that it moves, and its moment
+-- what a scan does to a state: the cells, the faulted programs and the outputs that it leaves, the alarms whose conditions may have changed, those that it moves, and its moment
 pub record PlainScanEffect : Type 0 where
   pub cells : PlainCells
   pub faulted : List Bool
@@ -77,7 +77,7 @@ after_effect effect k =
       faulted = effect.faulted;
       follows = true;
       alarms = put_all k.alarms effect.moved;
-      delays = after_met effect.met effect.moment (put_all k.alarms effect.moved) k.delays;
+      delays = after_met effect.met effect.moment k.delays;
       outputs = effect.outputs;
       moment = effect.moment;
     }

@@ -1,4 +1,4 @@
-use Rattle.std.proofs.Common.{List, ◌≡◌, ◌∙◌, ap, sym, subst, fold, map, length, rules, arith}
+use Rattle.std.proofs.Common.{◌≡◌, ◌∙◌, ap, sym, subst, fold, map, length, rules, arith}
 use Rattle.std.proofs.lemmas.Grind.{common_steps}
 use Rattle.plant_cells.specs.Cells.{value_at}
 use Rattle.plant_system.specs.System.{outputs_from, outs_from}
@@ -8,10 +8,9 @@ use Rattle.plant_system.specs.Steps.{with_cell, output_in}
 use Rattle.plant_system.proofs.InRange.{inputs_have_cells, scan_stands}
 use Rattle.plant_system.proofs.Shown.{cells_showable, outputs_showable}
 use Rattle.plant_system.proofs.Outs.{outputs_renewed, outs_differ}
-use Rattle.alarm_watch.proofs.WatchLaws.{follow_after, told_watched}
-use Rattle.alarm_machine.specs.Alarms.{PlainAlarm}
-use Rattle.alarm_bank.specs.Moves.{put_all}
+use Rattle.alarm_watch.proofs.WatchLaws.{follow_after}
 use Rattle.alarm_delays.specs.Delays.{PlainDelays, after_conditions, after_met}
+use Rattle.alarm_delays.proofs.DelayLaws.{put_all}
 use Rattle.alarm_watch.specs.Watched.{Follow, alarms_watched, watched_conditions}
 use Rattle.plant_system.proofs.Watches.{each_watched, delays_many, watches_many}
 use Rattle.plant_system.proofs.scan.run_scan.Goals as goal
@@ -29,19 +28,14 @@ returns-clause-ok g c =
     let many = watches_many plant.alarms old.watches c.requires.ready.watches in
     let delays : length old.delays.delays ≡ length old.watches = ap length c.requires.ready.delays ∙ delays_many plant.alarms ∙ sym many in
     let since : length old.delays.since ≡ length old.watches = c.requires.ready.since ∙ sym many in
-    let t = c.args.moment in
-    let met = c.step_alarms.new.met.items in
-    let stepped : put_all old.alarms c.step_alarms.new.moved.items ≡ alarms_watched now t old.watches old.delays old.alarms = c.in_ok-step_alarms.ensures.alarms in
-    let told : after_met met t (alarms_watched now t old.watches old.delays old.alarms) old.delays ≡ after_conditions (watched_conditions now old.watches) t old.delays =
-    told_watched now t old.watches old.delays old.alarms met each delays since c.in_ok-step_alarms.ensures.met in
-    let kept : after_met met t (put_all old.alarms c.step_alarms.new.moved.items) old.delays ≡ after_conditions (watched_conditions now old.watches) t old.delays =
-    ap (λ (l : List PlainAlarm). after_met met t l old.delays) stepped ∙ told in
+    let kept : after_met c.step_alarms.new.met.items c.args.moment old.delays ≡ after_conditions (watched_conditions now old.watches) c.args.moment old.delays =
+    ap (λ l. record old.delays { since = l; last = c.args.moment }) (put_all c.args.moment (watched_conditions now old.watches) old.delays.since c.step_alarms.new.met.items c.in_ok-step_alarms.ensures.met) in
     record {
       programs = search rules;
       faults_within = search rules;
       sites_are = search rules;
       watches_are = search rules;
-      follow = rw c.in_ok-step_alarms.ensures.alarms (subst (λ (d : PlainDelays). Follow now old.watches d (alarms_watched now c.args.moment old.watches old.delays old.alarms)) (sym told) (follow_after now c.args.moment old.watches old.delays old.alarms each delays since));
+      follow = rw c.in_ok-step_alarms.ensures.alarms (subst (λ (d : PlainDelays). Follow now old.watches d (alarms_watched now c.args.moment old.watches old.delays old.alarms)) (sym kept) (follow_after now c.args.moment old.watches old.delays old.alarms each delays since));
       alarms_are = search rules;
       delays_are = kept;
       changes_are = search rules;

@@ -6,6 +6,3 @@ returns-clause-alarms c = rw (← c.old.view_is) (put_moved _ _ _ c.in_ok-list_m
 
 pub returns-clause-changes : goal.returns-clause-changes
 returns-clause-changes c = rw (← c.old.view_is) c.in_ok-list_moved.ensures.moved.changes
-
-pub returns-clause-met : goal.returns-clause-met
-returns-clause-met c = rw (← c.old.view_is) c.in_ok-list_moved.ensures.met

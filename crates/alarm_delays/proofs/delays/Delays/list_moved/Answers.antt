@@ -1,29 +1,24 @@
-use Rattle.std.proofs.Common.{arith, sym, ap, ◌∙◌, subst}
-use Rattle.alarm_delays.specs.Delays.{PlainDelays, IsDelays, have_none}
-use Rattle.alarm_delays.proofs.DelayLaws.{each_length, unmarked_stay, due_awaited}
+use Rattle.std.proofs.Common.{arith, sym, ◌∙◌, subst}
+use Rattle.alarm_delays.specs.Delays.{PlainDelays, IsDelays}
+use Rattle.alarm_delays.proofs.DelayLaws.{each_length, unmarked_stay}
 use Rattle.alarm_delays.proofs.delays.Delays.list_moved.Goals as goal
 
 pub list_moved_among-requires-clause-unmarked : goal.list_moved_among-requires-clause-unmarked
 list_moved_among-requires-clause-unmarked g c =
-    let d = c.args.self.now in
-    let is : IsDelays d.delays d.since d.last c.self.inside.due c.self.inside.since.items c.self.inside.is_plain = subst (λ (x : PlainDelays). IsDelays x.delays x.since x.last c.self.inside.due c.self.inside.since.items c.self.inside.is_plain) c.self.view_is c.self.invariant in
-    unmarked_stay d c.args.marks.now c.mark_most.new.marks (g.S.Signals.conditions c.args.raw.now) (g.S.Signals.suppressions c.args.raw.now) c.args.moment c.args.bank.now.alarms
-    is.each is.past c.requires.later c.requires.each c.mark_most.ensures.kept (due_awaited d c.self.inside.due c.self.inside.since.items c.self.inside.is_plain c.mark_most.new.marks c.args.moment is c.mark_most.ensures.marked) c.requires.unmarked
+    let is : IsDelays c.args.self.now.delays c.args.self.now.since c.args.self.now.last c.self.inside.due = subst (λ (d : PlainDelays). IsDelays d.delays d.since d.last c.self.inside.due) c.self.view_is c.self.invariant in
+    unmarked_stay c.args.self.now c.self.inside.due c.args.marks.now c.mark_most.new.marks (g.S.Signals.conditions c.args.raw.now) (g.S.Signals.suppressions c.args.raw.now) c.args.moment c.args.bank.now.alarms
+    is c.requires.later c.requires.each c.mark_most.ensures.kept c.mark_most.ensures.marked c.requires.unmarked
 
 pub list_moved_among-requires-clause-conditions : goal.list_moved_among-requires-clause-conditions
 list_moved_among-requires-clause-conditions g c =
-    let d = c.args.self.now in
-    let is : IsDelays d.delays d.since d.last c.self.inside.due c.self.inside.since.items c.self.inside.is_plain = subst (λ (x : PlainDelays). IsDelays x.delays x.since x.last c.self.inside.due c.self.inside.since.items c.self.inside.is_plain) c.self.view_is c.self.invariant in
-    each_length _ c.args.moment d.delays d.since c.requires.conditions is.each ∙ sym c.requires.each
+    let is : IsDelays c.args.self.now.delays c.args.self.now.since c.args.self.now.last c.self.inside.due = subst (λ (d : PlainDelays). IsDelays d.delays d.since d.last c.self.inside.due) c.self.view_is c.self.invariant in
+    each_length _ c.args.moment c.args.self.now.delays c.args.self.now.since c.requires.conditions is.each ∙ sym c.requires.each
 
 pub list_met-requires-clause-first : goal.list_met-requires-clause-first
 list_met-requires-clause-first g c = record { within = c.next_mark-first.ensures.within.1; clear = λ n less. c.next_mark-first.ensures.clear n (omega arith) less; set = c.next_mark-first.ensures.set }
 
 pub list_moved_among-requires-clause-clear : goal.list_moved_among-requires-clause-clear
 list_moved_among-requires-clause-clear g c = λ n less. c.next_mark-first.ensures.clear n (omega arith) less
-
-pub list_plain-requires-clause-plain : goal.list_plain-requires-clause-plain
-list_plain-requires-clause-plain g c = ap (λ (d : PlainDelays). have_none d.delays) (sym c.self.view_is) ∙ sym c.self.invariant.plain ∙ c.if-self.true
 
 pub list_moved_among-requires-clause-rest : goal.list_moved_among-requires-clause-rest
 list_moved_among-requires-clause-rest g c = c.in_ok-end.ensures.end

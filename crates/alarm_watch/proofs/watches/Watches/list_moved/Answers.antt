@@ -1,9 +1,6 @@
-use Rattle.std.proofs.Common.{◌≡◌, ◌∙◌, List, false, inl, inr, subst}
-use Rattle.std.specs.Prelude.{OnOk}
+use Rattle.std.proofs.Common.{◌≡◌, ◌∙◌, inl, inr}
 use Rattle.std.proofs.lemmas.Bool.{cases_Bool}
 use Rattle.plant_cells.specs.Cells.{value_at}
-use Rattle.alarm_delays.specs.Delays.{AreMet, have_none}
-use Rattle.alarm_watch.specs.declared.watched.Watch.{Watch}
 use Rattle.alarm_watch.specs.Watched.{watched_conditions, watched_suppressions}
 use Rattle.alarm_watch.proofs.WatchLaws.{none_unmarked, raw_stays, stays_raw}
 use Rattle.alarm_watch.proofs.watches.Watches.list_moved.Goals as goal
@@ -18,9 +15,3 @@ list_moved-requires-clause-unmarked c =
           (raw_stays c.args.self.now last.delays.now last.bank.now.alarms (value_at last.cells.now) now c.mark.new.marks c.requires.each (c.requires.follow follows) c.mark.ensures.conditions c.mark.ensures.suppressions)
       | inr not_so ↦ none_unmarked c.mark_all_unless.new.marks (watched_conditions now c.args.self.now) (watched_suppressions now c.args.self.now) last.delays.now last.bank.now.alarms (c.mark_all_unless.ensures.all not_so)
     ])
-
-pub returns-clause-met : goal.returns-clause-met
-returns-clause-met c =
-    let last = c.args.last.now in
-    let watches : c.as_slice-watches.result.now ≡ c.args.self.now = c.as_slice-watches.ensures.value ∙ c.self.view_is in
-    subst (λ (ws : List Watch). OnOk c.list_moved.result (have_none last.delays.now.delays ≡ false → AreMet 0 (watched_conditions (value_at c.args.now.now) ws) last.delays.now.since c.list_moved.new.met.items)) watches c.list_moved.ensures.met
