@@ -105,7 +105,8 @@ impl Verb {
     }
 }
 
-/// Why an order is refused; the first reason that holds, in this order, is the reply (this profile). An alarm itself returns only `WrongState` and `ShelveTime`.
+/// Why an order is refused: `OldPlant`, else the first other reason that holds, in this order, is the reply (this profile). An alarm itself returns only
+/// `WrongState` and `ShelveTime`.
 #[derive(Clone, Copy, Drop)]
 pub enum OrderFault {
     /// O1: there is no such alarm or program.
@@ -118,6 +119,8 @@ pub enum OrderFault {
     ShelveTime,
     /// O5: the program isn't faulted.
     NotFaulted,
+    /// O6: the order was made for a plant that has been replaced since.
+    OldPlant,
 }
 
 impl OrderFault {
@@ -131,6 +134,7 @@ impl OrderFault {
             OrderFault::WrongState => "O3",
             OrderFault::ShelveTime => "O4",
             OrderFault::NotFaulted => "O5",
+            OrderFault::OldPlant => "O6",
         }
     }
 }

@@ -51,7 +51,8 @@ fault_by n =
     else if n == 2 then fault.NotYourArea
     else if n == 3 then fault.WrongState
     else if n == 4 then fault.ShelveTime
-    else fault.NotFaulted
+    else if n == 5 then fault.NotFaulted
+    else fault.OldPlant
 
 fault_is : (e : OrderFault) → fault_by (fault_number e) ≡ e
 fault_is fault.UnknownTarget = refl
@@ -59,6 +60,7 @@ fault_is fault.NotYourArea = refl
 fault_is fault.WrongState = refl
 fault_is fault.ShelveTime = refl
 fault_is fault.NotFaulted = refl
+fault_is fault.OldPlant = refl
 
 faults_same : (e f : OrderFault) → (fault_number e == fault_number f) ≡ true → e ≡ f
 faults_same e f h = sym (fault_is e) ∙ (ap fault_by (eqb-true (fault_number e) (fault_number f) h) ∙ fault_is f)
@@ -91,13 +93,14 @@ no_restart verb.Remove h = refl
 no_restart verb.PutBack h = refl
 no_restart verb.Restart h = absurd (h refl)
 
-inside : (r : Result (Option PlainChange) OrderFault) → r ≢ Err fault.UnknownTarget → r ≢ Err fault.NotYourArea → is_outside r ≡ false
-inside (Ok c) h k = refl
-inside (Err fault.UnknownTarget) h k = absurd (h refl)
-inside (Err fault.NotYourArea) h k = absurd (k refl)
-inside (Err fault.WrongState) h k = refl
-inside (Err fault.ShelveTime) h k = refl
-inside (Err fault.NotFaulted) h k = refl
+inside : (r : Result (Option PlainChange) OrderFault) → r ≢ Err fault.UnknownTarget → r ≢ Err fault.NotYourArea → r ≢ Err fault.OldPlant → is_outside r ≡ false
+inside (Ok c) h k o = refl
+inside (Err fault.UnknownTarget) h k o = absurd (h refl)
+inside (Err fault.NotYourArea) h k o = absurd (k refl)
+inside (Err fault.WrongState) h k o = refl
+inside (Err fault.ShelveTime) h k o = refl
+inside (Err fault.NotFaulted) h k o = refl
+inside (Err fault.OldPlant) h k o = absurd (o refl)
 
 -- whether the reply is the table's for the order's alarm
 abbrev fits : PlainBank → Answer → Option ℕ → Bool
@@ -110,7 +113,7 @@ lawful_at p (x ∷ es) e fs h = lawful_at (after p x) es e fs (and_parts (allows
 
 -- of an order for which an alarm is asked this is left of what it may be replied
 asked_fits : (b : PlainBank) (a : Answer) → may_answer b a ≡ true → IsAsked a → fits b a a.order.target ≡ true
-asked_fits b a may asked = third (is_restart a.order.verb) (is_outside a.reply) (fits b a a.order.target) (no_restart a.order.verb asked.0) (inside a.reply asked.1.0 asked.1.1) may
+asked_fits b a may asked = third (is_restart a.order.verb) (is_outside a.reply) (fits b a a.order.target) (no_restart a.order.verb asked.0) (inside a.reply asked.1.0 asked.1.1 asked.1.2) may
 
 pub reply_is : (p : Picture) (console alarm : ℕ) (a : Answer) (es fs : List Entry) → is_lawful after allows p (es ++ entry.Order console a ∷ fs) ≡ true → IsAsked a → a.order.target ≡ Some alarm
     → a.reply ≡ reply_of alarm a.order.verb (shown after p es).bank

@@ -21,6 +21,7 @@ fault_number fault.NotYourArea = 2
 fault_number fault.WrongState = 3
 fault_number fault.ShelveTime = 4
 fault_number fault.NotFaulted = 5
+fault_number fault.OldPlant = 6
 
 -- whether two changes of a code are the same
 abbrev pub same_change : Option PlainChange → Option PlainChange → Bool
@@ -41,10 +42,11 @@ abbrev pub is_restart : Verb → Bool
 is_restart verb.Restart = true
 is_restart _ = false
 
--- whether a reply refuses the order before any alarm is asked: no such target, or not the console's
+-- whether a reply refuses the order before any alarm is asked: no such target, not the console's, or for an older plant
 abbrev pub is_outside : Result (Option PlainChange) OrderFault → Bool
 is_outside (Err fault.UnknownTarget) = true
 is_outside (Err fault.NotYourArea) = true
+is_outside (Err fault.OldPlant) = true
 is_outside _ = false
 
 -- the alarms after an order with its reply: one that is refused before any alarm is asked changes nothing
@@ -55,9 +57,9 @@ after_answer b a = if is_outside a.reply then b else elim a.order.target [ None 
 abbrev pub may_answer : PlainBank → Answer → Bool
 may_answer b a = is_restart a.order.verb || (is_outside a.reply || elim a.order.target [ None ↦ false | Some n ↦ same_reply a.reply (reply_of n a.order.verb b) ])
 
--- an order that is no restart, and isn't replied O1 or O2: an alarm was asked
+-- an order that is no restart, and isn't replied O1, O2 or O6: an alarm was asked
 abbrev pub IsAsked : Answer → Type 0
-IsAsked a = (a.order.verb ≢ verb.Restart) × ((a.reply ≢ Err fault.UnknownTarget) × (a.reply ≢ Err fault.NotYourArea))
+IsAsked a = (a.order.verb ≢ verb.Restart) × ((a.reply ≢ Err fault.UnknownTarget) × (a.reply ≢ Err fault.NotYourArea) × (a.reply ≢ Err fault.OldPlant))
 
 -- whether an event is a scan
 abbrev pub is_scan : BankEvent → Bool

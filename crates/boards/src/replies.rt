@@ -16,6 +16,7 @@ fn fault_number(fault: OrderFault) -> u8
         OrderFault::WrongState => 3,
         OrderFault::ShelveTime => 4,
         OrderFault::NotFaulted => 5,
+        OrderFault::OldPlant => 6,
     }
 }
 
@@ -55,7 +56,7 @@ fn is_outside(reply: Reply) -> bool
     ensures { result ≡ is_outside reply }
 {
     match reply {
-        Err(OrderFault::UnknownTarget | OrderFault::NotYourArea) => true,
+        Err(OrderFault::UnknownTarget | OrderFault::NotYourArea | OrderFault::OldPlant) => true,
         _ => false,
     }
 }

@@ -215,6 +215,7 @@ fn reply_line(refused: Option<OrderFault>) -> &'static [u8]
         Some(OrderFault::WrongState) => b"REPLY O3\n",
         Some(OrderFault::ShelveTime) => b"REPLY O4\n",
         Some(OrderFault::NotFaulted) => b"REPLY O5\n",
+        Some(OrderFault::OldPlant) => b"REPLY O6\n",
     }
 }
 

@@ -30,6 +30,7 @@ entry_same : (plant : PlainPlant) (e : Entry) → body_text e (name_of plant e) 
 entry_same plant (entry.Fault place trap) = ap (λ (path : List ℕ). fault_body path place.statement trap) (path_is plant place)
 entry_same plant (entry.Alarm alarm change) = refl
 entry_same plant (entry.Order console verb target refused) = refl
+entry_same plant (entry.Reload kept fresh) = refl
 
 -- and so is its text
 pub text_same : (plant : PlainPlant) (row : Row) → row_text plant.epoch row (name_of plant row.entry) ≡ named_text plant.epoch (named_row plant row)

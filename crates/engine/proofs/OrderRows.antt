@@ -71,6 +71,7 @@ named_target plant console verb n (Some fault.NotYourArea) there = (n, refl, the
 named_target plant console verb n (Some fault.WrongState) there = (n, refl, there)
 named_target plant console verb n (Some fault.ShelveTime) there = (n, refl, there)
 named_target plant console verb n (Some fault.NotFaulted) there = (n, refl, there)
+named_target plant console verb n (Some fault.OldPlant) there = tt
 
 abbrev Named : PlainPlant → ℕ → Verb → ℕ → Result Effect OrderFault → Type 0
 Named plant console verb n done = IsNamed plant (entry.Order console verb (Some n) (refusal_of done))

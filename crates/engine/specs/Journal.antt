@@ -16,7 +16,7 @@ use Rattle.journal_core.specs.declared.row.Entry.{Entry}
 use Rattle.journal_core.specs.declared.row.Entry.TheVariants as entry
 use Rattle.journal_core.specs.declared.row.Row.{Row}
 use Rattle.journal_core.specs.Rows.{fault_entry, change_entry}
-use Rattle.journal_core.specs.Bodies.{fault_body, alarm_body, order_body}
+use Rattle.journal_core.specs.Bodies.{fault_body, alarm_body, order_body, reload_body}
 use Rattle.plant_config.specs.Plants.{PlainPlant}
 use Rattle.plant_config.specs.Names.{programs_of, body_paths, tag_of, program_at, body_path}
 use Rattle.operator_orders.specs.Orders.{order_with}
@@ -28,11 +28,12 @@ use Rattle.plant_system.specs.Reports.{PlainReport}
 use Rattle.plant_system.specs.Orders.{is_restart, changed_by}
 use Rattle.plant_system.specs.System.{System, opening_system, after_event, ordered, faults_of, changes_of}
 
--- what a row tells, by names alone: a program's fault at a spot, the change of the code of the alarm with a tag, or an order of a console, the name of its target if there is one, and why it was refused, if it was
+-- what a row tells, by names alone: a program's fault at a spot, the change of the code of the alarm with a tag, an order of a console, the name of its target if there is one, and why it was refused, if it was, or a reload: how many alarms kept their states and how many are new
 pub data NamedEntry : Type 0 where
   FaultAt : Spot → Trap → NamedEntry
   ChangeOf : List ℕ → PlainChange → NamedEntry
   OrderBy : ℕ → Verb → Option (List ℕ) → Option OrderFault → NamedEntry
+  Reloaded : ℕ → ℕ → NamedEntry
 
 -- a row by names: its number, the moment of its event, and what it tells
 pub record NamedRow : Type 0 where
@@ -44,9 +45,10 @@ pub record NamedRow : Type 0 where
 abbrev pub target_name : PlainPlant → Verb → ℕ → List ℕ
 target_name plant verb n = if is_restart verb then program_at plant n else tag_of plant n
 
--- the name that an order's row has for its target; none where the order was refused because there is no target
+-- the name that an order's row has for its target; none where the order was refused because there is no target, or because it was made for an older plant
 abbrev pub order_target : PlainPlant → Verb → Option ℕ → Option OrderFault → Option (List ℕ)
 order_target plant verb target (Some fault.UnknownTarget) = None
+order_target plant verb target (Some fault.OldPlant) = None
 order_target plant verb target refused = option_map (target_name plant verb) target
 
 -- the change of an alarm's code, by the alarm's tag
@@ -62,6 +64,7 @@ abbrev pub named_entry : PlainPlant → Entry → NamedEntry
 named_entry plant (entry.Fault place trap) = FaultAt (place_spot plant.source place) trap
 named_entry plant (entry.Alarm alarm change) = named_change plant (alarm, change)
 named_entry plant (entry.Order console verb target refused) = named_order plant console (order_with verb target) refused
+named_entry plant (entry.Reload kept fresh) = Reloaded kept fresh
 
 -- a row by the names of a plant
 abbrev pub named_row : PlainPlant → Row → NamedRow
@@ -77,6 +80,7 @@ abbrev pub entry_text : NamedEntry → List ℕ
 entry_text (FaultAt spot trap) = fault_body (path_text spot.path) spot.statement trap
 entry_text (ChangeOf tag change) = alarm_body tag change
 entry_text (OrderBy console verb target refused) = order_body console verb (target_text target) refused
+entry_text (Reloaded kept fresh) = reload_body kept fresh
 
 -- the text of a row by names, of a journal with this epoch: `NUMBER STAMP BODY`
 abbrev pub named_text : ℕ → NamedRow → List ℕ
@@ -135,23 +139,26 @@ journal_of plant history = journal_from 1 (opening_system plant) history
 abbrev pub HasTarget : PlainPlant → Verb → ℕ → Type 0
 HasTarget plant verb n = n < (if is_restart verb then length (programs_of plant) else length plant.alarms)
 
--- the plant has what an entry names by number: the path of a fault, an alarm, and the target of an order that isn't refused for want of it
+-- the plant has what an entry names by number: the path of a fault, an alarm, and the target of an order that isn't refused for want of it or as made for an older plant
 abbrev pub IsNamed : PlainPlant → Entry → Type 0
 IsNamed plant (entry.Fault place trap) = place.path < length (body_paths plant)
 IsNamed plant (entry.Alarm alarm change) = alarm < length plant.alarms
 IsNamed plant (entry.Order console verb target (Some fault.UnknownTarget)) = Unit {0}
+IsNamed plant (entry.Order console verb target (Some fault.OldPlant)) = Unit {0}
 IsNamed plant (entry.Order console verb target refused) = (n : ℕ) × (target ≡ Some n) × HasTarget plant verb n
+IsNamed plant (entry.Reload kept fresh) = Unit {0}
 
 -- the rows of a log, by the names of the plant, are the journal of a history, and the plant has what each names
 pub record IsJournal (plant : PlainPlant) (history : List Event) (rows : List Row) : Type 0 where
   pub rows_are : map (named_row plant) rows ≡ journal_of plant history
   pub named : All (λ row. IsNamed plant row.entry) rows
 
--- the name with which an entry of a plant is printed: a fault's path, an alarm's tag, an order's target
+-- the name with which an entry of a plant is printed: a fault's path, an alarm's tag, an order's target; a reload has none
 abbrev pub name_of : PlainPlant → Entry → List ℕ
 name_of plant (entry.Fault place trap) = body_path plant place.path
 name_of plant (entry.Alarm alarm change) = tag_of plant alarm
 name_of plant (entry.Order console verb target refused) = target_text (order_target plant verb target refused)
+name_of plant (entry.Reload kept fresh) = []
 
 -- the line of a number in a journal with this epoch is the text of the row of that number
 pub record IsLine (epoch : ℕ) (journal : List NamedRow) (number : ℕ) (text : List ℕ) : Type 0 where

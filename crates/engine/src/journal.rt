@@ -94,7 +94,7 @@ fn target_name(plant: &Plant, verb: Verb, number: u32) -> &str
     }
 }
 
-/// The target of an order as its row has it: its name, `?` where the order was refused because there is none.
+/// The target of an order as its row has it: its name, `?` where the order was refused because there is none, or because it was made for an older plant.
 fn order_name(
     plant: &Plant,
     console: u32,
@@ -106,7 +106,7 @@ fn order_name(
     ensures { result.now ≡ target_text (order_target plant.now verb target refused) }
 {
     match (refused, target) {
-        (Some(OrderFault::UnknownTarget), _) => "?",
+        (Some(OrderFault::UnknownTarget | OrderFault::OldPlant), _) => "?",
         (_, Some(number)) => target_name(plant, verb, number),
         (_, None) => "?",
     }
@@ -136,5 +136,6 @@ pub fn line_text(alloc: Global, plant: &Plant, row: &Row) -> Result<String, Allo
             row,
             order_name(plant, console, verb, target, refused),
         ),
+        Entry::Reload { .. } => row_text(alloc, epoch, row, ""),
     }
 }

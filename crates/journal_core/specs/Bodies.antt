@@ -36,11 +36,16 @@ abbrev pub order_body : ℕ → Verb → List ℕ → Option OrderFault → List
 order_body console order target refused =
     codes "ORDER " ++ decimal console ++ codes " " ++ verb_text order ++ codes " " ++ target ++ codes " " ++ shelf_text order ++ reply_text refused
 
--- the body of a row: the name is that of its path, its alarm or its order's target
+-- the body for a reload: `RELOAD KEPT k NEW n`, how many alarms kept their states and how many are new
+abbrev pub reload_body : ℕ → ℕ → List ℕ
+reload_body kept fresh = codes "RELOAD KEPT " ++ decimal kept ++ codes " NEW " ++ decimal fresh
+
+-- the body of a row: the name is that of its path, its alarm or its order's target; a reload's has none
 abbrev pub body_text : Entry → List ℕ → List ℕ
 body_text (entry.Fault place kind) name = fault_body name place.statement kind
 body_text (entry.Alarm number change) name = alarm_body name change
 body_text (entry.Order console order target refused) name = order_body console order name refused
+body_text (entry.Reload kept fresh) name = reload_body kept fresh
 
 -- the text of a row of the journal of a plant with this epoch: `NUMBER STAMP BODY`
 abbrev pub row_text : ℕ → Row → List ℕ → List ℕ

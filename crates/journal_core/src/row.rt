@@ -19,6 +19,8 @@ pub enum Entry {
         /// Why it was refused; `None` if it was done.
         refused: Option<OrderFault>,
     },
+    /// The plant was replaced while it ran: so many alarms kept their states, and so many are new.
+    Reload { kept: u32, fresh: u32 },
 }
 
 /// One row of a journal.

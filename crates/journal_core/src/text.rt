@@ -1,6 +1,6 @@
 ghost use Rattle.std.specs.Prelude.{◌≡◌, ◌++◌, ◌≤◌, string_bytes, OnOk, IfOk};
 ghost use Rattle.alarm_machine.specs.declared.limits.TheConstants.{LAST_MOMENT};
-ghost use Rattle.journal_core.specs.Bodies.{fault_body, alarm_body, shelf_text, reply_text, order_body, body_text, row_text};
+ghost use Rattle.journal_core.specs.Bodies.{fault_body, alarm_body, shelf_text, reply_text, order_body, reload_body, body_text, row_text};
 
 use crate::row::{Entry, Row};
 use alarm_machine::{Change, OrderFault, Verb};
@@ -87,6 +87,17 @@ fn push_order(
     Ok(())
 }
 
+/// Appends `RELOAD KEPT k NEW n`. Fails if allocation fails.
+fn push_reload(alloc: Global, text: &mut String, kept: u32, fresh: u32) -> Result<(), AllocError>
+    ensures { OnOk result (string_bytes text.new ≡ string_bytes text.old ++ reload_body kept fresh) }
+{
+    text.push_str("RELOAD KEPT ")?;
+    text.push_str(&kept.to_string(alloc)?)?;
+    text.push_str(" NEW ")?;
+    text.push_str(&fresh.to_string(alloc)?)?;
+    Ok(())
+}
+
 /// Appends the body of a row. Fails if allocation fails.
 fn push_body(alloc: Global, text: &mut String, entry: Entry, name: &str) -> Result<(), AllocError>
     ensures { OnOk result (string_bytes text.new ≡ string_bytes text.old ++ body_text entry name.now) }
@@ -100,11 +111,12 @@ fn push_body(alloc: Global, text: &mut String, entry: Entry, name: &str) -> Resu
             target: _,
             refused,
         } => push_order(alloc, text, console, verb, name, refused),
+        Entry::Reload { kept, fresh } => push_reload(alloc, text, kept, fresh),
     }
 }
 
 /// The text of a row, as it stands in a journal: its number, its stamp after the plant's epoch, and its body. The name is that of the
-/// faulted program's path, the alarm's tag, or the order's target, `?` where that is unknown. Fails if allocation fails.
+/// faulted program's path, the alarm's tag, or the order's target, `?` where that is unknown; the row of a reload has none, whatever the name. Fails if allocation fails.
 pub fn row_text(alloc: Global, epoch: &Epoch, row: &Row, name: &str) -> Result<String, AllocError>
     requires { row.now.moment ≤ LAST_MOMENT }
     ensures { IfOk result (λ text. string_bytes text ≡ row_text epoch.now row.now name.now) }

@@ -152,6 +152,7 @@ pub fn push_texts(page: &mut Page, words: &str) {
         OrderFault::WrongState,
         OrderFault::ShelveTime,
         OrderFault::NotFaulted,
+        OrderFault::OldPlant,
     ] {
         page.word(fault.text());
     }

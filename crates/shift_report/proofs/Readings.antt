@@ -46,7 +46,8 @@ refusal_by n =
     else if n == 2 then Some fault.NotYourArea
     else if n == 3 then Some fault.WrongState
     else if n == 4 then Some fault.ShelveTime
-    else Some fault.NotFaulted
+    else if n == 5 then Some fault.NotFaulted
+    else Some fault.OldPlant
 
 refusal_is : (r : Option OrderFault) → refusal_by (refusal_of r) ≡ r
 refusal_is None = refl
@@ -55,6 +56,7 @@ refusal_is (Some fault.NotYourArea) = refl
 refusal_is (Some fault.WrongState) = refl
 refusal_is (Some fault.ShelveTime) = refl
 refusal_is (Some fault.NotFaulted) = refl
+refusal_is (Some fault.OldPlant) = refl
 
 pub told_apart : (v w : Verb) (t u : Option ℕ) (r s : Option OrderFault) → telling_of v t r ≡ telling_of w u s → (v ≡ w) × (t ≡ u) × (r ≡ s)
 told_apart v w t u r s e = (

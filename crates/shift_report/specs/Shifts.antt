@@ -35,6 +35,7 @@ abbrev pub is_counted : Orders → Entry → Bool
 is_counted which (entry.Fault place trap) = false
 is_counted which (entry.Alarm alarm change) = false
 is_counted which (entry.Order console verb target refused) = is_among which console verb refused
+is_counted which (entry.Reload kept fresh) = false
 
 -- the time of a shelving, and 0 of all else
 abbrev pub time_of : Verb → ℕ
@@ -59,6 +60,7 @@ refusal_of (Some fault.NotYourArea) = 2
 refusal_of (Some fault.WrongState) = 3
 refusal_of (Some fault.ShelveTime) = 4
 refusal_of (Some fault.NotFaulted) = 5
+refusal_of (Some fault.OldPlant) = 6
 
 -- what is told of an order and its refusal
 abbrev pub telling_of : Verb → Option ℕ → Option OrderFault → Telling
@@ -69,6 +71,7 @@ abbrev pub telling_in : ℕ → Entry → Option Telling
 telling_in console (entry.Fault place trap) = None
 telling_in console (entry.Alarm alarm change) = None
 telling_in console (entry.Order number verb target refused) = if number == console then Some (telling_of verb target refused) else None
+telling_in console (entry.Reload kept fresh) = None
 
 -- and what rows tell of this console's orders, one after another
 abbrev pub tellings : ℕ → List Row → List Telling

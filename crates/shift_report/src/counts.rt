@@ -51,7 +51,7 @@ fn is_counted(orders: Orders, entry: &Entry) -> bool
     ensures { result ≡ is_counted orders entry.now }
 {
     match entry {
-        Entry::Fault(_, _) | Entry::Alarm(_, _) => false,
+        Entry::Fault(_, _) | Entry::Alarm(_, _) | Entry::Reload { .. } => false,
         Entry::Order {
             console,
             verb,

@@ -64,6 +64,7 @@ fn refusal_of(refused: Option<OrderFault>) -> u8
         Some(OrderFault::WrongState) => 3,
         Some(OrderFault::ShelveTime) => 4,
         Some(OrderFault::NotFaulted) => 5,
+        Some(OrderFault::OldPlant) => 6,
     }
 }
 
@@ -84,7 +85,7 @@ fn telling_in(console: u32, entry: &Entry) -> Option<Telling>
     ensures { result ≡ telling_in console entry.now }
 {
     match entry {
-        Entry::Fault(_, _) | Entry::Alarm(_, _) => None,
+        Entry::Fault(_, _) | Entry::Alarm(_, _) | Entry::Reload { .. } => None,
         Entry::Order {
             console: number,
             verb,
