@@ -39,13 +39,14 @@ scan_fits t cs ss b = (length cs == length b.alarms) && (length ss == length b.a
 abbrev pub order_one : ℕ → Verb → PlainBank → Option (Result PlainAlarm OrderFault)
 order_one n v b = elim (slice_get b.alarms n) [ None ↦ None | Some a ↦ Some (after_order v b.moment a) ]
 
--- the bank after an event; one that doesn't fit, or is refused, changes nothing
+-- the bank after an event; one that doesn't fit, or is refused, changes nothing. A bank has no places for other alarms, so a reload doesn't fit
 abbrev pub after_event : BankEvent → PlainBank → PlainBank
 after_event (event.Scan t cs ss) b = if scan_fits t cs ss b then record b { alarms = scan_each cs ss t b.alarms; moment = t } else b
 after_event (event.Order n v) b = elim (order_one n v b) [
   | None ↦ b
   | Some r ↦ elim r [ Ok a ↦ record b { alarms = slice_set b.alarms n a } | Err e ↦ b ]
 ]
+after_event (event.Reload news) b = b
 
 -- what an order to an alarm is answered
 abbrev pub told : PlainAlarm → Result PlainAlarm OrderFault → Result (Option PlainChange) OrderFault

@@ -1,10 +1,12 @@
 -- The alarms of a plant that takes the place of another one while it runs.
-use Rattle.std.specs.Prelude.{ℕ, ◌≤◌, Bool, true, ◌&&◌, nat_le, nat_lt, Option, Some, None, List, [], ◌∷◌, length, map, slice_get}
+use Rattle.std.specs.Prelude.{ℕ, ◌≤◌, Bool, true, ◌&&◌, if◌then◌else◌, nat_le, nat_lt, Option, Some, None, List, [], ◌∷◌, length, map, slice_get}
 use Rattle.alarm_machine.specs.declared.limits.TheConstants.{LAST_MOMENT, LONGEST_SHELVE_MS}
 use Rattle.alarm_machine.specs.Alarms.{PlainAlarm, new_alarm, keeping}
 use Rattle.alarm_bank.specs.declared.rows.Site.{Site}
 use Rattle.alarm_bank.specs.declared.rows.NewAlarm.{NewAlarm}
-use Rattle.alarm_bank.specs.Banks.{PlainBank}
+use Rattle.alarm_bank.specs.declared.event.BankEvent.{BankEvent}
+use Rattle.alarm_bank.specs.declared.event.BankEvent.TheVariants as event
+use Rattle.alarm_bank.specs.Banks.{PlainBank, after_event}
 
 -- a new alarm before its first scan: it is normal, its last condition and suppression are FALSE
 abbrev pub opened : NewAlarm → PlainAlarm
@@ -15,7 +17,7 @@ abbrev pub keeping_some : Option PlainAlarm → PlainAlarm → PlainAlarm
 keeping_some None a = a
 keeping_some (Some old) a = keeping old a
 
--- what a new alarm is after old ones: it keeps the state of the one of its kept number, if that is there, and else it is as before its first scan
+-- what a new alarm is after old ones: it keeps the state of the one of its kept number, and else it is as before its first scan. A number that isn't there doesn't fit
 abbrev pub alarm_of : List PlainAlarm → NewAlarm → PlainAlarm
 alarm_of old new = elim new.kept [ None ↦ opened new | Some k ↦ keeping_some (slice_get old k) (opened new) ]
 
@@ -24,20 +26,20 @@ abbrev pub sites_of : List NewAlarm → List Site
 sites_of news = map (λ (new : NewAlarm). new.site) news
 
 -- a bank with new alarms in the place of its own: the moment stays
-abbrev pub reloaded : List NewAlarm → PlainBank → PlainBank
-reloaded news b = record b { sites = sites_of news; alarms = map (alarm_of b.alarms) news }
+abbrev pub bank_reloaded : List NewAlarm → PlainBank → PlainBank
+bank_reloaded news b = record b { sites = sites_of news; alarms = map (alarm_of b.alarms) news }
 
 -- the longest shelving of a new alarm is at most 30 days
 abbrev pub IsShelvable : NewAlarm → Type 0
 IsShelvable new = new.max_shelve_ms ≤ LONGEST_SHELVE_MS
 
--- a table: the alarms as a bank has them, and for how many there are places
-pub record PlainTable : Type 0 where
+-- an annunciator: the alarms as a bank has them, and for how many there are places
+pub record PlainAnnunciator : Type 0 where
   pub bank : PlainBank
   pub places : ℕ
 
--- what holds of every table: its alarms have places, and each of its lists has room for as many as there are places
-pub record IsTable (alarms : List PlainAlarm) (moment places sites_room alarms_room spare_room : ℕ) : Type 0 where
+-- what holds of every annunciator: its alarms have places, and each of its lists has room for as many as there are places
+pub record IsAnnunciator (alarms : List PlainAlarm) (moment places sites_room alarms_room spare_room : ℕ) : Type 0 where
   pub within : length alarms ≤ places
   pub in_range : moment ≤ LAST_MOMENT
   pub sites : places ≤ sites_room
@@ -58,10 +60,16 @@ abbrev pub all_fit : ℕ → List NewAlarm → Bool
 all_fit count [] = true
 all_fit count (new ∷ news) = fits_in count new && all_fit count news
 
--- whether new alarms may take the places of a table's: there are places for them, and each may take its own
-abbrev pub reload_fits : List NewAlarm → PlainTable → Bool
-reload_fits news t = nat_le (length news) t.places && all_fit (length t.bank.alarms) news
+-- whether new alarms may take the places of an annunciator's: there are places for them, and each may take its own
+abbrev pub reload_fits : List NewAlarm → PlainAnnunciator → Bool
+reload_fits news p = nat_le (length news) p.places && all_fit (length p.bank.alarms) news
 
--- a table after its alarms' places were taken by new ones
-abbrev pub table_reloaded : List NewAlarm → PlainTable → PlainTable
-table_reloaded news t = record t { bank = reloaded news t.bank }
+-- an annunciator whose alarms' places were taken by new ones
+abbrev pub reloaded_in : List NewAlarm → PlainAnnunciator → PlainAnnunciator
+reloaded_in news p = record p { bank = bank_reloaded news p.bank }
+
+-- an annunciator after an event; one that doesn't fit, or is refused, changes nothing
+abbrev pub annunciator_after : BankEvent → PlainAnnunciator → PlainAnnunciator
+annunciator_after (event.Scan t cs ss) p = record p { bank = after_event (event.Scan t cs ss) p.bank }
+annunciator_after (event.Order n v) p = record p { bank = after_event (event.Order n v) p.bank }
+annunciator_after (event.Reload news) p = if reload_fits news p then reloaded_in news p else p

@@ -1,16 +1,16 @@
 //! The alarms of a plant.
 
-ghost use Rattle.std.specs.Prelude.{◌≡◌, ℕ, ◌≤◌, ◌<◌, ◌^◌, List, length, slice_get, IfSome, IfNone, IfOk, OnOk, All, Some, slice_set, slice_index, map, false};
+ghost use Rattle.std.specs.Prelude.{◌≡◌, ℕ, ◌≤◌, ◌<◌, ◌^◌, List, length, slice_get, IfSome, IfNone, IfOk, OnOk, All, Some, slice_set, slice_index, map, true, false};
 ghost use Rattle.std.specs.Option.{option_map};
 ghost use Rattle.alarm_machine.specs.declared.limits.TheConstants.{LAST_MOMENT};
 ghost use Rattle.alarm_machine.specs.Alarms.{PlainAlarm, end_of, EndsInRange};
 ghost use Rattle.alarm_bank.specs.Banks.{IsSite, scan_each, after_event, reply_of, counted, end_or_never, IsNextEnd, NoneShelved, IsSettled};
-ghost use Rattle.alarm_bank.specs.Reloads.{IsShelvable, reloaded, sites_of};
+ghost use Rattle.alarm_bank.specs.Reloads.{all_fit, bank_reloaded, sites_of};
 ghost use Rattle.alarm_bank.specs.Moves.{AreMoved, AddsMove, AreMovesOf, UnmarkedStay, NoShelfEnds, put_all};
 
 use crate::event::BankEvent;
 use crate::marks::next_mark;
-use crate::news::{alarms_of, sites_of};
+use crate::news::{alarms_of, all_fit, sites_of};
 use crate::rows::{Counted, NewAlarm, Site};
 use crate::shelf::Shelf;
 use crate::signals::Signals;
@@ -171,15 +171,22 @@ impl Bank {
         })
     }
 
-    /// The bank with new alarms in the place of its own, of at most 64 areas. One that keeps the state of an old alarm has that alarm's state, the
+    /// Whether new alarms may take the place of its own: each old alarm whose state one keeps is there, and no longest shelving is above 30 days.
+    pub fn fits(&self, news: &[NewAlarm]) -> bool
+        ensures { result ≡ all_fit (length self.now.alarms) news.now }
+    {
+        all_fit(self.alarms.len(), news)
+    }
+
+    /// The bank with new alarms that fit in the place of its own, of at most 64 areas. One that keeps the state of an old alarm has that alarm's state, the
     /// end of its shelf and its last condition and suppression; the others are as before their first scan. The moment stays. The
     /// old bank stays as it is. Fails if allocation fails.
     pub fn reloaded(&self, alloc: Global, areas: u32, news: &[NewAlarm]) -> Result<Bank, AllocError>
         requires few { length news.now < 2 ^ 32 }
         requires areas { areas ≤ 64 }
         requires sites { All (IsSite areas) (sites_of news.now) }
-        requires shelving { All IsShelvable news.now }
-        ensures { IfOk result (λ bank. bank ≡ reloaded news.now self.now) }
+        requires fit { all_fit (length self.now.alarms) news.now ≡ true }
+        ensures { IfOk result (λ bank. bank ≡ bank_reloaded news.now self.now) }
     {
         let sites = sites_of(alloc, news)?;
         let alarms = alarms_of(alloc, self.alarms.as_slice(), news)?;
@@ -296,7 +303,7 @@ impl Bank {
     }
 
     /// Takes an event. One that doesn't fit changes nothing: a scan with another number of conditions or suppressions or a moment above
-    /// the last one of all, an order to an alarm that isn't there, or one that is refused.
+    /// the last one of all, an order to an alarm that isn't there, or one that is refused; and a reload, for which an `Annunciator` has places.
     pub fn advance(&mut self, event: &BankEvent)
         ensures { self.new ≡ after_event event.now self.old }
     {
@@ -316,6 +323,7 @@ impl Bank {
             BankEvent::Order { alarm, verb } => {
                 self.order(*alarm, *verb);
             }
+            BankEvent::Reload(_) => {}
         }
     }
 

@@ -1,9 +1,11 @@
 //! What happens to the alarms of a plant.
 
+use crate::rows::NewAlarm;
 use alarm_machine::Verb;
 use plant_types::Items;
 
-/// An event: a scan, which gives each alarm its condition and suppression, or an order to one alarm. Alarms are numbered from 0.
+/// An event: a scan, which gives each alarm its condition and suppression, an order to one alarm, or a reload, which puts the alarms of another plant in the place
+/// of all. Alarms are numbered from 0.
 #[derive(Drop)]
 pub enum BankEvent {
     Scan {
@@ -18,4 +20,5 @@ pub enum BankEvent {
         alarm: u32,
         verb: Verb,
     },
+    Reload(Items<NewAlarm>),
 }

@@ -1,9 +1,10 @@
 //! The alarms of a plant: each takes its step by itself, their codes are counted, and the least end of their shelves is known at once.
 //!
-//! An event changes the alarms by the table of `alarm_machine` and takes no memory. A scan may also be made ready as the list of the
+//! An event changes the alarms by the table of `alarm_machine` and takes no memory. An annunciator has places for the alarms of another plant too. A scan may also be made ready as the list of the
 //! alarms that it moves, while the bank stays; and its steps may be shared out among threads.
 #![tactic(auto)]
 
+mod annunciator;
 mod bank;
 mod event;
 mod marks;
@@ -12,8 +13,8 @@ mod rows;
 mod shelf;
 mod signals;
 mod summary;
-mod table;
 
+pub use annunciator::Annunciator;
 pub use bank::Bank;
 pub use event::BankEvent;
 pub use marks::next_mark;
@@ -21,4 +22,3 @@ pub use rows::{Counted, NewAlarm, Site};
 pub use shelf::Shelf;
 pub use signals::Signals;
 pub use summary::Summary;
-pub use table::Table;

@@ -1,11 +1,40 @@
 //! The alarms of a plant that takes the place of another one while it runs.
 
 ghost use Rattle.std.specs.Prelude.{◌≡◌, map, All, IfOk};
-ghost use Rattle.alarm_bank.specs.Reloads.{IsShelvable, alarm_of, sites_of};
+ghost use Rattle.alarm_bank.specs.Reloads.{IsShelvable, alarm_of, all_fit, fits_in, is_there, sites_of};
 
 use crate::rows::{NewAlarm, Site};
-use alarm_machine::Alarm;
+use alarm_machine::{Alarm, LONGEST_SHELVE_MS};
 use std::alloc::{AllocError, Global};
+
+/// Whether the old alarm whose state a new one keeps is there, of so many.
+fn is_there(count: usize, kept: Option<u32>) -> bool
+    ensures { result ≡ is_there count kept }
+{
+    match kept {
+        None => true,
+        Some(number) => (number as usize) < count,
+    }
+}
+
+/// Whether a new alarm may take its place after so many old ones.
+fn fits_in(count: usize, new: &NewAlarm) -> bool
+    ensures { result ≡ fits_in count new.now }
+{
+    u64::from(new.max_shelve_ms) <= LONGEST_SHELVE_MS && is_there(count, new.kept)
+}
+
+/// Whether all new alarms may.
+pub fn all_fit(count: usize, news: &[NewAlarm]) -> bool
+    ensures { result ≡ all_fit count news.now }
+{
+    for new in news {
+        if !fits_in(count, new) {
+            return false;
+        }
+    }
+    true
+}
 
 /// The areas and priorities of new alarms. Fails if allocation fails.
 pub fn sites_of(alloc: Global, news: &[NewAlarm]) -> Result<Vec<Site>, AllocError>

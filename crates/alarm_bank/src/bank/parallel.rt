@@ -200,6 +200,7 @@ impl Bank {
                 self.advance(event);
                 Ok(changes)
             }
+            BankEvent::Reload(_) => Ok(Vec::new(alloc)),
         }
     }
 }

@@ -1,7 +1,7 @@
 use Rattle.std.proofs.Common.{◌≡◌, take}
 use Rattle.std.specs.Prelude.{vec_capacity}
 use Rattle.alarm_bank.specs.Reloads.{sites_of}
-use Rattle.alarm_bank.proofs.table.fill_sites.Given as goal
+use Rattle.alarm_bank.proofs.annunciator.fill_sites.Given as goal
 
 abbrev pub invariant-loop-new : goal.invariant-loop-new
 invariant-loop-new l = record {

@@ -1,6 +1,6 @@
 use Rattle.std.proofs.Common.{arith}
 use Rattle.std.proofs.lemmas.Grind.{common_steps}
-use Rattle.alarm_bank.proofs.table.Table.advance.Goals as goal
+use Rattle.alarm_bank.proofs.annunciator.Annunciator.advance.Goals as goal
 
 pub scan-requires-clause-conds : goal.scan-requires-clause-conds
 scan-requires-clause-conds c = grind (arith, common_steps)

@@ -3,20 +3,20 @@
 ghost use Rattle.std.specs.Prelude.{◌≡◌, ◌≤◌, ◌<◌, ◌^◌, true, length, map, slice_get, slice_set, vec_capacity, All, IfOk, Some};
 ghost use Rattle.alarm_machine.specs.declared.limits.TheConstants.{LAST_MOMENT};
 ghost use Rattle.alarm_bank.specs.Banks.{scan_each, after_event, reply_of};
-ghost use Rattle.alarm_bank.specs.Reloads.{IsShelvable, alarm_of, all_fit, fits_in, is_there, reload_fits, sites_of, table_reloaded, PlainTable};
+ghost use Rattle.alarm_bank.specs.Reloads.{IsShelvable, alarm_of, annunciator_after, reload_fits, reloaded_in, sites_of};
 
 use crate::bank::Bank;
 use crate::event::BankEvent;
-use crate::news::alarm_of;
+use crate::news::{alarm_of, all_fit};
 use crate::rows::{NewAlarm, Site};
-use alarm_machine::{Alarm, AlarmState, Change, LAST_MOMENT, LONGEST_SHELVE_MS, OrderFault, Verb};
+use alarm_machine::{Alarm, AlarmState, Change, LAST_MOMENT, OrderFault, Verb};
 use std::alloc::{AllocError, Global};
 use std::marker::Model;
 use std::mem::swap;
 
-/// The alarms of a plant as a `Bank` has them, with places for so many, so that those of another plant can take their places without memory.
-/// It has no summary of codes and no index of shelves.
-pub struct Table {
+/// The alarms of a plant as a `Bank` has them, each in one of so many places, so that those of another plant can take the places without memory: as an
+/// annunciator's windows are labelled anew. It has no summary of codes and no index of shelves.
+pub struct Annunciator {
     sites: Vec<Site>,
     alarms: Vec<Alarm>,
     /// The room in which the alarms of another plant are made.
@@ -25,9 +25,9 @@ pub struct Table {
     places: usize,
 }
 
-impl Drop for Table {
+impl Drop for Annunciator {
     fn drop(self) {
-        let Table {
+        let Annunciator {
             sites: _,
             alarms: _,
             spare: _,
@@ -37,15 +37,15 @@ impl Drop for Table {
     }
 }
 
-impl Model for Table {
+impl Model for Annunciator {
     ghost use Rattle.std.specs.Prelude.{vec_capacity};
-    ghost use Rattle.alarm_bank.specs.Reloads.{PlainTable, IsTable};
+    ghost use Rattle.alarm_bank.specs.Reloads.{PlainAnnunciator, IsAnnunciator};
 
-    ghost Value = { PlainTable };
+    ghost Value = { PlainAnnunciator };
 
-    ghost view = { λ t. record { bank = record { sites = t.sites.items; alarms = t.alarms.items; moment = t.moment }; places = t.places } };
+    ghost view = { λ p. record { bank = record { sites = p.sites.items; alarms = p.alarms.items; moment = p.moment }; places = p.places } };
 
-    ghost invariant = { λ t. IsTable t.alarms.items t.moment t.places (vec_capacity t.sites) (vec_capacity t.alarms) (vec_capacity t.spare) };
+    ghost invariant = { λ p. IsAnnunciator p.alarms.items p.moment p.places (vec_capacity p.sites) (vec_capacity p.alarms) (vec_capacity p.spare) };
 }
 
 /// Alarms with room for so many. Fails if allocation fails.
@@ -66,35 +66,6 @@ fn sites_in(alloc: Global, sites: &[Site], places: usize) -> Result<Vec<Site>, A
     let mut room = Vec::with_capacity(alloc, places)?;
     room.extend_from_slice(sites)?;
     Ok(room)
-}
-
-/// Whether the old alarm whose state a new one keeps is there, of so many.
-fn is_there(count: usize, kept: Option<u32>) -> bool
-    ensures { result ≡ is_there count kept }
-{
-    match kept {
-        None => true,
-        Some(number) => (number as usize) < count,
-    }
-}
-
-/// Whether a new alarm may take its place after so many old ones.
-fn fits_in(count: usize, new: &NewAlarm) -> bool
-    ensures { result ≡ fits_in count new.now }
-{
-    u64::from(new.max_shelve_ms) <= LONGEST_SHELVE_MS && is_there(count, new.kept)
-}
-
-/// Whether all new alarms may.
-fn all_fit(count: usize, news: &[NewAlarm]) -> bool
-    ensures { result ≡ all_fit count news.now }
-{
-    for new in news {
-        if !fits_in(count, new) {
-            return false;
-        }
-    }
-    true
 }
 
 /// Puts what new alarms are after old ones in a room for them.
@@ -122,16 +93,16 @@ fn fill_sites(news: &[NewAlarm], room: &mut Vec<Site>)
     }
 }
 
-impl Table {
+impl Annunciator {
     /// The alarms of a bank, with places for so many. Fails if allocation fails.
-    pub fn of(alloc: Global, bank: &Bank, places: usize) -> Result<Table, AllocError>
+    pub fn of(alloc: Global, bank: &Bank, places: usize) -> Result<Annunciator, AllocError>
         requires within { length bank.now.alarms ≤ places }
-        ensures { IfOk result (λ table. table ≡ record { bank = bank.now; places = places }) }
+        ensures { IfOk result (λ made. made ≡ record { bank = bank.now; places = places }) }
     {
         let sites = sites_in(alloc, bank.sites(), places)?;
         let alarms = alarms_in(alloc, bank.alarms(), places)?;
         let spare = Vec::with_capacity(alloc, places)?;
-        Ok(Table {
+        Ok(Annunciator {
             sites,
             alarms,
             spare,
@@ -222,9 +193,10 @@ impl Table {
         }
     }
 
-    /// Takes an event as `Bank::advance` does. One that doesn't fit changes nothing.
+    /// Takes an event; it takes no memory. One that doesn't fit changes nothing: a scan or an order as of `Bank::advance`, a reload with more alarms than
+    /// there are places, with the number of an old alarm that isn't there, or with a longest shelving above 30 days.
     pub fn advance(&mut self, event: &BankEvent)
-        ensures { self.new ≡ record self.old { bank = after_event event.now self.old.bank } }
+        ensures { self.new ≡ annunciator_after event.now self.old }
     {
         match event {
             BankEvent::Scan {
@@ -242,6 +214,12 @@ impl Table {
             BankEvent::Order { alarm, verb } => {
                 self.order(*alarm, *verb);
             }
+            BankEvent::Reload(news) => {
+                let news = news.as_slice();
+                if self.fits(news) {
+                    self.reload(news);
+                }
+            }
         }
     }
 
@@ -257,7 +235,7 @@ impl Table {
     /// shelf and its last condition and suppression; the others are as before their first scan. The moment stays.
     pub fn reload(&mut self, news: &[NewAlarm])
         requires { reload_fits news.now self.old ≡ true }
-        ensures { self.new ≡ table_reloaded news.now self.old }
+        ensures { self.new ≡ reloaded_in news.now self.old }
     {
         fill_alarms(self.alarms.as_slice(), news, &mut self.spare);
         swap(&mut self.alarms, &mut self.spare);

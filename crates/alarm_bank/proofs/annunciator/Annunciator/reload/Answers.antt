@@ -3,7 +3,7 @@ use Rattle.std.specs.Prelude.{nat_le}
 use Rattle.std.proofs.lemmas.Bool.{and_parts}
 use Rattle.alarm_bank.specs.Reloads.{all_fit}
 use Rattle.alarm_bank.proofs.ReloadLaws.{all_shelvable}
-use Rattle.alarm_bank.proofs.table.Table.reload.Goals as goal
+use Rattle.alarm_bank.proofs.annunciator.Annunciator.reload.Goals as goal
 
 pub fill_alarms-requires-clause-shelving : goal.fill_alarms-requires-clause-shelving
 fill_alarms-requires-clause-shelving c =

@@ -1,6 +1,6 @@
 use Rattle.std.proofs.Common.{arith}
 use Rattle.std.proofs.lemmas.Grind.{common_steps}
-use Rattle.alarm_bank.proofs.table.Table.scan.Goals as goal
+use Rattle.alarm_bank.proofs.annunciator.Annunciator.scan.Goals as goal
 
 pub returns : goal.returns
 returns c = grind (arith, common_steps)

@@ -1,6 +1,6 @@
 use Rattle.std.proofs.Common.{◌≡◌, ◌++◌, length, drop, take}
 use Rattle.alarm_bank.specs.Banks.{scan_each}
-use Rattle.alarm_bank.proofs.table.Table.scan.Given as goal
+use Rattle.alarm_bank.proofs.annunciator.Annunciator.scan.Given as goal
 
 abbrev pub invariant-loop-at : goal.invariant-loop-at
 invariant-loop-at l = record {
