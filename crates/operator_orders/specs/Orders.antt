@@ -3,6 +3,6 @@ use Rattle.std.specs.Prelude.{ℕ, Option}
 use Rattle.alarm_machine.specs.declared.states.Verb.{Verb}
 use Rattle.operator_orders.specs.declared.order.Order.{Order}
 
--- the order of a verb for a target: the number of an alarm or a program, none for one that isn't there
-abbrev pub order_with : Verb → Option ℕ → Order
-order_with verb target = record { verb = verb; target = target }
+-- the order of a verb for a target, the number of an alarm or a program, none for one that isn't there, of the plant after so many reloads
+abbrev pub order_with : Verb → Option ℕ → ℕ → Order
+order_with verb target plant = record { verb = verb; target = target; plant = plant }
