@@ -72,61 +72,63 @@ step_is b n v a r at is =
     ap (λ (o : Option PlainAlarm). put b n (elim o [ None ↦ None | Some x ↦ Some (after_order v b.moment x) ])) at
     ∙ ap (λ (q : Result AlarmState OrderFault). put b n (Some (made a q))) is
 
-by_table : (b : PlainBank) (n : ℕ) (v : Verb) (a : PlainAlarm) → slice_get b.alarms n ≡ Some a → (r : Result AlarmState OrderFault) → on_order v b.moment a ≡ r
-    → Takes b (record { verb = v; target = Some n }) (alarm_effect n (made a r))
-by_table b n v a at (Ok new) is =
-    let change = change_between (code_of a.state) (code_of new) in
-    let same : same_reply (Ok (change_from (slice_get b.alarms n) (record a { state = new }))) (reply_of n v b) ≡ true =
-    ap (λ (g : Option PlainAlarm). same_reply (Ok (change_from g (record a { state = new }))) (reply_of n v b)) at
-    ∙ (ap (λ (q : Result (Option PlainChange) OrderFault). same_reply (Ok change) q) (reply_is b n v a (Ok new) at is) ∙ change_itself change) in
-    record { may = or_second (is_restart v) _ same; after = step_is b n v a (Ok new) at is }
-by_table b n v a at (Err e) is =
-    let same : same_reply (Err e) (reply_of n v b) ≡ true = ap (λ (q : Result (Option PlainChange) OrderFault). same_reply (Err e) q) (reply_is b n v a (Err e) at is) ∙ fault_itself e in
-    record {
-      may = or_second (is_restart v) _ (or_second (is_outside (Err e)) _ same);
-      after = if_same (is_outside (Err e)) b (after_event (bank_event.Order n v) b) (step_is b n v a (Err e) at is);
-    }
+-- of an order for the plant of any number
+module _ (m : ℕ) where
+  by_table : (b : PlainBank) (n : ℕ) (v : Verb) (a : PlainAlarm) → slice_get b.alarms n ≡ Some a → (r : Result AlarmState OrderFault) → on_order v b.moment a ≡ r
+      → Takes b (record { verb = v; target = Some n; plant = m }) (alarm_effect n (made a r))
+  by_table b n v a at (Ok new) is =
+      let change = change_between (code_of a.state) (code_of new) in
+      let same : same_reply (Ok (change_from (slice_get b.alarms n) (record a { state = new }))) (reply_of n v b) ≡ true =
+      ap (λ (g : Option PlainAlarm). same_reply (Ok (change_from g (record a { state = new }))) (reply_of n v b)) at
+      ∙ (ap (λ (q : Result (Option PlainChange) OrderFault). same_reply (Ok change) q) (reply_is b n v a (Ok new) at is) ∙ change_itself change) in
+      record { may = or_second (is_restart v) _ same; after = step_is b n v a (Ok new) at is }
+  by_table b n v a at (Err e) is =
+      let same : same_reply (Err e) (reply_of n v b) ≡ true = ap (λ (q : Result (Option PlainChange) OrderFault). same_reply (Err e) q) (reply_is b n v a (Err e) at is) ∙ fault_itself e in
+      record {
+        may = or_second (is_restart v) _ (or_second (is_outside (Err e)) _ same);
+        after = if_same (is_outside (Err e)) b (after_event (bank_event.Order n v) b) (step_is b n v a (Err e) at is);
+      }
 
-by_alarm : (b : PlainBank) (n : ℕ) (v : Verb) (o : Option PlainAlarm) → slice_get b.alarms n ≡ o → Takes b (record { verb = v; target = Some n }) (order_at n v b.moment o)
-by_alarm b n v None at = outside_target b (record { verb = v; target = Some n })
-by_alarm b n v (Some a) at = by_table b n v a at (on_order v b.moment a) refl
+  by_alarm : (b : PlainBank) (n : ℕ) (v : Verb) (o : Option PlainAlarm) → slice_get b.alarms n ≡ o → Takes b (record { verb = v; target = Some n; plant = m }) (order_at n v b.moment o)
+  by_alarm b n v None at = outside_target b (record { verb = v; target = Some n; plant = m })
+  by_alarm b n v (Some a) at = by_table b n v a at (on_order v b.moment a) refl
 
-by_area : (b : PlainBank) (n : ℕ) (v : Verb) (mine : Bool) → Takes b (record { verb = v; target = Some n }) (if mine then order_at n v b.moment (slice_get b.alarms n) else Err fault.NotYourArea)
-by_area b n v true = by_alarm b n v (slice_get b.alarms n) refl
-by_area b n v false = outside_area b (record { verb = v; target = Some n })
+  by_area : (b : PlainBank) (n : ℕ) (v : Verb) (mine : Bool) → Takes b (record { verb = v; target = Some n; plant = m }) (if mine then order_at n v b.moment (slice_get b.alarms n) else Err fault.NotYourArea)
+  by_area b n v true = by_alarm b n v (slice_get b.alarms n) refl
+  by_area b n v false = outside_area b (record { verb = v; target = Some n; plant = m })
 
-by_row : (b : PlainBank) (plant : PlainPlant) (console n : ℕ) (v : Verb) (o : Option AlarmRow)
-    → Takes b (record { verb = v; target = Some n }) (elim o [ None ↦ Err fault.UnknownTarget | Some row ↦ if list_any (has_area console row.area) plant.consoles then order_at n v b.moment (slice_get b.alarms n) else Err fault.NotYourArea ])
-by_row b plant console n v None = outside_target b (record { verb = v; target = Some n })
-by_row b plant console n v (Some row) = by_area b n v (list_any (has_area console row.area) plant.consoles)
+  by_row : (b : PlainBank) (plant : PlainPlant) (console n : ℕ) (v : Verb) (o : Option AlarmRow)
+      → Takes b (record { verb = v; target = Some n; plant = m }) (elim o [ None ↦ Err fault.UnknownTarget | Some row ↦ if list_any (has_area console row.area) plant.consoles then order_at n v b.moment (slice_get b.alarms n) else Err fault.NotYourArea ])
+  by_row b plant console n v None = outside_target b (record { verb = v; target = Some n; plant = m })
+  by_row b plant console n v (Some row) = by_area b n v (list_any (has_area console row.area) plant.consoles)
 
--- a restart changes no alarm
-restart_rests : (b : PlainBank) (n : ℕ) (o : Option PlainAlarm) → slice_get b.alarms n ≡ o → after_event (bank_event.Order n verb.Restart) b ≡ b
-restart_rests b n None at = ap (λ (o : Option PlainAlarm). put b n (elim o [ None ↦ None | Some x ↦ Some (after_order verb.Restart b.moment x) ])) at
-restart_rests b n (Some a) at = step_is b n verb.Restart a (Err fault.WrongState) at refl
+  -- a restart changes no alarm
+  restart_rests : (b : PlainBank) (n : ℕ) (o : Option PlainAlarm) → slice_get b.alarms n ≡ o → after_event (bank_event.Order n verb.Restart) b ≡ b
+  restart_rests b n None at = ap (λ (o : Option PlainAlarm). put b n (elim o [ None ↦ None | Some x ↦ Some (after_order verb.Restart b.moment x) ])) at
+  restart_rests b n (Some a) at = step_is b n verb.Restart a (Err fault.WrongState) at refl
 
-restarted : (b : PlainBank) (n : ℕ) (listed flag : Bool) → Takes b (record { verb = verb.Restart; target = Some n }) (if listed then (if flag then Ok (effect.Restarted n) else Err fault.NotFaulted) else Err fault.NotYourArea)
-restarted b n true true = record { may = refl; after = restart_rests b n (slice_get b.alarms n) refl }
-restarted b n true false = record { may = refl; after = restart_rests b n (slice_get b.alarms n) refl }
-restarted b n false flag = outside_area b (record { verb = verb.Restart; target = Some n })
+  restarted : (b : PlainBank) (n : ℕ) (listed flag : Bool) → Takes b (record { verb = verb.Restart; target = Some n; plant = m }) (if listed then (if flag then Ok (effect.Restarted n) else Err fault.NotFaulted) else Err fault.NotYourArea)
+  restarted b n true true = record { may = refl; after = restart_rests b n (slice_get b.alarms n) refl }
+  restarted b n true false = record { may = refl; after = restart_rests b n (slice_get b.alarms n) refl }
+  restarted b n false flag = outside_area b (record { verb = verb.Restart; target = Some n; plant = m })
 
-by_flag : (b : PlainBank) (plant : PlainPlant) (console n : ℕ) (o : Option Bool)
-    → Takes b (record { verb = verb.Restart; target = Some n }) (elim o [ None ↦ Err fault.UnknownTarget | Some flag ↦ if list_any (is_console console) plant.consoles then (if flag then Ok (effect.Restarted n) else Err fault.NotFaulted) else Err fault.NotYourArea ])
-by_flag b plant console n None = outside_target b (record { verb = verb.Restart; target = Some n })
-by_flag b plant console n (Some flag) = restarted b n (list_any (is_console console) plant.consoles) flag
+  by_flag : (b : PlainBank) (plant : PlainPlant) (console n : ℕ) (o : Option Bool)
+      → Takes b (record { verb = verb.Restart; target = Some n; plant = m }) (elim o [ None ↦ Err fault.UnknownTarget | Some flag ↦ if list_any (is_console console) plant.consoles then (if flag then Ok (effect.Restarted n) else Err fault.NotFaulted) else Err fault.NotYourArea ])
+  by_flag b plant console n None = outside_target b (record { verb = verb.Restart; target = Some n; plant = m })
+  by_flag b plant console n (Some flag) = restarted b n (list_any (is_console console) plant.consoles) flag
 
-by_verb : (b : PlainBank) (plant : PlainPlant) (faulted : List Bool) (console n : ℕ) (v : Verb) → Takes b (record { verb = v; target = Some n }) (order_outcome plant b.alarms faulted b.moment console (record { verb = v; target = Some n }))
-by_verb b plant faulted console n verb.Ack = by_row b plant console n verb.Ack (slice_get plant.alarms n)
-by_verb b plant faulted console n verb.Reset = by_row b plant console n verb.Reset (slice_get plant.alarms n)
-by_verb b plant faulted console n (verb.Shelve d) = by_row b plant console n (verb.Shelve d) (slice_get plant.alarms n)
-by_verb b plant faulted console n verb.Unshelve = by_row b plant console n verb.Unshelve (slice_get plant.alarms n)
-by_verb b plant faulted console n verb.Remove = by_row b plant console n verb.Remove (slice_get plant.alarms n)
-by_verb b plant faulted console n verb.PutBack = by_row b plant console n verb.PutBack (slice_get plant.alarms n)
-by_verb b plant faulted console n verb.Restart = by_flag b plant console n (slice_get faulted n)
+  by_verb : (b : PlainBank) (plant : PlainPlant) (faulted : List Bool) (console n : ℕ) (v : Verb) → Takes b (record { verb = v; target = Some n; plant = m }) (order_outcome plant b.alarms faulted b.moment console (record { verb = v; target = Some n; plant = m }))
+  by_verb b plant faulted console n verb.Ack = by_row b plant console n verb.Ack (slice_get plant.alarms n)
+  by_verb b plant faulted console n verb.Reset = by_row b plant console n verb.Reset (slice_get plant.alarms n)
+  by_verb b plant faulted console n (verb.Shelve d) = by_row b plant console n (verb.Shelve d) (slice_get plant.alarms n)
+  by_verb b plant faulted console n verb.Unshelve = by_row b plant console n verb.Unshelve (slice_get plant.alarms n)
+  by_verb b plant faulted console n verb.Remove = by_row b plant console n verb.Remove (slice_get plant.alarms n)
+  by_verb b plant faulted console n verb.PutBack = by_row b plant console n verb.PutBack (slice_get plant.alarms n)
+  by_verb b plant faulted console n verb.Restart = by_flag b plant console n (slice_get faulted n)
 
-by_target : (b : PlainBank) (plant : PlainPlant) (faulted : List Bool) (console : ℕ) (v : Verb) (target : Option ℕ) → Takes b (record { verb = v; target = target }) (order_outcome plant b.alarms faulted b.moment console (record { verb = v; target = target }))
-by_target b plant faulted console v None = outside_target b (record { verb = v; target = None })
-by_target b plant faulted console v (Some n) = by_verb b plant faulted console n v
+  by_target : (b : PlainBank) (plant : PlainPlant) (faulted : List Bool) (console : ℕ) (v : Verb) (target : Option ℕ) → Takes b (record { verb = v; target = target; plant = m }) (order_outcome plant b.alarms faulted b.moment console (record { verb = v; target = target; plant = m }))
+  by_target b plant faulted console v None = outside_target b (record { verb = v; target = None; plant = m })
+  by_target b plant faulted console v (Some n) = by_verb b plant faulted console n v
 
 pub order_takes : (b : PlainBank) (plant : PlainPlant) (faulted : List Bool) (console : ℕ) (order : Order) → Takes b order (order_outcome plant b.alarms faulted b.moment console order)
-order_takes b plant faulted console order = by_target b plant faulted console order.verb order.target
+order_takes b plant faulted console order = by_target order.plant b plant faulted console order.verb order.target

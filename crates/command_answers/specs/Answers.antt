@@ -45,7 +45,7 @@ tag_for plant order = if is_restart order.verb then [] else tag_of_alarm plant o
 
 -- the order for what a word names
 abbrev pub order_for : PlainPlant → Verb → List ℕ → OrderMade
-order_for plant verb word = order_with verb (target_of plant verb word)
+order_for plant verb word = order_with verb (target_of plant verb word) 0
 
 -- ---- the answers to a scan and to an order
 

@@ -274,7 +274,7 @@ fn answer_order(
 {
     system_keeps_its_plant();
     let last = engine.moment();
-    let order = Order::of(verb, target_of(engine.plant(), verb, word));
+    let order = Order::of(verb, target_of(engine.plant(), verb, word), 0);
     match engine.order(alloc, console, order) {
         Ok(reply) => push_order(text, last, tag_for(engine.plant(), order), reply),
         // An order asks no crew.

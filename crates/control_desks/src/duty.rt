@@ -81,6 +81,7 @@ fn acknowledge(console: &mut Console, post: &mut Post)
         let order = Order {
             verb,
             target: Some(alarm),
+            plant: 0,
         };
         if console.submit(order).is_err() {
             return;

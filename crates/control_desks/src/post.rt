@@ -113,6 +113,7 @@ impl Post {
         Some(Order {
             verb,
             target: self.own_alarm(place),
+            plant: 0,
         })
     }
 

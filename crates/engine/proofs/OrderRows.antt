@@ -93,11 +93,11 @@ by_verb : (plant : PlainPlant) (alarms : List PlainAlarm) (faulted : List Bool) 
 by_verb plant alarms faulted last console verb n true is long = program_named plant faulted console verb n (slice_get faulted n) refl long is
 by_verb plant alarms faulted last console verb n false is long = alarm_named plant alarms last console verb n (slice_get plant.alarms n) refl is
 
-by_target : (plant : PlainPlant) (alarms : List PlainAlarm) (faulted : List Bool) (last console : ℕ) (verb : Verb) (target : Option ℕ) → length faulted ≡ length (programs_of plant)
-    → IsNamed plant (entry.Order console verb target (refusal_of (order_outcome plant alarms faulted last console (record { verb = verb; target = target }))))
-by_target plant alarms faulted last console verb None long = tt
-by_target plant alarms faulted last console verb (Some n) long = by_verb plant alarms faulted last console verb n (is_restart verb) refl long
+by_target : (plant : PlainPlant) (alarms : List PlainAlarm) (faulted : List Bool) (last console : ℕ) (verb : Verb) (target : Option ℕ) (made : ℕ) → length faulted ≡ length (programs_of plant)
+    → IsNamed plant (entry.Order console verb target (refusal_of (order_outcome plant alarms faulted last console (record { verb = verb; target = target; plant = made }))))
+by_target plant alarms faulted last console verb None made long = tt
+by_target plant alarms faulted last console verb (Some n) made long = by_verb plant alarms faulted last console verb n (is_restart verb) refl long
 
 pub order_named : (plant : PlainPlant) (alarms : List PlainAlarm) (faulted : List Bool) (last console : ℕ) (order : Order) → length faulted ≡ length (programs_of plant)
     → IsNamed plant (entry.Order console order.verb order.target (refusal_of (order_outcome plant alarms faulted last console order)))
-order_named plant alarms faulted last console order long = by_target plant alarms faulted last console order.verb order.target long
+order_named plant alarms faulted last console order long = by_target plant alarms faulted last console order.verb order.target order.plant long

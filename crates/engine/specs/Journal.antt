@@ -19,7 +19,6 @@ use Rattle.journal_core.specs.Rows.{fault_entry, change_entry}
 use Rattle.journal_core.specs.Bodies.{fault_body, alarm_body, order_body, reload_body}
 use Rattle.plant_config.specs.Plants.{PlainPlant}
 use Rattle.plant_config.specs.Names.{programs_of, body_paths, tag_of, program_at, body_path}
-use Rattle.operator_orders.specs.Orders.{order_with}
 use Rattle.event_history.specs.declared.event.Event.{Event}
 use Rattle.event_history.specs.declared.event.Event.TheVariants as event
 use Rattle.operator_orders.specs.declared.order.Order.{Order}
@@ -63,7 +62,7 @@ named_order plant console order refused = OrderBy console order.verb (order_targ
 abbrev pub named_entry : PlainPlant → Entry → NamedEntry
 named_entry plant (entry.Fault place trap) = FaultAt (place_spot plant.source place) trap
 named_entry plant (entry.Alarm alarm change) = named_change plant (alarm, change)
-named_entry plant (entry.Order console verb target refused) = named_order plant console (order_with verb target) refused
+named_entry plant (entry.Order console verb target refused) = OrderBy console verb (order_target plant verb target refused) refused
 named_entry plant (entry.Reload kept fresh) = Reloaded kept fresh
 
 -- a row by the names of a plant

@@ -407,6 +407,6 @@ impl Engine {
         ensures kept { OnErr result (self.new.history ≡ self.old.history) }
         ensures row_room { OnErr result (self.old.row_room ≤ self.new.row_room) }
     {
-        self.order(alloc, console, Order::of(Verb::Restart, program))
+        self.order(alloc, console, Order::of(Verb::Restart, program, 0))
     }
 }

@@ -62,13 +62,13 @@ by_verb : (f : PlainAlarm → Bool) → IgnoresState f → (plant : PlainPlant) 
 by_verb f ignores plant alarms faulted last console verb n true = by_flag f plant alarms console n (slice_get faulted n)
 by_verb f ignores plant alarms faulted last console verb n false = by_row f ignores plant alarms last console verb n (slice_get plant.alarms n)
 
-by_target : (f : PlainAlarm → Bool) → IgnoresState f → (plant : PlainPlant) (alarms : List PlainAlarm) (faulted : List Bool) (last console : ℕ) (verb : Verb) (target : Option ℕ)
-    → Keeps f alarms (order_outcome plant alarms faulted last console (record { verb = verb; target = target }))
-by_target f ignores plant alarms faulted last console verb None = refl
-by_target f ignores plant alarms faulted last console verb (Some n) = by_verb f ignores plant alarms faulted last console verb n (is_restart verb)
+by_target : (f : PlainAlarm → Bool) → IgnoresState f → (plant : PlainPlant) (alarms : List PlainAlarm) (faulted : List Bool) (last console : ℕ) (verb : Verb) (target : Option ℕ) (made : ℕ)
+    → Keeps f alarms (order_outcome plant alarms faulted last console (record { verb = verb; target = target; plant = made }))
+by_target f ignores plant alarms faulted last console verb None made = refl
+by_target f ignores plant alarms faulted last console verb (Some n) made = by_verb f ignores plant alarms faulted last console verb n (is_restart verb)
 
 order_keeps : (f : PlainAlarm → Bool) → IgnoresState f → (plant : PlainPlant) (alarms : List PlainAlarm) (faulted : List Bool) (last console : ℕ) (order : Order) → Keeps f alarms (order_outcome plant alarms faulted last console order)
-order_keeps f ignores plant alarms faulted last console order = by_target f ignores plant alarms faulted last console order.verb order.target
+order_keeps f ignores plant alarms faulted last console order = by_target f ignores plant alarms faulted last console order.verb order.target order.plant
 
 -- alarms with the same last conditions follow the delays alike
 follows_same : (d : PlainDelays) (xs ys : List PlainAlarm) → map (λ (a : PlainAlarm). a.condition) xs ≡ map (λ (a : PlainAlarm). a.condition) ys → Follows d ys → Follows d xs

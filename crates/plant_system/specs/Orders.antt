@@ -52,9 +52,9 @@ abbrev pub is_restart : Verb → Bool
 is_restart verb.Restart = true
 is_restart _ = false
 
--- the order to restart the program of a number
+-- the order to restart the program of a number, of the plant that runs
 abbrev pub restart_of : Option ℕ → Order
-restart_of program = order_with verb.Restart program
+restart_of program = order_with verb.Restart program 0
 
 -- what an order does, or why it is refused
 abbrev pub order_outcome : PlainPlant → List PlainAlarm → List Bool → ℕ → ℕ → Order → Result Effect OrderFault

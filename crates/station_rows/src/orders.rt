@@ -24,7 +24,7 @@ pub fn order_of(
     match read_command(alloc, &mut pool, line.as_bytes())? {
         Command::Order(verb, console, word) => {
             let target = target_of(plant, verb, word);
-            Ok(Some((console, Order::of(verb, target))))
+            Ok(Some((console, Order::of(verb, target, 0))))
         }
         _ => Ok(None),
     }

@@ -15,7 +15,7 @@ fn order_of(plant: &Plant, verb: Verb, word: &[u8]) -> Order {
         (_, Ok(tag)) => plant.alarm_number(tag),
         (_, Err(_)) => None,
     };
-    Order::of(verb, target)
+    Order::of(verb, target, 0)
 }
 
 /// Adds a report's moment, and how many programs have stopped.
