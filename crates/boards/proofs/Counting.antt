@@ -18,12 +18,14 @@ one_first false a all replies more h = h
 pub counted : (console : ℕ) (es : List Entry) → length (answers_of console es) ≡ count_of console es
 counted console [] = refl
 counted console (entry.Scan s ∷ es) = let h = counted console es in omega (arith, h)
+counted console (entry.Reload news ∷ es) = let h = counted console es in omega (arith, h)
 counted console (entry.Order n a ∷ es) = one_counted (console == n) a (answers_of console es) (count_of console es) (counted console es)
 
 -- the replies among entries and more
 pub answers_more : (console : ℕ) (es fs : List Entry) → answers_of console (es ++ fs) ≡ answers_of console es ++ answers_of console fs
 answers_more console [] fs = refl
 answers_more console (entry.Scan s ∷ es) fs = answers_more console es fs
+answers_more console (entry.Reload news ∷ es) fs = answers_more console es fs
 answers_more console (entry.Order n a ∷ es) fs = one_first (console == n) a (answers_of console (es ++ fs)) (answers_of console es) (answers_of console fs) (answers_more console es fs)
 
 -- the replies of a beginning are a beginning of the replies

@@ -116,13 +116,13 @@ asked_fits : (b : PlainBank) (a : Answer) → may_answer b a ≡ true → IsAske
 asked_fits b a may asked = third (is_restart a.order.verb) (is_outside a.reply) (fits b a a.order.target) (no_restart a.order.verb asked.0) (inside a.reply asked.1.0 asked.1.1 asked.1.2) may
 
 pub reply_is : (p : Picture) (console alarm : ℕ) (a : Answer) (es fs : List Entry) → is_lawful after allows p (es ++ entry.Order console a ∷ fs) ≡ true → IsAsked a → a.order.target ≡ Some alarm
-    → a.reply ≡ reply_of alarm a.order.verb (shown after p es).bank
+    → a.reply ≡ reply_of alarm a.order.verb (shown after p es).panel.bank
 reply_is p console alarm a es fs h asked target =
-    let now = (shown after p es).bank in
+    let now = (shown after p es).panel.bank in
     replies_same a.reply (reply_of alarm a.order.verb now) (sym (ap (fits now a) target) ∙ asked_fits now a (lawful_at p es (entry.Order console a) fs h) asked)
 
 pub has_target : (p : Picture) (console : ℕ) (a : Answer) (es fs : List Entry) → is_lawful after allows p (es ++ entry.Order console a ∷ fs) ≡ true → IsAsked a → a.order.target ≡ None → ⊥
 has_target p console a es fs h asked none =
-    let now = (shown after p es).bank in
+    let now = (shown after p es).panel.bank in
     let no : false ≡ true = sym (ap (fits now a) none) ∙ asked_fits now a (lawful_at p es (entry.Order console a) fs h) asked in
     absurd (cc (no))

@@ -4,11 +4,12 @@ use Rattle.std.specs.List.{find}
 use Rattle.std.proofs.lemmas.Bool.{lt-ltb, le-ltb}
 use Rattle.std.proofs.lemmas.List.Elements.{All-map, All-head, All-tail}
 use Rattle.alarm_bank.specs.declared.event.BankEvent.{BankEvent}
+use Rattle.alarm_bank.specs.declared.rows.NewAlarm.{NewAlarm}
 use Rattle.boards.specs.declared.entry.Entry.{Entry}
 use Rattle.boards.specs.declared.entry.Entry.TheVariants as entry
 use Rattle.boards.specs.declared.tally.Tally.{Tally}
 use Rattle.boards.specs.Stories.{Story, shown, is_lawful, grown}
-use Rattle.boards.specs.Counts.{counts_as, count_of, tallied, consoles_in, is_counted, orders_counted}
+use Rattle.boards.specs.Counts.{counts_as, count_of, tallied, consoles_in, is_counted, orders_counted, reloads_as, reloads_in}
 
 both : (a b : Bool) → a ≡ true → b ≡ true → a && b ≡ true
 both a b h k = ap (λ (c : Bool). c && b) h ∙ k
@@ -55,6 +56,7 @@ count_more console (x ∷ es) e = let h = count_more console es e in omega arith
 
 counts_once : (console : ℕ) (e : Entry) → counts_as console e ≤ 1
 counts_once console (entry.Scan s) = omega arith
+counts_once console (entry.Reload news) = omega arith
 counts_once console (entry.Order n a) = at_most_one (console == n)
 
 pub count_few : (console : ℕ) (es : List Entry) → count_of console es ≤ length es
@@ -68,11 +70,31 @@ few_each es ts few h k d lt = let a = h k d lt in let b = count_few (slice_index
 -- a tally that is right stays so
 one_more : (es : List Entry) (e : Entry) (t : Tally) → t.orders ≡ count_of t.console es → (tallied e t).orders ≡ count_of (tallied e t).console (es ++ e ∷ [])
 one_more es (entry.Scan s) t h = let k : count_of t.console (es ++ entry.Scan s ∷ []) ≡ 0 + count_of t.console es = count_more t.console es (entry.Scan s) in omega (arith, h, k)
+one_more es (entry.Reload news) t h = let k : count_of t.console (es ++ entry.Reload news ∷ []) ≡ 0 + count_of t.console es = count_more t.console es (entry.Reload news) in omega (arith, h, k)
 one_more es (entry.Order n a) t h = ap (λ (k : ℕ). (if t.console == n then 1 else 0) + k) h ∙ sym (count_more t.console es (entry.Order n a))
 
 -- each tally is right after one entry more
 pub each_more : (es : List Entry) (e : Entry) (ts : List Tally) → All (λ t. t.orders ≡ count_of t.console es) ts → All (λ t. t.orders ≡ count_of t.console (es ++ e ∷ [])) (map (tallied e) ts)
 each_more es e ts h = All-map (λ t. t.orders ≡ count_of t.console (es ++ e ∷ [])) (tallied e) ts (λ k d lt. one_more es e (slice_index_or ts k d) (h k d lt))
+
+-- one more entry among the reloads, and there are no more of these than entries
+pub reloads_more : (es : List Entry) (e : Entry) → reloads_in (es ++ e ∷ []) ≡ reloads_as e + reloads_in es
+reloads_more [] e = refl
+reloads_more (x ∷ es) e = let h = reloads_more es e in omega (arith, h)
+
+reloads_once : (e : Entry) → reloads_as e ≤ 1
+reloads_once (entry.Scan s) = omega arith
+reloads_once (entry.Order n a) = omega arith
+reloads_once (entry.Reload news) = omega arith
+
+pub reloads_few : (es : List Entry) → reloads_in es ≤ length es
+reloads_few [] = omega arith
+reloads_few (e ∷ es) = let h = reloads_few es in let k = reloads_once e in omega (arith, h, k)
+
+-- a reload counts as no order
+pub none_by_reload : (news : List NewAlarm) (ts : List Tally) → ts ≡ map (tallied (entry.Reload news)) ts
+none_by_reload news [] = refl
+none_by_reload news (t ∷ ts) = ap (λ (l : List Tally). t ∷ l) (none_by_reload news ts)
 
 -- a scan counts as no order
 pub none_more : (s : BankEvent) (ts : List Tally) → ts ≡ map (tallied (entry.Scan s)) ts
@@ -83,6 +105,7 @@ none_more s (t ∷ ts) = ap (λ (l : List Tally). t ∷ l) (none_more s ts)
 same_console : (e : Entry) (t : Tally) → (tallied e t).console ≡ t.console
 same_console (entry.Scan s) t = refl
 same_console (entry.Order n a) t = refl
+same_console (entry.Reload news) t = refl
 
 pub same_consoles : (e : Entry) (ts : List Tally) → consoles_in (map (tallied e) ts) ≡ consoles_in ts
 same_consoles e [] = refl

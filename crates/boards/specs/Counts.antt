@@ -1,4 +1,4 @@
--- How many entries of a list are orders of a console.
+-- How many entries of a list are orders of a console, and how many are reloads.
 use Rattle.std.specs.Prelude.{ℕ, ◌+◌, ◌==◌, Bool, List, [], ◌∷◌, map, Option, Some, None, if◌then◌else◌}
 use Rattle.std.specs.List.{list_any}
 use Rattle.boards.specs.declared.entry.Answer.{Answer}
@@ -10,6 +10,7 @@ use Rattle.boards.specs.declared.tally.Tally.{Tally}
 abbrev pub counts_as : ℕ → Entry → ℕ
 counts_as console (entry.Scan s) = 0
 counts_as console (entry.Order n a) = if console == n then 1 else 0
+counts_as console (entry.Reload news) = 0
 
 -- how many of the entries are orders of this console
 abbrev pub count_of : ℕ → List Entry → ℕ
@@ -21,6 +22,7 @@ abbrev pub answers_of : ℕ → List Entry → List Answer
 answers_of console [] = []
 answers_of console (entry.Scan s ∷ es) = answers_of console es
 answers_of console (entry.Order n a ∷ es) = if console == n then a ∷ answers_of console es else answers_of console es
+answers_of console (entry.Reload news ∷ es) = answers_of console es
 
 -- a tally after one more order of this console
 abbrev pub counted : ℕ → Tally → Tally
@@ -30,6 +32,18 @@ counted console t = record { console = t.console; orders = (if t.console == cons
 abbrev pub tallied : Entry → Tally → Tally
 tallied (entry.Scan s) t = t
 tallied (entry.Order n a) t = counted n t
+tallied (entry.Reload news) t = t
+
+-- 1 for a reload, else 0
+abbrev pub reloads_as : Entry → ℕ
+reloads_as (entry.Scan s) = 0
+reloads_as (entry.Order n a) = 0
+reloads_as (entry.Reload news) = 1
+
+-- how many of the entries are reloads
+abbrev pub reloads_in : List Entry → ℕ
+reloads_in [] = 0
+reloads_in (e ∷ es) = reloads_as e + reloads_in es
 
 -- the numbers of the consoles that have a tally
 abbrev pub consoles_in : List Tally → List ℕ

@@ -9,6 +9,7 @@ use Rattle.alarm_machine.specs.Codes.{PlainChange, same_code}
 use Rattle.alarm_bank.specs.declared.event.BankEvent.{BankEvent}
 use Rattle.alarm_bank.specs.declared.event.BankEvent.TheVariants as event
 use Rattle.alarm_bank.specs.Banks.{PlainBank, after_event, reply_of}
+use Rattle.alarm_bank.specs.Reloads.{PlainAnnunciator, annunciator_after, reload_fits, reloaded_in}
 use Rattle.boards.specs.declared.entry.Answer.{Answer}
 use Rattle.boards.specs.declared.entry.Entry.{Entry}
 use Rattle.boards.specs.declared.entry.Entry.TheVariants as entry
@@ -65,25 +66,28 @@ IsAsked a = (a.order.verb ≢ verb.Restart) × ((a.reply ≢ Err fault.UnknownTa
 abbrev pub is_scan : BankEvent → Bool
 is_scan (event.Scan t cs ss) = true
 is_scan (event.Order n v) = false
+is_scan (event.Reload news) = false
 
--- the alarms after an entry
-abbrev pub bank_after_entry : PlainBank → Entry → PlainBank
-bank_after_entry b (entry.Scan ev) = after_event ev b
-bank_after_entry b (entry.Order n a) = after_answer b a
+-- the alarms in their places after an entry
+abbrev pub panel_after_entry : PlainAnnunciator → Entry → PlainAnnunciator
+panel_after_entry p (entry.Scan ev) = annunciator_after ev p
+panel_after_entry p (entry.Order n a) = record p { bank = after_answer p.bank a }
+panel_after_entry p (entry.Reload news) = reloaded_in news p
 
--- whether an entry may come after these alarms
-abbrev pub bank_allows_entry : PlainBank → Entry → Bool
-bank_allows_entry b (entry.Scan ev) = is_scan ev
-bank_allows_entry b (entry.Order n a) = may_answer b a
+-- whether an entry may come after these alarms: a reload has to fit their places
+abbrev pub panel_allows_entry : PlainAnnunciator → Entry → Bool
+panel_allows_entry p (entry.Scan ev) = is_scan ev
+panel_allows_entry p (entry.Order n a) = may_answer p.bank a
+panel_allows_entry p (entry.Reload news) = reload_fits news p
 
 -- the picture after an entry: the consoles that are counted stay the same
 abbrev pub after : Picture → Entry → Picture
-after p e = record p { bank = bank_after_entry p.bank e }
+after p e = record p { panel = panel_after_entry p.panel e }
 
 -- whether an entry may come next
 abbrev pub allows : Picture → Entry → Bool
-allows p e = bank_allows_entry p.bank e
+allows p e = panel_allows_entry p.panel e
 
 -- the state of the alarm of a number, if it is there
 abbrev pub state_at : ℕ → Picture → Option AlarmState
-state_at n p = elim (slice_get p.bank.alarms n) [ None ↦ None | Some a ↦ Some a.state ]
+state_at n p = elim (slice_get p.panel.bank.alarms n) [ None ↦ None | Some a ↦ Some a.state ]

@@ -2,28 +2,30 @@
 ghost use Rattle.std.specs.Prelude.{◌≡◌, true, length, All};
 ghost use Rattle.boards.specs.Stories.{shown, is_lawful};
 ghost use Rattle.boards.specs.Replies.{after, allows};
-ghost use Rattle.boards.specs.Counts.{count_of, consoles_in};
+ghost use Rattle.boards.specs.Counts.{count_of, consoles_in, reloads_in};
 
 use crate::entry::Entry;
 use crate::picture::Picture;
 use crate::tally::Tally;
-use alarm_bank::Bank;
+use alarm_bank::Annunciator;
 use marked_log::Mark;
 use trace::{Remembered, Trace};
 
-/// The alarms of a plant after a list of entries, which contracts alone see. Each of the entries might come after those before it. It counts the orders of
-/// the consoles of its opening picture.
+/// The alarms of a plant after a list of entries, which contracts alone see. Each of the entries might come after those before it. It counts the reloads among
+/// them, and the orders of the consoles of its opening picture.
 #[derive(Drop)]
 pub struct Board {
-    bank: Bank,
+    panel: Annunciator,
     pub opening: Remembered<Picture>,
     pub list: Trace<Entry>,
     events: u64,
+    reloads: u64,
     tallies: Vec<Tally>,
     pub(crate) mark: Mark<Entry>,
-    ghost is_shown: { bank ≡ (shown after opening.value list).bank },
+    ghost is_shown: { panel ≡ (shown after opening.value list).panel },
     ghost lawful: { is_lawful after allows opening.value list ≡ true },
     ghost all_counted: { events ≡ length list },
+    ghost reloads_counted: { reloads ≡ reloads_in list },
     ghost each_counted: { All (λ t. t.orders ≡ count_of t.console list) tallies.items },
     ghost all_tallied: { consoles_in tallies.items ≡ opening.value.consoles },
 }

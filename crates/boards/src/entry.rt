@@ -1,7 +1,8 @@
-use alarm_bank::BankEvent;
+use alarm_bank::{BankEvent, NewAlarm};
 use alarm_machine::{Change, OrderFault};
 use marked_log::Mark;
 use operator_orders::Order;
+use plant_types::Items;
 
 /// What an order is answered: the change of its alarm's code, if there is one, or why it is refused.
 pub type Reply = Result<Option<Change>, OrderFault>;
@@ -20,6 +21,8 @@ pub enum Entry {
     Scan(BankEvent),
     /// An order of the console of a number, with its reply.
     Order(u32, Answer),
+    /// A reload, by the alarms of the new plant, each with the number of the old alarm whose state it keeps, if it keeps one.
+    Reload(Items<NewAlarm>),
 }
 
 /// What is done to both copies of a board.

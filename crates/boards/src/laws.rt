@@ -20,6 +20,6 @@ pub fn orders_are_counted()
 /// In a lawful list an order for which an alarm is asked is for an alarm, and has the reply that the table of transitions gives for it after the entries
 /// before it.
 pub fn replies_are_of_the_table()
-    ensures reply { (p : Picture) (console alarm : ℕ) (a : Answer) (es fs : List Entry) → is_lawful after allows p (es ++ entry.Order console a ∷ fs) ≡ true → IsAsked a → a.order.target ≡ Some alarm → a.reply ≡ reply_of alarm a.order.verb (shown after p es).bank }
+    ensures reply { (p : Picture) (console alarm : ℕ) (a : Answer) (es fs : List Entry) → is_lawful after allows p (es ++ entry.Order console a ∷ fs) ≡ true → IsAsked a → a.order.target ≡ Some alarm → a.reply ≡ reply_of alarm a.order.verb (shown after p es).panel.bank }
     ensures target { (p : Picture) (console : ℕ) (a : Answer) (es fs : List Entry) → is_lawful after allows p (es ++ entry.Order console a ∷ fs) ≡ true → IsAsked a → a.order.target ≢ None }
 {}

@@ -1,6 +1,7 @@
 //! Boards: what consoles see of the history, read without a lock.
 //!
-//! A board shows the alarms of a plant after a list of entries, one for each event of the history. The owner of the engine has the writer, which
+//! A board shows the alarms of a plant after a list of entries, one for each event of the history. It has places for the alarms of a plant that takes the place
+//! of this one. The owner of the engine has the writer, which
 //! takes in entries and publishes; each console has a reader. There are two copies of the board, and readers have the one that was published
 //! last, so that a reader never waits. Beside its alarms a board keeps, for contracts alone, the list of its entries: what a reader sees is
 //! always the alarms after a list that begins with every list that this reader saw before. Contracts know which consoles' orders a board counts from

@@ -1,9 +1,9 @@
 //! What an entry does to the alarms, and whether it may come next.
 ghost use Rattle.std.specs.Prelude.{◌≡◌, if◌then◌else◌};
-ghost use Rattle.boards.specs.Replies.{fault_number, same_change, same_reply, is_restart, is_outside, is_scan, may_answer, after_answer, bank_after_entry, bank_allows_entry};
+ghost use Rattle.boards.specs.Replies.{fault_number, same_change, same_reply, is_restart, is_outside, is_scan, may_answer, after_answer, panel_after_entry, panel_allows_entry};
 
 use crate::entry::{Answer, Entry, Reply};
-use alarm_bank::{Bank, BankEvent};
+use alarm_bank::{Annunciator, BankEvent};
 use alarm_machine::{Change, OrderFault, Verb};
 
 /// The number of a refusal.
@@ -67,32 +67,32 @@ fn is_scan(event: &BankEvent) -> bool
 {
     match event {
         BankEvent::Scan { .. } => true,
-        BankEvent::Order { .. } => false,
+        BankEvent::Order { .. } | BankEvent::Reload(_) => false,
     }
 }
 
 /// Whether an order may have this reply now.
-fn may_answer(bank: &Bank, answer: Answer) -> bool
-    ensures { result ≡ may_answer bank.now answer }
+fn may_answer(panel: &Annunciator, answer: Answer) -> bool
+    ensures { result ≡ may_answer panel.now.bank answer }
 {
     if is_restart(answer.order.verb) || is_outside(answer.reply) {
         return true;
     }
     match answer.order.target {
         None => false,
-        Some(alarm) => same_reply(answer.reply, bank.reply(alarm, answer.order.verb)),
+        Some(alarm) => same_reply(answer.reply, panel.reply(alarm, answer.order.verb)),
     }
 }
 
 /// Takes an order with its reply.
-fn answer(bank: &mut Bank, answer: Answer)
-    ensures { bank.new ≡ after_answer bank.old answer }
+fn answer(panel: &mut Annunciator, answer: Answer)
+    ensures { panel.new ≡ record panel.old { bank = after_answer panel.old.bank answer } }
 {
     if is_outside(answer.reply) {
         return;
     }
     if let Some(alarm) = answer.order.target {
-        bank.advance(&BankEvent::Order {
+        panel.advance(&BankEvent::Order {
             alarm,
             verb: answer.order.verb,
         });
@@ -100,22 +100,30 @@ fn answer(bank: &mut Bank, answer: Answer)
 }
 
 /// Takes in an entry, if it may come next, and tells whether it may; one that may not changes nothing.
-pub(crate) fn take(bank: &mut Bank, entry: &Entry) -> bool
-    ensures allowed { result ≡ bank_allows_entry bank.old entry.now }
-    ensures taken { bank.new ≡ (if bank_allows_entry bank.old entry.now then bank_after_entry bank.old entry.now else bank.old) }
+pub(crate) fn take(panel: &mut Annunciator, entry: &Entry) -> bool
+    ensures allowed { result ≡ panel_allows_entry panel.old entry.now }
+    ensures taken { panel.new ≡ (if panel_allows_entry panel.old entry.now then panel_after_entry panel.old entry.now else panel.old) }
 {
     match entry {
         Entry::Scan(event) => {
             let may = is_scan(event);
             if may {
-                bank.advance(event);
+                panel.advance(event);
             }
             may
         }
         Entry::Order(_, answered) => {
-            let may = may_answer(bank, *answered);
+            let may = may_answer(panel, *answered);
             if may {
-                answer(bank, *answered);
+                answer(panel, *answered);
+            }
+            may
+        }
+        Entry::Reload(news) => {
+            let news = news.as_slice();
+            let may = panel.fits(news);
+            if may {
+                panel.reload(news);
             }
             may
         }

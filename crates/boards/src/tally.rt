@@ -1,7 +1,7 @@
-//! How many orders of each console a board has.
+//! How many orders of each console a board has, and how many reloads.
 ghost use Rattle.std.specs.Prelude.{◌≡◌, ◌==◌, ◌^◌, ◌+◌, ◌<◌, All, map};
 ghost use Rattle.std.specs.List.{find};
-ghost use Rattle.boards.specs.Counts.{counted, tallied, consoles_in};
+ghost use Rattle.boards.specs.Counts.{counted, tallied, consoles_in, reloads_as};
 
 use crate::entry::Entry;
 use trace::Trace;
@@ -39,14 +39,24 @@ fn count(tallies: &mut [Tally], console: u32)
 }
 
 /// Counts one more entry.
-#[tactic(auto, using(crate::proofs::Takes::none_more))]
+#[tactic(auto, using(crate::proofs::Takes::none_more, crate::proofs::Takes::none_by_reload))]
 pub(crate) fn count_entry(tallies: &mut Vec<Tally>, entry: &Entry)
     requires { All (λ t. t.orders + 1 < 2 ^ 64) tallies.old.items }
     ensures { tallies.new.items ≡ map (tallied entry.now) tallies.old.items }
 {
     match entry {
-        Entry::Scan(_) => {}
+        Entry::Scan(_) | Entry::Reload(_) => {}
         Entry::Order(console, _) => count(tallies.as_mut_slice(), *console),
+    }
+}
+
+/// 1 for a reload, else 0.
+pub(crate) fn reloads_as(entry: &Entry) -> u64
+    ensures { result ≡ reloads_as entry.now }
+{
+    match entry {
+        Entry::Reload(_) => 1,
+        Entry::Scan(_) | Entry::Order(_, _) => 0,
     }
 }
 

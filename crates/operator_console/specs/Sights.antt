@@ -1,12 +1,12 @@
 -- What a console sees of its board, and has seen.
-use Rattle.std.specs.Prelude.{◌≡◌, ◌≤◌, ◌<◌, ℕ, true, Option, Some, None}
+use Rattle.std.specs.Prelude.{◌≡◌, ◌≤◌, ◌<◌, ℕ, min, true, Option, Some, None}
 use Rattle.logbook.specs.Pages.{Book}
 use Rattle.alarm_machine.specs.declared.states.AlarmState.{AlarmState}
 use Rattle.boards.specs.declared.entry.Entry.{Entry}
 use Rattle.boards.specs.declared.picture.Picture.{Picture}
 use Rattle.boards.specs.Stories.{Story, IsSince, shown, is_lawful}
 use Rattle.boards.specs.Replies.{after, allows, state_at}
-use Rattle.boards.specs.Counts.{count_of, is_counted}
+use Rattle.boards.specs.Counts.{count_of, is_counted, reloads_in}
 use Rattle.boards.specs.Readers.{seen, told, log_of, story_read, told_before, log_read}
 use Rattle.operator_console.specs.declared.sight.Sight.{Sight}
 use Rattle.operator_console.specs.declared.sight.Sight.TheVariants as sight
@@ -67,6 +67,11 @@ HasOrders console orders (Some s) = (is_lawful after allows s.0 s.1 ≡ true) ×
 abbrev pub LacksOrders : ℕ → ℕ → Option BoardStory → Type 0
 LacksOrders console orders None = Unit {0}
 LacksOrders console orders (Some s) = is_counted console s.0.consoles ≡ true → count_of console s.1 < orders
+
+-- how many reloads the board has that is looked at; 4,294,967,295 where it has more
+abbrev pub reloads_shown : Option BoardStory → ℕ
+reloads_shown None = 0
+reloads_shown (Some s) = min (reloads_in s.1) 4294967295
 
 -- the state of an alarm on the board that is looked at
 abbrev pub state_shown : ℕ → Option BoardStory → Option AlarmState

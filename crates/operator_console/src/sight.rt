@@ -4,7 +4,7 @@ ghost use Rattle.boards.specs.Stories.{seen_events, seen_list, IsSound};
 ghost use Rattle.boards.specs.Replies.{after, allows};
 ghost use Rattle.boards.specs.Marks.{IsMark};
 ghost use Rattle.boards.specs.Readers.{seen, told, log_of};
-ghost use Rattle.operator_console.specs.Sights.{seen_by, told_by, log_by, looked_at, state_shown, HasOrders, LacksOrders, KnowsAs, LooksFrom};
+ghost use Rattle.operator_console.specs.Sights.{seen_by, told_by, log_by, looked_at, reloads_shown, state_shown, HasOrders, LacksOrders, KnowsAs, LooksFrom};
 
 use alarm_machine::AlarmState;
 use boards::{BoardReader, BoardReading, Entry};
@@ -98,6 +98,16 @@ impl Sight {
     {
         match self {
             Sight::Looking(reading) => reading.board().events(),
+            Sight::Idle(_) => 0,
+        }
+    }
+
+    /// How many reloads the board has at which it looks; 4,294,967,295 where it has more.
+    pub(crate) fn reloads(&self) -> u32
+        ensures { result ≡ reloads_shown (looked_at self.now) }
+    {
+        match self {
+            Sight::Looking(reading) => reading.board().reloads(),
             Sight::Idle(_) => 0,
         }
     }

@@ -1,7 +1,7 @@
 //! A view of the board.
 ghost use Rattle.std.specs.Prelude.{◌≡◌};
 ghost use Rattle.boards.specs.Stories.{seen_events};
-ghost use Rattle.operator_console.specs.Sights.{looked_at, state_shown};
+ghost use Rattle.operator_console.specs.Sights.{looked_at, reloads_shown, state_shown};
 ghost use Rattle.operator_console.specs.Consoles.{HasLeft};
 
 use crate::console::Console;
@@ -35,5 +35,12 @@ impl<O, R> BoardView<'_, O, R> {
         ensures { result ≡ seen_events (looked_at self.now.console.now.sight) }
     {
         self.console.sight.events()
+    }
+
+    /// How many reloads are among them: an order by what the view shows is for the plant of this number. At most 4,294,967,295 are told.
+    pub fn reloads(&self) -> u32
+        ensures { result ≡ reloads_shown (looked_at self.now.console.now.sight) }
+    {
+        self.console.sight.reloads()
     }
 }

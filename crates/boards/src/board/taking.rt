@@ -9,8 +9,8 @@ use super::Board;
 use crate::entry::{Entry, Operation};
 use crate::picture::Picture;
 use crate::replies::take;
-use crate::tally::{Tally, consoles_in, count_entry};
-use alarm_bank::Bank;
+use crate::tally::{Tally, consoles_in, count_entry, reloads_as};
+use alarm_bank::Annunciator;
 use left_right::Absorb;
 use marked_log::{Log, Mark};
 use std::alloc::AllocError;
@@ -18,21 +18,22 @@ use trace::{Remembered, Trace};
 
 impl Board {
     /// A board before the first entry, which counts the orders of these consoles. None of them has one yet.
-    pub fn new(bank: Bank, tallies: Vec<Tally>) -> Board
+    pub fn new(panel: Annunciator, tallies: Vec<Tally>) -> Board
         requires { All (λ t. t.orders ≡ 0) tallies.items }
-        ensures alarms { result.opening.value.bank ≡ bank }
+        ensures alarms { result.opening.value.panel ≡ panel }
         ensures consoles { result.opening.value.consoles ≡ consoles_in tallies.items }
         ensures none { result.list ≡ [] }
     {
         let consoles = consoles_in(tallies.as_slice());
-        let picture = Picture { bank, consoles };
+        let picture = Picture { panel, consoles };
         let opening = Remembered::of(&picture);
-        let Picture { bank, consoles: _ } = picture;
+        let Picture { panel, consoles: _ } = picture;
         Board {
-            bank,
+            panel,
             opening,
             list: Trace::new(),
             events: 0,
+            reloads: 0,
             tallies,
             mark: Log::new().mark(),
         }
@@ -43,9 +44,10 @@ impl Board {
         ensures story { (self.new.opening.value, self.new.list) ≡ grown after allows (self.old.opening.value, self.old.list) entry.now }
         ensures mark { self.new.mark ≡ self.old.mark }
     {
-        if self.events < u64::MAX && take(&mut self.bank, entry) {
+        if self.events < u64::MAX && take(&mut self.panel, entry) {
             self.list = self.list.then(entry);
             self.events += 1;
+            self.reloads += reloads_as(entry);
             count_entry(&mut self.tallies, entry);
         }
     }
