@@ -82,7 +82,7 @@ pub reloads_more : (es : List Entry) (e : Entry) → reloads_in (es ++ e ∷ [])
 reloads_more [] e = refl
 reloads_more (x ∷ es) e = let h = reloads_more es e in omega (arith, h)
 
-reloads_once : (e : Entry) → reloads_as e ≤ 1
+pub reloads_once : (e : Entry) → reloads_as e ≤ 1
 reloads_once (entry.Scan s) = omega arith
 reloads_once (entry.Order n a) = omega arith
 reloads_once (entry.Reload news) = omega arith

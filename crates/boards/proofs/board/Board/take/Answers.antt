@@ -6,13 +6,20 @@ use Rattle.boards.specs.declared.tally.Tally.{Tally}
 use Rattle.boards.specs.Stories.{shown, is_lawful}
 use Rattle.boards.specs.Replies.{after, allows, panel_after_entry, panel_allows_entry}
 use Rattle.boards.specs.Counts.{count_of, tallied, consoles_in, reloads_in}
-use Rattle.boards.proofs.Takes.{shown_more, lawful_more, few_each, each_more, reloads_few, reloads_more, same_consoles}
+use Rattle.boards.proofs.Takes.{shown_more, lawful_more, few_each, each_more, reloads_few, reloads_more, reloads_once, same_consoles}
 use Rattle.boards.proofs.board.Board.take.Goals as goal
 
 pub count_entry-requires : goal.count_entry-requires
 count_entry-requires c =
     let s = c.args.self.now in
     few_each s.list s.tallies.items (omega (arith, s.all_counted, c.if-self-lt18446744073709551615.true)) s.each_counted
+
+pub overflow_add-self-then-take : goal.overflow_add-self-then-take
+overflow_add-self-then-take c =
+    let s = c.args.self.now in
+    let few = reloads_few s.list in
+    let once = reloads_once c.args.entry.now in
+    omega (arith, s.all_counted, s.reloads_counted, c.if-self-lt18446744073709551615.true, c.reloads_as.ensures, few, once)
 
 pub invariant_of-self : goal.invariant_of-self
 invariant_of-self c =
