@@ -14,3 +14,6 @@ returns-in_ok-changes-in-Order-clause-changes g c =
     let bank = c.args.self.now in
     c.in_ok-changes-in-Order.ensures ∙ ap (told_change c.in-Order.alarm) c.reply.ensures ∙ order_told bank c.in-Order.alarm c.in-Order.verb
     ∙ ap (λ (e : BankEvent). changes_from 0 bank.alarms (after_event e bank).alarms) (sym c.in-Order.is) ∙ ap (λ (b : PlainBank). changes_from 0 bank.alarms b.alarms) (sym c.advance.ensures)
+
+pub returns-in-Reload-clause-changes : goal.returns-in-Reload-clause-changes
+returns-in-Reload-clause-changes g c = c.new-in-Reload.ensures.items ∙ changes_none 0 c.args.self.now.alarms
