@@ -10,8 +10,8 @@ use Rattle.std_blocks.proofs.Steps.{ton_steps, ton_shows}
 use Rattle.alarm_machine.specs.Alarms.{PlainAlarm, after_scan}
 use Rattle.alarm_bank.specs.Banks.{scan_each}
 use Rattle.alarm_machine.specs.declared.limits.TheConstants.{LAST_MOMENT}
-use Rattle.alarm_bank.specs.Moves.{UnmarkedStay}
-use Rattle.alarm_delays.specs.Delays.{PlainDelays, IsDelays, Wakes, ArePast, delayed, delayed_each, has_come, since_after, since_each, put_since, AreMet, ConditionsStay, RawStay, FollowsOn, scan_of, scans_each, since_of, counts}
+use Rattle.alarm_bank.specs.Moves.{AreMoved, UnmarkedStay}
+use Rattle.alarm_delays.specs.Delays.{PlainDelays, IsDelays, Wakes, ArePast, Follows, have_none, last_conditions, told_by, after_met, after_conditions, delayed, delayed_each, has_come, since_after, since_each, put_since, AreMet, ConditionsStay, RawStay, FollowsOn, scan_of, scans_each, since_of, counts}
 
 pub past_on : (last t : ℕ) (since : List (Option ℕ)) → last ≤ t → ArePast last since → ArePast t since
 past_on last t since h past n r at = let p = past n r at in omega (arith, h, p)
@@ -19,10 +19,11 @@ past_on last t since h past n r at = let p = past n r at in omega (arith, h, p)
 pub wakes_on : (last t : ℕ) (delays : List ℕ) (since : List (Option ℕ)) (due : List ℕ) → last ≤ t → Wakes last delays since due → Wakes t delays since due
 wakes_on last t delays since due h wakes n delay r d s early = wakes n delay r d s (omega (arith, h, early))
 
-pub delays_on : (delays : List ℕ) (since : List (Option ℕ)) (last t : ℕ) (due : List ℕ) → last ≤ t → t ≤ LAST_MOMENT → IsDelays delays since last due → IsDelays delays since t due
-delays_on delays since last t due h range is = record {
+pub delays_on : (delays : List ℕ) (since : List (Option ℕ)) (last t : ℕ) (due : List ℕ) (is_plain : Bool) → last ≤ t → t ≤ LAST_MOMENT → IsDelays delays since last due is_plain → IsDelays delays since t due is_plain
+delays_on delays since last t due is_plain h range is = record {
   each = is.each;
   places = is.places;
+  plain = is.plain;
   few = is.few;
   in_range = range;
   past = past_on last t since h is.past;
@@ -53,7 +54,7 @@ index_other (y ∷ due) zero (suc n) key h = refl
 index_other (y ∷ due) (suc at) zero key h = refl
 index_other (y ∷ due) (suc at) (suc n) key h = index_other due at n key (λ e. h (ap suc e))
 
-module _ (delays : List ℕ) (since : List (Option ℕ)) (last : ℕ) (due : List ℕ) (at : ℕ) (v : Option ℕ) (key : ℕ) (is : IsDelays delays since last due) (within : at < length delays)
+module _ (delays : List ℕ) (since : List (Option ℕ)) (last : ℕ) (due : List ℕ) (is_plain : Bool) (at : ℕ) (v : Option ℕ) (key : ℕ) (is : IsDelays delays since last due is_plain) (within : at < length delays)
     (past : (r : ℕ) → v ≡ Some r → r ≤ last) (wakes : (delay r : ℕ) → slice_get delays at ≡ Some delay → v ≡ Some r → last - r < delay → key ≤ r + delay) where
   put_past : ArePast last (slice_set since at v)
   put_past n r e = elim (set_cases since at n v (Some r) e) [ inl p ↦ past r (sym p.1) | inr p ↦ is.past n r p.1 ]
@@ -65,15 +66,48 @@ module _ (delays : List ℕ) (since : List (Option ℕ)) (last : ℕ) (due : Lis
     | inr p ↦ let k = is.wakes n delay r d p.1 early in let index = index_other due at n key p.0 in omega (arith, k, index)
   ]
 
-  pub put_delays : IsDelays delays (slice_set since at v) last (slice_set due at key)
+  pub put_delays : IsDelays delays (slice_set since at v) last (slice_set due at key) is_plain
   put_delays = record {
     each = length-set since at v ∙ is.each;
     places = length-set due at key ∙ is.places;
+    plain = is.plain;
     few = is.few;
     in_range = is.in_range;
     past = put_past;
     wakes = put_wakes;
   }
+
+-- of an alarm that has no delay no moment is awaited
+pub put_none : (delays : List ℕ) (since : List (Option ℕ)) (last : ℕ) (due : List ℕ) (is_plain : Bool) (at : ℕ) (v : Option ℕ) → IsDelays delays since last due is_plain → slice_get delays at ≡ Some 0
+    → ((r : ℕ) → v ≡ Some r → r ≤ last) → IsDelays delays (slice_set since at v) last due is_plain
+put_none delays since last due is_plain at v is none past = record {
+  each = length-set since at v ∙ is.each;
+  places = is.places;
+  plain = is.plain;
+  few = is.few;
+  in_range = is.in_range;
+  past = λ n r e. elim (set_cases since at n v (Some r) e) [ inl p ↦ past r (sym p.1) | inr p ↦ is.past n r p.1 ];
+  wakes = λ n delay r d e early. elim (set_cases since at n v (Some r) e) [
+    | inl p ↦ let zero_is : delay ≡ 0 = same_Some delay 0 (sym d ∙ ap (slice_get delays) p.0 ∙ none) in absurd (omega (arith, zero_is, early))
+    | inr p ↦ is.wakes n delay r d p.1 early
+  ];
+}
+
+-- ---- plants in which no alarm has a delay
+
+pub none_zero : (d : ℕ) (ds : List ℕ) → d ≡ 0 → have_none (d ∷ ds) ≡ have_none ds
+none_zero zero ds e = refl
+none_zero (suc d) ds e = absurd (omega (arith, e))
+
+pub none_but : (d : ℕ) (ds : List ℕ) → 0 < d → have_none (d ∷ ds) ≡ false
+none_but zero ds e = absurd (omega (arith, e))
+none_but (suc d) ds e = refl
+
+pub none_at : (ds : List ℕ) (n : ℕ) → have_none ds ≡ true → n < length ds → slice_get ds n ≡ Some 0
+none_at [] n none h = absurd (omega (arith, h))
+none_at (suc d ∷ ds) n none h = absurd (cc none)
+none_at (zero ∷ ds) zero none h = refl
+none_at (zero ∷ ds) (suc n) none h = none_at ds n none (omega (arith, h))
 
 -- since when a condition is met after a scan is no later than that
 pub after_past : (c : Bool) (t : ℕ) (before : Option ℕ) (r : ℕ) → ((q : ℕ) → before ≡ Some q → q ≤ t) → since_after c t before ≡ Some r → r ≤ t
@@ -128,36 +162,50 @@ stays delay last t (Some q) past h early =
       | inr came ↦ come delay t q (omega (arith, came, h)) ∙ sym (come delay last q (omega (arith, came)))
     ]
 
-pub unmarked_stay : (d : PlainDelays) (due : List ℕ) (marks marks' cs ss : List Bool) (t : ℕ) (alarms : List PlainAlarm) → IsDelays d.delays d.since d.last due → d.last ≤ t → length alarms ≡ length d.delays
-    → ((n : ℕ) → slice_get marks' n ≡ Some false → slice_get marks n ≡ Some false) → ((n : ℕ) → n < length due → slice_index due n ≤ t → slice_get marks' n ≡ Some false → ⊥)
+-- what awaits an alarm that isn't marked: its condition doesn't come to count by a moment
+abbrev pub NoneComes : PlainDelays → List Bool → ℕ → Type 0
+NoneComes d marks t = (n delay r : ℕ) → slice_get d.delays n ≡ Some delay → slice_get d.since n ≡ Some (Some r) → d.last - r < delay → slice_get marks n ≡ Some false → t < r + delay
+
+-- that holds where the tree of moments has marked what it awaits
+pub none_comes : (d : PlainDelays) (due : List ℕ) (is_plain : Bool) (marks : List Bool) (t : ℕ) → IsDelays d.delays d.since d.last due is_plain
+    → ((n : ℕ) → n < length due → slice_index due n ≤ t → slice_get marks n ≡ Some false → ⊥) → NoneComes d marks t
+none_comes d due is_plain marks t is marked n delay r d_at r_at waits clear =
+    let wakes = is.wakes n delay r d_at r_at waits in
+    let within = slice_get_within d.delays n delay d_at in
+    elim (cases_lt t (slice_index due n)) [
+      | inl sooner ↦ omega (arith, sooner, wakes)
+      | inr due_now ↦ absurd (marked n (omega (arith, within, is.places)) (omega (arith, due_now)) clear)
+    ]
+
+-- and where no alarm has a delay
+pub none_awaited : (d : PlainDelays) (marks : List Bool) (t : ℕ) → have_none d.delays ≡ true → NoneComes d marks t
+none_awaited d marks t none n delay r d_at r_at waits clear =
+    let zero_is : delay ≡ 0 = same_Some delay 0 (sym d_at ∙ none_at d.delays n none (slice_get_within d.delays n delay d_at)) in absurd (omega (arith, zero_is, waits))
+
+pub unmarked_stay : (d : PlainDelays) (marks marks' cs ss : List Bool) (t : ℕ) (alarms : List PlainAlarm) → length d.since ≡ length d.delays → ArePast d.last d.since → d.last ≤ t → length alarms ≡ length d.delays
+    → ((n : ℕ) → slice_get marks' n ≡ Some false → slice_get marks n ≡ Some false) → NoneComes d marks' t
     → RawStay marks cs ss d alarms → UnmarkedStay marks' (delayed_each cs t d.delays d.since) ss alarms
-unmarked_stay d due marks marks' cs ss t alarms is later each kept marked raw n a unmarked at =
+unmarked_stay d marks marks' cs ss t alarms many past later each kept comes raw n a unmarked at =
     let within = slice_get_within alarms n a at in
     let delay : ℕ = slice_index_or d.delays n 0 in
     let r : Option ℕ = slice_index_or d.since n None in
     let d_at : slice_get d.delays n ≡ Some delay = slice_get-get_or d.delays n 0 (omega (arith, within, each)) in
-    let r_at : slice_get d.since n ≡ Some r = slice_get-get_or d.since n None (omega (arith, within, each, is.each)) in
+    let r_at : slice_get d.since n ≡ Some r = slice_get-get_or d.since n None (omega (arith, within, each, many)) in
     let was = kept n unmarked in
     let c_at = raw.conditions n r was r_at in
-    let same = stays delay d.last t r (λ q e. is.past n q (r_at ∙ ap Some e)) later (λ q e waits. early n delay q r d_at r_at e waits within unmarked) in
+    let same = stays delay d.last t r (λ q e. past n q (r_at ∙ ap Some e)) later (λ q e waits. comes n delay q d_at (r_at ∙ ap Some e) waits unmarked) in
     (each_at cs t d.delays d.since n (is_some r) delay r c_at d_at r_at ∙ ap Some (same ∙ sym (raw.counted n was a delay r at d_at r_at)), raw.suppressions n a was at)
-  where
-    early : (m delay q : ℕ) (r : Option ℕ) → slice_get d.delays m ≡ Some delay → slice_get d.since m ≡ Some r → r ≡ Some q → d.last - q < delay → m < length alarms → slice_get marks' m ≡ Some false → t < q + delay
-    early m delay q r d_at r_at e waits within clear =
-        let wakes = is.wakes m delay q d_at (r_at ∙ ap Some e) waits in
-        elim (cases_lt t (slice_index due m)) [
-          | inl sooner ↦ omega (arith, sooner, wakes)
-          | inr due_now ↦ absurd (marked m (omega (arith, within, each, is.places)) (omega (arith, due_now)) clear)
-        ]
 
 pub none_more : (n : ℕ) → replicate {A = Option ℕ} n None ++ None ∷ [] ≡ replicate {A = Option ℕ} (suc n) None
 none_more zero = refl
 none_more (suc n) = ap (λ (xs : List (Option ℕ)). None ∷ xs) (none_more n)
 
-pub delays_none : (delays : List ℕ) (n m : ℕ) → n ≡ length delays → m ≡ length delays → length delays < 2 ^ 32 → IsDelays delays (replicate {A = Option ℕ} n None) 0 (replicate m 18446744073709551615)
-delays_none delays n m n_is m_is few = record {
+pub delays_none : (delays : List ℕ) (n m : ℕ) (is_plain : Bool) → n ≡ length delays → m ≡ length delays → length delays < 2 ^ 32 → is_plain ≡ have_none delays
+    → IsDelays delays (replicate {A = Option ℕ} n None) 0 (replicate m 18446744073709551615) is_plain
+delays_none delays n m is_plain n_is m_is few plain = record {
   each = length-replicate n None ∙ n_is;
   places = length-replicate m 18446744073709551615 ∙ m_is;
+  plain = plain;
   few = few;
   in_range = omega arith;
   past = λ k r e. absurd (none_since n k r e);
@@ -199,6 +247,131 @@ past_set (r ∷ since) (suc at) v h = ap (λ (xs : List (Option ℕ)). r ∷ xs)
 
 pub same_delays : (d old : PlainDelays) (since : List (Option ℕ)) (t : ℕ) → d.delays ≡ old.delays → d.since ≡ since → d.last ≡ t → d ≡ record old { since = since; last = t }
 same_delays d old since t a b e = λ i. record { delays = a i; since = b i; last = e i }
+
+-- ---- what two lists tell of a scan
+
+fold_on : (f : List (Option ℕ) → ℕ × Bool → List (Option ℕ)) (rs : List (Option ℕ)) (xs ys : List (ℕ × Bool)) → fold f (fold f rs xs) ys ≡ fold f rs (xs ++ ys)
+fold_on f rs [] ys = refl
+fold_on f rs (x ∷ xs) ys = fold_on f (f rs x) xs ys
+
+-- delays that have taken what is met, where some alarm has a delay
+pub met_taken : (d old : PlainDelays) (met : List (ℕ × Bool)) (t : ℕ) (moved : List (ℕ × PlainAlarm)) → have_none old.delays ≡ false → d.delays ≡ old.delays → d.since ≡ fold (put_since t) old.since met → d.last ≡ t
+    → d ≡ after_met met t moved old
+met_taken d old met t moved some a b e =
+    let since : d.since ≡ fold (put_since t) old.since (told_by (have_none old.delays) met moved) = b ∙ ap (λ (p : Bool). fold (put_since t) old.since (told_by p met moved)) (sym some) in
+    (λ i. record { delays = a i; since = since i; last = e i })
+
+-- and where none has, and the alarms that move are taken next
+pub moved_taken : (d old : PlainDelays) (met : List (ℕ × Bool)) (t : ℕ) (moved : List (ℕ × PlainAlarm)) → have_none old.delays ≡ true → d.delays ≡ old.delays → d.since ≡ fold (put_since t) old.since met → d.last ≡ t
+    → record d { since = fold (put_since d.last) d.since (last_conditions moved) } ≡ after_met met t moved old
+moved_taken d old met t moved none a b e =
+    let since : fold (put_since d.last) d.since (last_conditions moved) ≡ fold (put_since t) old.since (told_by (have_none old.delays) met moved) =
+    (λ i. fold (put_since (e i)) (b i) (last_conditions moved)) ∙ fold_on (put_since t) old.since met (last_conditions moved) ∙ ap (λ (p : Bool). fold (put_since t) old.since (told_by p met moved)) (sym none) in
+    (λ i. record { delays = a i; since = since i; last = e i })
+
+-- without a delay a condition counts at once
+none_delayed : (c : Bool) (t : ℕ) (r : Option ℕ) → delayed c 0 t r ≡ c
+none_delayed false t r = refl
+none_delayed true t None = come 0 t t (omega arith)
+none_delayed true t (Some q) = come 0 t q (omega arith)
+
+pub none_counted : (cs : List Bool) (t : ℕ) (ds : List ℕ) (rs : List (Option ℕ)) → length cs ≡ length ds → length rs ≡ length ds → have_none ds ≡ true → delayed_each cs t ds rs ≡ cs
+none_counted [] t ds rs p q none = refl
+none_counted (c ∷ cs) t [] rs p q none = absurd (omega (arith, p))
+none_counted (c ∷ cs) t (d ∷ ds) [] p q none = absurd (omega (arith, q))
+none_counted (c ∷ cs) t (suc d ∷ ds) (r ∷ rs) p q none = absurd (cc none)
+none_counted (c ∷ cs) t (zero ∷ ds) (r ∷ rs) p q none = (λ i. none_delayed c t r i ∷ none_counted cs t ds rs (omega (arith, p)) (omega (arith, q)) none i)
+
+-- an alarm whose last condition a scan leaves has the condition by which its delay is known
+abbrev pub AreKnown : List Bool → List PlainAlarm → List (Option ℕ) → Type 0
+AreKnown cs alarms rs = (n : ℕ) (c : Bool) (a : PlainAlarm) (r : Option ℕ) → slice_get cs n ≡ Some c → slice_get alarms n ≡ Some a → slice_get rs n ≡ Some r → c ≡ a.condition → c ≡ is_some r
+
+-- the alarms that a scan moves tell which conditions have changed, by the conditions that count
+pub moves_met : (n : ℕ) (cs ss : List Bool) (t : ℕ) (alarms : List PlainAlarm) (rs : List (Option ℕ)) (moved : List (ℕ × PlainAlarm)) → length cs ≡ length alarms → length ss ≡ length alarms → length rs ≡ length alarms
+    → AreKnown cs alarms rs → AreMoved n alarms (scan_each cs ss t alarms) moved → AreMet n cs rs (last_conditions moved)
+moves_met n [] ss t [] [] moved p q l known h = ap last_conditions h
+moves_met n [] ss t [] (r ∷ rs) moved p q l known h = absurd (omega (arith, l))
+moves_met n [] ss t (a ∷ alarms) rs moved p q l known h = absurd (omega (arith, p))
+moves_met n (c ∷ cs) ss t [] rs moved p q l known h = absurd (omega (arith, p))
+moves_met n (c ∷ cs) [] t (a ∷ alarms) rs moved p q l known h = absurd (omega (arith, q))
+moves_met n (c ∷ cs) (s ∷ ss) t (a ∷ alarms) [] moved p q l known h = absurd (omega (arith, l))
+moves_met n (c ∷ cs) (s ∷ ss) t (a ∷ alarms) (r ∷ rs) moved p q l known h =
+    let rest : AreKnown cs alarms rs = λ m x b y. known (suc m) x b y in
+    elim h [
+      | inl same ↦ inl (known 0 c a r refl refl refl (ap (λ (b : PlainAlarm). b.condition) same.0), moves_met (n + 1) cs ss t alarms rs moved (omega (arith, p)) (omega (arith, q)) (omega (arith, l)) rest same.1)
+      | inr one ↦ inr (last_conditions one.1, ap last_conditions one.2, moves_met (n + 1) cs ss t alarms rs one.1 (omega (arith, p)) (omega (arith, q)) (omega (arith, l)) rest one.3)
+    ]
+
+-- what an alarm follows without a delay is the condition
+follows_met : (delay t : ℕ) (r : Option ℕ) → delay ≡ 0 → has_come delay t r ≡ is_some r
+follows_met (suc delay) t r e = absurd (omega (arith, e))
+follows_met zero t None e = refl
+follows_met zero t (Some q) e = come 0 t q (omega arith)
+
+-- alarms that follow, and have no delay, are known
+pub follow_known : (cs : List Bool) (alarms : List PlainAlarm) (d : PlainDelays) → length alarms ≡ length d.delays → have_none d.delays ≡ true → Follows d alarms → AreKnown cs alarms d.since
+follow_known cs alarms d each none follow n c a r c_at a_at r_at same =
+    let within = slice_get_within alarms n a a_at in
+    let none_is = none_at d.delays n none (omega (arith, within, each)) in
+    same ∙ follow n a 0 r a_at none_is r_at ∙ follows_met 0 d.last r refl
+
+-- since when conditions are met after a scan knows its conditions
+after_met_since : (c : Bool) (t : ℕ) (r : Option ℕ) → is_some (since_after c t r) ≡ c
+after_met_since false t r = refl
+after_met_since true t None = refl
+after_met_since true t (Some q) = refl
+
+pub since_known : (cs : List Bool) (alarms : List PlainAlarm) (t : ℕ) (rs : List (Option ℕ)) → AreKnown cs alarms (since_each cs t rs)
+since_known [] alarms t rs n c a r c_at a_at r_at same = absurd (cc c_at)
+since_known (x ∷ cs) alarms t [] n c a r c_at a_at r_at same = absurd (cc r_at)
+since_known (x ∷ cs) [] t (y ∷ rs) n c a r c_at a_at r_at same = absurd (cc a_at)
+since_known (x ∷ cs) (b ∷ alarms) t (y ∷ rs) zero c a r c_at a_at r_at same =
+    let c_is : x ≡ c = same_Some x c c_at in let r_is : since_after x t y ≡ r = same_Some (since_after x t y) r r_at in
+    sym c_is ∙ sym (after_met_since x t y) ∙ ap (λ (o : Option ℕ). is_some o) r_is
+since_known (x ∷ cs) (b ∷ alarms) t (y ∷ rs) (suc n) c a r c_at a_at r_at same = since_known cs alarms t rs n c a r c_at a_at r_at same
+
+-- a scan taken twice is taken once
+again_since : (c : Bool) (t : ℕ) (r : Option ℕ) → since_after c t (since_after c t r) ≡ since_after c t r
+again_since false t r = refl
+again_since true t None = refl
+again_since true t (Some q) = refl
+
+again_each : (cs : List Bool) (t : ℕ) (rs : List (Option ℕ)) → since_each cs t (since_each cs t rs) ≡ since_each cs t rs
+again_each [] t rs = refl
+again_each (c ∷ cs) t [] = refl
+again_each (c ∷ cs) t (r ∷ rs) = (λ i. again_since c t r i ∷ again_each cs t rs i)
+
+since_length : (cs : List Bool) (t : ℕ) (rs : List (Option ℕ)) → length cs ≡ length rs → length (since_each cs t rs) ≡ length rs
+since_length [] t [] e = refl
+since_length [] t (r ∷ rs) e = absurd (omega (arith, e))
+since_length (c ∷ cs) t [] e = absurd (omega (arith, e))
+since_length (c ∷ cs) t (r ∷ rs) e = ap suc (since_length cs t rs (omega (arith, e)))
+
+-- what both lists tell, where no alarm has a delay
+both_told : (cs ss : List Bool) (t : ℕ) (alarms : List PlainAlarm) (rs : List (Option ℕ)) (met : List (ℕ × Bool)) (moved : List (ℕ × PlainAlarm)) → length cs ≡ length alarms → length ss ≡ length alarms → length rs ≡ length alarms
+    → AreMet 0 cs rs met → AreMoved 0 alarms (scan_each cs ss t alarms) moved → fold (put_since t) rs (met ++ last_conditions moved) ≡ since_each cs t rs
+both_told cs ss t alarms rs met moved p q l are moves =
+    let many = since_length cs t rs (p ∙ sym l) in
+    sym (fold_on (put_since t) rs met (last_conditions moved)) ∙ ap (λ (o : List (Option ℕ)). fold (put_since t) o (last_conditions moved)) (put_all t cs rs met are)
+    ∙ put_all t cs (since_each cs t rs) (last_conditions moved) (moves_met 0 cs ss t alarms (since_each cs t rs) moved p q (many ∙ l) (since_known cs alarms t rs) moves) ∙ again_each cs t rs
+
+-- what is listed tells the scan, whatever the delays
+pub told_all : (cs ss : List Bool) (t : ℕ) (d : PlainDelays) (alarms : List PlainAlarm) (met : List (ℕ × Bool)) (moved : List (ℕ × PlainAlarm)) → length alarms ≡ length d.delays → length cs ≡ length d.delays → length ss ≡ length d.delays
+    → length d.since ≡ length d.delays → AreMet 0 cs d.since met → AreMoved 0 alarms (scan_each (delayed_each cs t d.delays d.since) ss t alarms) moved → after_met met t moved d ≡ after_conditions cs t d
+told_all cs ss t d alarms met moved each conds sups since are moves = ap (λ (l : List (Option ℕ)). record d { since = l; last = t }) (by_delays (have_none d.delays) refl)
+  where
+    by_delays : (plain : Bool) → have_none d.delays ≡ plain → fold (put_since t) d.since (told_by plain met moved) ≡ since_each cs t d.since
+    by_delays false some = put_all t cs d.since met are
+    by_delays true none =
+        let counted = none_counted cs t d.delays d.since conds since none in
+        both_told cs ss t alarms d.since met moved (conds ∙ sym each) (sups ∙ sym each) (since ∙ sym each) are (subst (λ (l : List Bool). AreMoved 0 alarms (scan_each l ss t alarms) moved) counted moves)
+
+-- and so do the alarms that move, where none has a delay and all follow
+pub told_plain : (cs ss : List Bool) (t : ℕ) (d : PlainDelays) (alarms : List PlainAlarm) (moved : List (ℕ × PlainAlarm)) → length alarms ≡ length d.delays → length cs ≡ length d.delays → length ss ≡ length d.delays
+    → length d.since ≡ length d.delays → have_none d.delays ≡ true → Follows d alarms → AreMoved 0 alarms (scan_each cs ss t alarms) moved → after_met [] t moved d ≡ after_conditions cs t d
+told_plain cs ss t d alarms moved each conds sups since none follow moves =
+    ap (λ (p : Bool). record d { since = fold (put_since t) d.since (told_by p [] moved); last = t }) none
+    ∙ ap (λ (l : List (Option ℕ)). record d { since = l; last = t }) (put_all t cs d.since (last_conditions moved) (moves_met 0 cs ss t alarms d.since moved (conds ∙ sym each) (sups ∙ sym each) (since ∙ sym each) (follow_known cs alarms d each none follow) moves))
 
 -- ---- after a scan
 

@@ -1,5 +1,5 @@
 -- On-delays of alarms: a condition counts once it has been met for so long, as the Q of a TON whose IN is the condition and whose PT is the delay (IEC 61131-3).
-use Rattle.std.specs.Prelude.{◌≡◌, ℕ, ◌+◌, ◌<◌, ◌≤◌, ◌-◌, pos, Bool, true, false, map, Option, Some, None, List, [], ◌∷◌, length, slice_get, slice_set, slice_index, slice_index_or, ◌⊎◌, is_some, fold, ◌^◌}
+use Rattle.std.specs.Prelude.{◌≡◌, ℕ, zero, suc, ◌++◌, ◌+◌, ◌<◌, ◌≤◌, ◌-◌, pos, Bool, true, false, map, Option, Some, None, List, [], ◌∷◌, length, slice_get, slice_set, slice_index, slice_index_or, ◌⊎◌, is_some, fold, ◌^◌}
 use Rattle.alarm_machine.specs.declared.limits.TheConstants.{LAST_MOMENT}
 use Rattle.std_blocks.specs.Calls.{Call, call}
 use Rattle.std_blocks.specs.Timers.{ton}
@@ -69,10 +69,17 @@ Wakes last delays since due = (n delay r : ℕ) → slice_get delays n ≡ Some 
 abbrev pub ArePast : ℕ → List (Option ℕ) → Type 0
 ArePast last since = (n r : ℕ) → slice_get since n ≡ Some (Some r) → r ≤ last
 
+-- whether no alarm has a delay
+abbrev pub have_none : List ℕ → Bool
+have_none [] = true
+have_none (zero ∷ ds) = have_none ds
+have_none (suc d ∷ ds) = false
+
 -- what is kept beside the delays
-pub record IsDelays (delays : List ℕ) (since : List (Option ℕ)) (last : ℕ) (due : List ℕ) : Type 0 where
+pub record IsDelays (delays : List ℕ) (since : List (Option ℕ)) (last : ℕ) (due : List ℕ) (is_plain : Bool) : Type 0 where
   pub each : length since ≡ length delays
   pub places : length due ≡ length delays
+  pub plain : is_plain ≡ have_none delays
   pub few : length delays < 2 ^ 32
   pub in_range : last ≤ LAST_MOMENT
   pub past : ArePast last since
@@ -111,9 +118,18 @@ DelaysAgree = (c : Bool) (delay t : ℕ) (scans : List Call)
 abbrev pub put_since : ℕ → List (Option ℕ) → ℕ × Bool → List (Option ℕ)
 put_since t since one = slice_set since one.0 (since_after one.1 t (slice_index_or since one.0 None))
 
--- delays after a scan by these alarms, each with its condition
-abbrev pub after_met : List (ℕ × Bool) → ℕ → PlainDelays → PlainDelays
-after_met met t d = record d { since = fold (put_since t) d.since met; last = t }
+-- alarms by their numbers, each with its last condition
+abbrev pub last_conditions : List (ℕ × PlainAlarm) → List (ℕ × Bool)
+last_conditions moved = map (λ one. (one.0, one.1.condition)) moved
+
+-- the conditions that a scan may have changed, by two lists: those that are met, and where no alarm has a delay also the last ones of the alarms that it moves
+abbrev pub told_by : Bool → List (ℕ × Bool) → List (ℕ × PlainAlarm) → List (ℕ × Bool)
+told_by true met moved = met ++ last_conditions moved
+told_by false met moved = met
+
+-- delays after a scan at moment t by these two lists
+abbrev pub after_met : List (ℕ × Bool) → ℕ → List (ℕ × PlainAlarm) → PlainDelays → PlainDelays
+after_met met t moved d = record d { since = fold (put_since t) d.since (told_by (have_none d.delays) met moved); last = t }
 
 -- the alarms whose conditions may have changed, from a number on, in order, each with its condition; those of all others stay as they were
 abbrev pub AreMet : ℕ → List Bool → List (Option ℕ) → List (ℕ × Bool) → Type 0
@@ -133,8 +149,8 @@ kept_scans old None = []
 kept_scans old (Some k) = slice_index_or old k []
 
 -- delays of new alarms, each with the number of the old alarm whose scans it keeps, if it keeps some; the last moment stays
-abbrev pub reloaded : List ℕ → List (Option ℕ) → PlainDelays → PlainDelays
-reloaded delays kept d = record { delays = delays; since = map (kept_since d.since) kept; last = d.last }
+abbrev pub delays_reloaded : List ℕ → List (Option ℕ) → PlainDelays → PlainDelays
+delays_reloaded delays kept d = record { delays = delays; since = map (kept_since d.since) kept; last = d.last }
 
 -- since when conditions of new alarms have been met is as the scans that they keep have it
 abbrev pub KeptAgree : Type 0

@@ -1,23 +1,25 @@
 //! The delays of alarms, and since when their conditions have been met.
 
-ghost use Rattle.std.specs.Prelude.{◌≡◌, ◌<◌, ◌≤◌, ◌^◌, ◌+◌, ◌-◌, ℕ, Bool, List, Some, None, Option, true, false, length, map, replicate, slice_get, slice_set, IfOk, OnOk};
+ghost use Rattle.std.specs.Prelude.{◌≡◌, ◌<◌, ◌≤◌, ◌^◌, ◌+◌, ◌-◌, ℕ, Bool, List, Some, None, Option, true, false, length, map, fold, replicate, slice_get, slice_set, IfOk, OnOk};
 ghost use Rattle.alarm_machine.specs.declared.limits.TheConstants.{LAST_MOMENT};
 ghost use Rattle.alarm_bank.specs.Banks.{scan_each};
 ghost use Rattle.alarm_bank.specs.Moves.{AreMovesOf};
-ghost use Rattle.alarm_delays.specs.Delays.{AreMet, ConditionsStay, DelaysAgree, IsFirstMark, FollowsOn, KeptAgree, RawStay, after_conditions, after_met, delayed, delayed_each, kept_since, put_since, reloaded, since_after};
+ghost use Rattle.alarm_delays.specs.Delays.{AreMet, ConditionsStay, DelaysAgree, Follows, IsFirstMark, FollowsOn, KeptAgree, RawStay, after_conditions, after_met, delayed, delayed_each, delays_reloaded, have_none, kept_since, last_conditions, put_since, since_after};
 
 use alarm_bank::{Bank, Shelf, Signals, next_mark};
 use alarm_machine::{Alarm, Change};
 use std::alloc::{AllocError, Global};
 use std::marker::Model;
 
-/// The delay of each alarm in milliseconds, since when its condition has been met, and the moment of the last scan. Beside them stands an index
-/// of the moments at which conditions come to count by time alone.
+/// The delay of each alarm in milliseconds, since when its condition has been met, and the moment of the last scan. Beside them stand an index
+/// of the moments at which conditions come to count by time alone, and whether no alarm has a delay. Then conditions count at once, and the index is at rest:
+/// since when they have been met is kept for alarms that take the places of these, which may have delays.
 pub struct Delays {
     delays: Vec<u32>,
     since: Vec<Option<u64>>,
     last: u64,
     due: Shelf,
+    is_plain: bool,
 }
 
 impl Drop for Delays {
@@ -27,6 +29,7 @@ impl Drop for Delays {
             since: _,
             last: _,
             due: _,
+            is_plain: _,
         } = self;
     }
 }
@@ -38,7 +41,7 @@ impl Model for Delays {
 
     ghost view = { λ d. record { delays = d.delays.items; since = d.since.items; last = d.last } };
 
-    ghost invariant = { λ d. IsDelays d.delays.items d.since.items d.last d.due };
+    ghost invariant = { λ d. IsDelays d.delays.items d.since.items d.last d.due d.is_plain };
 }
 
 /// Whether a condition counts in a scan, by since when it had been met before.
@@ -52,6 +55,18 @@ fn delayed(condition: bool, delay: u32, moment: u64, since: Option<u64>) -> bool
         Some(start) => u64::from(delay) <= moment.saturating_sub(start),
         None => delay == 0,
     }
+}
+
+/// Whether no alarm has a delay.
+fn have_none(delays: &[u32]) -> bool
+    ensures { result ≡ have_none delays.now }
+{
+    for delay in delays {
+        if *delay > 0 {
+            return false;
+        }
+    }
+    true
 }
 
 /// Of so many conditions none is met. Fails if allocation fails.
@@ -139,11 +154,13 @@ impl Delays {
     {
         let since = none_yet(alloc, delays.len())?;
         let due = Shelf::new(alloc, delays.len())?;
+        let is_plain = have_none(delays.as_slice());
         Ok(Delays {
             delays,
             since,
             last: 0,
             due,
+            is_plain,
         })
     }
 
@@ -165,11 +182,21 @@ impl Delays {
         ensures { self.new ≡ record self.old { since = slice_set self.old.since at since } }
     {
         self.since[at] = since;
+        if self.is_plain {
+            return;
+        }
         let delay = self.delays[at];
         if delay == 0 {
             return;
         }
         self.due.put(at, due_at(self.last, delay, since));
+    }
+
+    /// Whether no alarm has a delay.
+    pub fn is_plain(&self) -> bool
+        ensures { result ≡ have_none self.now.delays }
+    {
+        self.is_plain
     }
 
     /// The moment of the last scan.
@@ -190,7 +217,7 @@ impl Delays {
     ) -> Result<Delays, AllocError>
         requires few { length delays.items < 2 ^ 32 }
         requires each { length kept.now ≡ length delays.items }
-        ensures { IfOk result (λ made. made ≡ reloaded delays.items kept.now self.now) }
+        ensures { IfOk result (λ made. made ≡ delays_reloaded delays.items kept.now self.now) }
     {
         let mut made = Delays::new(alloc, delays)?;
         made.go_on(self.last());
@@ -222,13 +249,9 @@ impl Delays {
         requires { at < length self.old.delays }
         ensures { self.new ≡ record self.old { since = put_since self.old.last self.old.since (at, condition) } }
     {
-        let since = since_after(condition, self.last, self.since[at]);
-        self.since[at] = since;
-        let delay = self.delays[at];
-        if delay == 0 {
-            return;
-        }
-        self.due.put(at, due_at(self.last, delay, since));
+        let last = self.last;
+        let before = self.since[at];
+        self.keep(at, since_after(condition, last, before));
     }
 
     /// Takes the condition of the alarm of a number in the scan of the last moment. A number that isn't there changes nothing.
@@ -251,17 +274,28 @@ impl Delays {
         }
     }
 
-    /// Takes a scan by the alarms whose conditions it changed, or may have, each by its number with its condition, in order; it takes no memory and
-    /// looks at no other alarm. Then all are what the scan makes of them.
-    pub fn apply(&mut self, met: &[(u32, bool)], moment: u64)
+    /// Takes the last conditions of alarms, by their numbers, in the scan of the last moment.
+    fn put_last(&mut self, moved: &[(u32, Alarm)])
+        ensures { self.new ≡ record self.old { since = fold (put_since self.old.last) self.old.since (last_conditions moved.now) } }
+    {
+        for (number, alarm) in moved {
+            self.put_at(*number, alarm.condition());
+        }
+    }
+
+    /// Takes a scan by the alarms whose conditions it changed, or may have, each by its number with its condition, in order, and by the alarms that it moves;
+    /// it takes no memory and looks at no other alarm. After what `list_moved` or `list_plain` lists, all are what the scan makes of them.
+    pub fn apply(&mut self, met: &[(u32, bool)], moved: &[(u32, Alarm)], moment: u64)
         requires later { self.old.last ≤ moment }
         requires range { moment ≤ LAST_MOMENT }
-        ensures put { self.new ≡ after_met met.now moment self.old }
-        ensures scanned { (cs : List Bool) → AreMet 0 cs self.old.since met.now → self.new ≡ after_conditions cs moment self.old }
+        ensures { self.new ≡ after_met met.now moment moved.now self.old }
     {
         self.go_on(moment);
         for (number, condition) in met {
             self.put_at(*number, *condition);
+        }
+        if self.is_plain() {
+            self.put_last(moved);
         }
     }
 
@@ -298,8 +332,8 @@ impl Delays {
         Ok(end)
     }
 
-    /// Lists the alarms of a bank that a scan moves, and the changes of their codes, as `Bank::list_moved` does, by the conditions that count; and for
-    /// `apply` the alarms whose conditions may have changed. It looks at the marked alarms, and marks and looks at those whose conditions may come to
+    /// Lists the alarms of a bank that a scan moves, and the changes of their codes, as `Bank::list_moved` does, by the conditions that count; and the
+    /// alarms whose conditions may have changed, for `apply`. It looks at the marked alarms, and marks and looks at those whose conditions may come to
     /// count by time alone. Fails if allocation fails.
     pub fn list_moved<S: Signals>(
         &self,
@@ -318,7 +352,7 @@ impl Delays {
         requires suppressions { length (S.suppressions raw.now) ≡ length self.now.delays }
         requires unmarked { RawStay marks.old (S.conditions raw.now) (S.suppressions raw.now) self.now bank.now.alarms }
         ensures moved { OnOk result (AreMovesOf bank.now.alarms (scan_each (delayed_each (S.conditions raw.now) moment self.now.delays self.now.since) (S.suppressions raw.now) moment bank.now.alarms) moved.new.items changes.new.items) }
-        ensures met { OnOk result (AreMet 0 (S.conditions raw.now) self.now.since met.new.items) }
+        ensures met { OnOk result (after_met met.new.items moment moved.new.items self.now ≡ after_conditions (S.conditions raw.now) moment self.now) }
     {
         self.due.mark_most(moment, marks);
         let first = next_mark(marks, 0);
@@ -328,7 +362,38 @@ impl Delays {
             delays: self,
             moment,
         };
-        bank.list_moved_among(marks, first, end, &counted, moment, moved, changes)
+        bank.list_moved_among(marks, first, end, &counted, moment, moved, changes)?;
+        Ok(())
+    }
+
+    /// Lists the same where no alarm has a delay, and where the last condition of each alarm is the one that counted in the last scan. It looks at the marked
+    /// alarms once: that a condition has changed is told by the alarm, which moves. Fails if allocation fails.
+    pub fn list_plain<S: Signals>(
+        &self,
+        bank: &Bank,
+        raw: &S,
+        moment: u64,
+        marks: &[bool],
+        met: &mut Vec<(u32, bool)>,
+        moved: &mut Vec<(u32, Alarm)>,
+        changes: &mut Vec<(u32, Change)>,
+    ) -> Result<(), AllocError>
+        requires plain { have_none self.now.delays ≡ true }
+        requires follow { Follows self.now bank.now.alarms }
+        requires later { self.now.last ≤ moment }
+        requires each { length bank.now.alarms ≡ length self.now.delays }
+        requires marks { length marks.now ≡ length self.now.delays }
+        requires conditions { length (S.conditions raw.now) ≡ length self.now.delays }
+        requires suppressions { length (S.suppressions raw.now) ≡ length self.now.delays }
+        requires unmarked { RawStay marks.now (S.conditions raw.now) (S.suppressions raw.now) self.now bank.now.alarms }
+        ensures moved { OnOk result (AreMovesOf bank.now.alarms (scan_each (delayed_each (S.conditions raw.now) moment self.now.delays self.now.since) (S.suppressions raw.now) moment bank.now.alarms) moved.new.items changes.new.items) }
+        ensures met { OnOk result (after_met met.new.items moment moved.new.items self.now ≡ after_conditions (S.conditions raw.now) moment self.now) }
+    {
+        let _last = self.last;
+        met.clear();
+        let first = next_mark(marks, 0);
+        bank.list_moved_among(marks, first, marks.len(), raw, moment, moved, changes)?;
+        Ok(())
     }
 }
 
