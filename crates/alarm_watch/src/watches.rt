@@ -5,7 +5,7 @@ ghost use Rattle.alarm_bank.specs.Moves.{AreMovesOf};
 ghost use Rattle.plant_cells.specs.Cells.{value_at};
 ghost use Rattle.alarm_watch.specs.Chains.{condition_keys, suppress_keys, ChangesAreMarked};
 ghost use Rattle.alarm_watch.specs.Watched.{alarms_watched, watched_conditions, Follow};
-ghost use Rattle.alarm_delays.specs.Delays.{AreMet};
+ghost use Rattle.alarm_delays.specs.Delays.{after_conditions, after_met};
 
 use crate::chains::{Ranges, chains_of, mark_changed, ranges_of};
 use crate::watched::{Watch, Watched};
@@ -153,7 +153,7 @@ impl Watches {
         requires delays { length last.now.delays.now.delays ≡ length self.now }
         requires follow { last.now.follows ≡ true → Follow (value_at last.now.cells.now) self.now last.now.delays.now last.now.bank.now.alarms }
         ensures moved { OnOk result (AreMovesOf last.now.bank.now.alarms (alarms_watched (value_at now.now) moment self.now last.now.delays.now last.now.bank.now.alarms) moved.new.items changes.new.items) }
-        ensures met { OnOk result (AreMet 0 (watched_conditions (value_at now.now) self.now) last.now.delays.now.since met.new.items) }
+        ensures met { OnOk result (after_met met.new.items moment moved.new.items last.now.delays.now ≡ after_conditions (watched_conditions (value_at now.now) self.now) moment last.now.delays.now) }
     {
         let LastScan {
             bank,
@@ -170,6 +170,11 @@ impl Watches {
         let marks = marks.as_mut_slice();
         self.mark(cells, now, marks);
         mark_all_unless(follows, marks);
-        delays.list_moved(bank, &signals, moment, marks, met, moved, changes)
+        if follows && delays.is_plain() {
+            delays.list_plain(bank, &signals, moment, marks, met, moved, changes)?;
+            return Ok(());
+        }
+        delays.list_moved(bank, &signals, moment, marks, met, moved, changes)?;
+        Ok(())
     }
 }

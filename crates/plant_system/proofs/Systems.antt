@@ -272,11 +272,11 @@ effect_anywhere sys next old k effect held keeps after = record {
   sites_are = keeps.sites_are ∙ sym held.sites_are ∙ after.sites_are;
   watches_are = keeps.watches_are ∙ sym held.watches_are ∙ after.watches_are;
   follow = λ _.
-      subst (λ (watches : List Watch). Follow (value_at effect.cells) watches (after_met effect.met effect.moment k.delays) (put_all k.alarms effect.moved)) (held.watches_are ∙ sym keeps.watches_are)
-      (subst (λ (d : PlainDelays). Follow (value_at effect.cells) old.watches (after_met effect.met effect.moment d) (put_all k.alarms effect.moved)) (held.delays_are ∙ sym keeps.delays_are)
-      (subst (λ (alarms : List PlainAlarm). Follow (value_at effect.cells) old.watches (after_met effect.met effect.moment old.delays) (put_all alarms effect.moved)) (held.alarms_are ∙ sym keeps.alarms_are) (after.follow refl)));
+      subst (λ (watches : List Watch). Follow (value_at effect.cells) watches (after_met effect.met effect.moment effect.moved k.delays) (put_all k.alarms effect.moved)) (held.watches_are ∙ sym keeps.watches_are)
+      (subst (λ (d : PlainDelays). Follow (value_at effect.cells) old.watches (after_met effect.met effect.moment effect.moved d) (put_all k.alarms effect.moved)) (held.delays_are ∙ sym keeps.delays_are)
+      (subst (λ (alarms : List PlainAlarm). Follow (value_at effect.cells) old.watches (after_met effect.met effect.moment effect.moved old.delays) (put_all alarms effect.moved)) (held.alarms_are ∙ sym keeps.alarms_are) (after.follow refl)));
   alarms_are = ap (λ l. put_all l effect.moved) (keeps.alarms_are ∙ sym held.alarms_are) ∙ after.alarms_are;
-  delays_are = ap (λ d. after_met effect.met effect.moment d) (keeps.delays_are ∙ sym held.delays_are) ∙ after.delays_are;
+  delays_are = ap (λ d. after_met effect.met effect.moment effect.moved d) (keeps.delays_are ∙ sym held.delays_are) ∙ after.delays_are;
   outputs_are = after.outputs_are;
   moment_is = after.moment_is;
   in_range = after.in_range;

@@ -77,7 +77,7 @@ after_effect effect k =
       faulted = effect.faulted;
       follows = true;
       alarms = put_all k.alarms effect.moved;
-      delays = after_met effect.met effect.moment k.delays;
+      delays = after_met effect.met effect.moment effect.moved k.delays;
       outputs = effect.outputs;
       moment = effect.moment;
     }

@@ -57,7 +57,7 @@ pub struct ScanEffect {
     pub faulted: Vec<bool>,
     /// The outputs and the values that it leaves of them.
     pub outputs: Vec<(u32, Value)>,
-    /// The alarms whose conditions it may have changed, by number, with their conditions.
+    /// Alarms whose conditions it may have changed, by number, with their conditions; the others of these move.
     pub met: Vec<(u32, bool)>,
     /// The alarms that it moves, by number, as it leaves them.
     pub moved: Vec<(u32, Alarm)>,
@@ -178,8 +178,10 @@ pub fn apply_scan(effect: &mut ScanEffect, state: &mut State)
     requires range { effect.old.moment ≤ LAST_MOMENT }
     ensures { state.new ≡ after_effect effect.old state.old }
 {
-    state.delays.apply(effect.met.as_slice(), effect.moment);
-    state.bank.apply(effect.moved.as_slice(), effect.moment);
+    let moved = effect.moved.as_slice();
+    state.delays
+        .apply(effect.met.as_slice(), moved, effect.moment);
+    state.bank.apply(moved, effect.moment);
     state.follows = true;
     swap(&mut state.cells, &mut effect.cells);
     swap(&mut state.faulted, &mut effect.faulted);

@@ -6,7 +6,7 @@ ghost use Rattle.alarm_machine.specs.declared.limits.TheConstants.{LONGEST_SHELV
 ghost use Rattle.plant_cells.specs.Cells.{value_at};
 ghost use Rattle.plant_system.specs.System.{delays_of, opening_alarm, sites_of, is_output, outputs_from};
 ghost use Rattle.plant_system.specs.Watches.{watches_of};
-ghost use Rattle.alarm_delays.specs.Delays.{AreMet};
+ghost use Rattle.alarm_delays.specs.Delays.{after_conditions, after_met};
 ghost use Rattle.alarm_watch.specs.Watched.{alarms_watched, watched_conditions, Follow};
 ghost use Rattle.alarm_bank.specs.Moves.{put_all, changes_from};
 ghost use Rattle.plant_system.specs.Steps.{with_cell, output_in, differs, IsShowable, AreShowable};
@@ -85,7 +85,7 @@ pub fn watches_of(alloc: Global, rows: &[AlarmRow]) -> Result<Vec<Watch>, AllocE
 }
 
 /// Lists the alarms of a state that a scan moves which leaves these cells, each as it leaves it, the changes of their codes in the order of the
-/// database, and the alarms whose conditions may have changed, all in place of what was listed before. The state stays. Fails if allocation fails.
+/// database, and what the delays take of the conditions that may have changed, all in place of what was listed before. The state stays. Fails if allocation fails.
 pub fn step_alarms(
     alloc: Global,
     old: &State,
@@ -102,7 +102,7 @@ pub fn step_alarms(
     requires follow { old.now.follows ≡ true → Follow (value_at old.now.cells) old.now.watches old.now.delays old.now.alarms }
     ensures alarms { OnOk result (put_all old.now.alarms moved.new.items ≡ alarms_watched (value_at cells.now) moment old.now.watches old.now.delays old.now.alarms) }
     ensures changes { OnOk result (changes.new.items ≡ changes_from 0 old.now.alarms (alarms_watched (value_at cells.now) moment old.now.watches old.now.delays old.now.alarms)) }
-    ensures met { OnOk result (AreMet 0 (watched_conditions (value_at cells.now) old.now.watches) old.now.delays.since met.new.items) }
+    ensures met { OnOk result (after_met met.new.items moment moved.new.items old.now.delays ≡ after_conditions (watched_conditions (value_at cells.now) old.now.watches) moment old.now.delays) }
 {
     let last = LastScan {
         bank: &old.bank,

@@ -10,7 +10,6 @@ use Rattle.plant_system.proofs.Shown.{cells_showable, outputs_showable}
 use Rattle.plant_system.proofs.Outs.{outputs_renewed, outs_differ}
 use Rattle.alarm_watch.proofs.WatchLaws.{follow_after}
 use Rattle.alarm_delays.specs.Delays.{PlainDelays, after_conditions, after_met}
-use Rattle.alarm_delays.proofs.DelayLaws.{put_all}
 use Rattle.alarm_watch.specs.Watched.{Follow, alarms_watched, watched_conditions}
 use Rattle.plant_system.proofs.Watches.{each_watched, delays_many, watches_many}
 use Rattle.plant_system.proofs.scan.run_scan.Goals as goal
@@ -28,8 +27,7 @@ returns-clause-ok g c =
     let many = watches_many plant.alarms old.watches c.requires.ready.watches in
     let delays : length old.delays.delays ≡ length old.watches = ap length c.requires.ready.delays ∙ delays_many plant.alarms ∙ sym many in
     let since : length old.delays.since ≡ length old.watches = c.requires.ready.since ∙ sym many in
-    let kept : after_met c.step_alarms.new.met.items c.args.moment old.delays ≡ after_conditions (watched_conditions now old.watches) c.args.moment old.delays =
-    ap (λ l. record old.delays { since = l; last = c.args.moment }) (put_all c.args.moment (watched_conditions now old.watches) old.delays.since c.step_alarms.new.met.items c.in_ok-step_alarms.ensures.met) in
+    let kept : after_met c.step_alarms.new.met.items c.args.moment c.step_alarms.new.moved.items old.delays ≡ after_conditions (watched_conditions now old.watches) c.args.moment old.delays = c.in_ok-step_alarms.ensures.met in
     record {
       programs = search rules;
       faults_within = search rules;
