@@ -1,4 +1,5 @@
 ghost use Rattle.std.specs.Prelude.{◌≡◌, ◌++◌, ◌≤◌, string_bytes, OnOk, IfOk};
+ghost use Rattle.std.specs.Fmt.{decimal};
 ghost use Rattle.alarm_machine.specs.declared.limits.TheConstants.{LAST_MOMENT};
 ghost use Rattle.journal_core.specs.Bodies.{fault_body, alarm_body, shelf_text, reply_text, order_body, reload_body, body_text, row_text};
 
@@ -87,14 +88,21 @@ fn push_order(
     Ok(())
 }
 
+/// Appends a word and a number. Fails if allocation fails.
+fn push_count(alloc: Global, text: &mut String, word: &str, count: u32) -> Result<(), AllocError>
+    ensures { OnOk result (string_bytes text.new ≡ string_bytes text.old ++ (word.now ++ decimal count)) }
+{
+    text.push_str(word)?;
+    text.push_str(&count.to_string(alloc)?)?;
+    Ok(())
+}
+
 /// Appends `RELOAD KEPT k NEW n`. Fails if allocation fails.
 fn push_reload(alloc: Global, text: &mut String, kept: u32, fresh: u32) -> Result<(), AllocError>
     ensures { OnOk result (string_bytes text.new ≡ string_bytes text.old ++ reload_body kept fresh) }
 {
-    text.push_str("RELOAD KEPT ")?;
-    text.push_str(&kept.to_string(alloc)?)?;
-    text.push_str(" NEW ")?;
-    text.push_str(&fresh.to_string(alloc)?)?;
+    push_count(alloc, text, "RELOAD KEPT ", kept)?;
+    push_count(alloc, text, " NEW ", fresh)?;
     Ok(())
 }
 

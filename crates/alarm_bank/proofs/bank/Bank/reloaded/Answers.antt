@@ -1,7 +1,4 @@
-use Rattle.std.proofs.Common.{◌≡◌, List, Bool, true, length, ap, ◌∙◌}
-use Rattle.alarm_machine.specs.Alarms.{PlainAlarm}
-use Rattle.alarm_bank.specs.Banks.{PlainBank}
-use Rattle.alarm_bank.specs.Reloads.{all_fit}
+use Rattle.std.proofs.Common.{length}
 use Rattle.alarm_bank.proofs.ReloadLaws.{all_shelvable}
 use Rattle.alarm_bank.proofs.bank.Bank.reloaded.Goals as goal
 

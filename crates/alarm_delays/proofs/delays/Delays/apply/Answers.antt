@@ -1,8 +1,8 @@
-use Rattle.std.proofs.Common.{◌≡◌, true, false, fold, arith, ap, sym, ◌∙◌}
+use Rattle.std.proofs.Common.{◌≡◌, true, fold, arith, ap, sym, ◌∙◌}
 use Rattle.std.proofs.lemmas.Grind.{common_steps}
 use Rattle.std.proofs.lemmas.List.{drop_all}
 use Rattle.alarm_delays.specs.Delays.{have_none, put_since}
-use Rattle.alarm_delays.proofs.DelayLaws.{met_taken, moved_taken}
+use Rattle.alarm_delays.proofs.DelayLaws.{moved_taken}
 use Rattle.alarm_delays.proofs.delays.Delays.apply.Goals as goal
 
 pub loop-number-preserved : goal.loop-number-preserved

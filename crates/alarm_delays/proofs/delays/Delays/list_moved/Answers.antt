@@ -1,4 +1,4 @@
-use Rattle.std.proofs.Common.{◌≡◌, length, arith, sym, ◌∙◌, subst}
+use Rattle.std.proofs.Common.{arith, sym, ◌∙◌, subst}
 use Rattle.alarm_delays.specs.Delays.{PlainDelays, IsDelays}
 use Rattle.alarm_delays.proofs.DelayLaws.{each_length, none_comes, told_all, unmarked_stay}
 use Rattle.alarm_delays.proofs.delays.Delays.list_moved.Goals as goal

@@ -1,8 +1,7 @@
-use Rattle.std.proofs.Common.{◌≡◌, Bool, List, [], ℕ, arith, ap, sym, ◌∙◌, subst}
-use Rattle.alarm_machine.specs.Alarms.{PlainAlarm}
+use Rattle.std.proofs.Common.{Bool, List, ℕ, arith, ap, sym, ◌∙◌, subst}
 use Rattle.alarm_bank.specs.Banks.{scan_each}
 use Rattle.alarm_bank.specs.Moves.{AreMovesOf, UnmarkedStay}
-use Rattle.alarm_delays.specs.Delays.{PlainDelays, IsDelays, after_met, after_conditions}
+use Rattle.alarm_delays.specs.Delays.{PlainDelays, IsDelays, after_met}
 use Rattle.alarm_delays.proofs.DelayLaws.{none_awaited, none_counted, told_plain, unmarked_stay}
 use Rattle.alarm_delays.proofs.delays.Delays.list_plain.Goals as goal
 
