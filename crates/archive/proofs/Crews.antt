@@ -25,6 +25,8 @@ never_counted (refusal.Crew crew_fault.NoThread) h n = absurd (omega (arith, h))
 never_counted (refusal.Crew crew_fault.Lost) h n = absurd (omega (arith, h))
 never_counted (refusal.Crew crew_fault.Misfit) h n = absurd (omega (arith, h))
 never_counted refusal.HistoryFull h n = refl
+never_counted refusal.ReloadConsoles h n = refl
+never_counted refusal.ReloadEpoch h n = refl
 
 pub no_crews : {T : Type 0} (result : Result T EngineFault) → 0 ≡ faults_by 0 result → IsNoCrews result
 no_crews (Ok x) h = λ n. refl
@@ -46,6 +48,10 @@ order_due full ev (refusal.Crew crew_fault.NoThread) due none = absurd (omega (a
 order_due full ev (refusal.Crew crew_fault.Lost) due none = absurd (omega (arith, none))
 order_due full ev (refusal.Crew crew_fault.Misfit) due none = absurd (omega (arith, none))
 order_due full ev refusal.HistoryFull due none = tt
+order_due true ev refusal.ReloadConsoles due none = absurd (cc (due))
+order_due false ev refusal.ReloadConsoles due none = absurd (cc (due))
+order_due true ev refusal.ReloadEpoch due none = absurd (cc (due))
+order_due false ev refusal.ReloadEpoch due none = absurd (cc (due))
 
 -- why an order is refused, by no crew
 pub order_fault : {T : Type 0} (sys : System) (console : ℕ) (order : Order) (result : Result T EngineFault) → IfErr result (λ e. IsDue e (order_event sys console order)) → IsNoCrews result → IfErr result (λ e. IsOrderFault e)

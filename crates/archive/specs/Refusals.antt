@@ -14,6 +14,8 @@ IsOrderFault refusal.ImageName = ⊥
 IsOrderFault refusal.ImageKind = ⊥
 IsOrderFault (refusal.Crew fault) = ⊥
 IsOrderFault refusal.HistoryFull = Unit {0}
+IsOrderFault refusal.ReloadConsoles = ⊥
+IsOrderFault refusal.ReloadEpoch = ⊥
 
 -- a refusal is due where the engine is asked for the event; or the engine takes it, and the refusal is due where the book is asked
 abbrev pub IsDueInBoth : EngineFault → Result Event EngineFault → Result Event EngineFault → Type 0

@@ -16,7 +16,7 @@ use command_text::{
     push_reply, put_alarm, put_out, read_command,
 };
 use engine::{
-    Crew, Done, Engine, EngineFault, Job, Order, Reply, Report, Start, system_keeps_its_plant,
+    Crew, Done, Engine, EngineFault, Job, Order, Reply, Report, Start,
 };
 use itoa::Buffer;
 use plant_config::Plant;
@@ -204,7 +204,6 @@ fn answer_scan<H, C: Crew<Job, Start, Done, H>>(
     ensures write { is_write result ≡ false }
     ensures crew { C.faulted crew.new ≡ crew_faults (C.faulted crew.old) result }
 {
-    system_keeps_its_plant();
     match engine.prepare(rt, alloc, crew, pairs, moment) {
         Ok(prepared) => {
             let told = push_report(alloc, text, engine.plant(), &prepared.scan.report);
@@ -272,11 +271,14 @@ fn answer_order(
     ensures err { OnErr result ((engine.new.history ≡ engine.old.history)
         ⊎ (engine.new.history ≡ engine.old.history ++ event_added (order_event (state_of engine.old) console (order_for (state_of engine.old).plant verb word.now)))) }
 {
-    system_keeps_its_plant();
+    engine.keeps_its_plant();
     let last = engine.moment();
     let order = Order::of(verb, target_of(engine.plant(), verb, word), 0);
     match engine.order(alloc, console, order) {
-        Ok(reply) => push_order(text, last, tag_for(engine.plant(), order), reply),
+        Ok(reply) => {
+            engine.keeps_its_plant();
+            push_order(text, last, tag_for(engine.plant(), order), reply)
+        }
         // An order asks no crew.
         Err(EngineFault::Memory | EngineFault::Crew(_)) => Err(AllocError),
         Err(fault) => push_refused(text, fault.text()),

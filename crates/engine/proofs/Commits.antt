@@ -10,6 +10,8 @@ use Rattle.plant_config.specs.Plants.{PlainPlant}
 use Rattle.plant_config.specs.Names.{globals_of}
 use Rattle.event_history.specs.declared.event.Event.{Event}
 use Rattle.event_history.specs.declared.event.Event.TheVariants as event
+use Rattle.event_history.specs.Reloads.{NoReload}
+use Rattle.event_history.proofs.Reloads.{stays_on}
 use Rattle.operator_orders.specs.declared.order.Order.{Order}
 use Rattle.plant_system.specs.declared.state.Effect.{Effect}
 use Rattle.alarm_bank.specs.Moves.{changes_from}
@@ -31,11 +33,17 @@ use Rattle.engine.proofs.Journals.{scan_journal, order_journal, until_after, las
 pub scan_state : (e : PlainEngine) (p : PlainPrepared) (k : PlainState) → Fits e p → IsState (state_of e) k → IsState (system e.plant (e.history ++ p.event ∷ [])) (after_effect p.effect k)
 scan_state e p k fits held = subst (λ (s : System). IsState s (after_effect p.effect k)) (sym (system_next e.plant e.history p.event)) (fits.effect_is k held)
 
+-- and no reload in it
+pub scan_stays : (e : PlainEngine) (p : PlainPrepared) → Fits e p → NoReload e.history → NoReload (e.history ++ p.event ∷ [])
+scan_stays e p fits stays =
+    let one : NoReload (event.Scan fits.image p.report.moment ∷ []) = tt in
+    stays_on e.history (p.event ∷ []) stays (subst (λ (x : Event). NoReload (x ∷ [])) (sym fits.event_is) one)
+
 -- and the journal of that history
-pub scan_committed : (e : PlainEngine) (p : PlainPrepared) (log : PlainLog) → Fits e p → IsJournal e.plant e.history log.rows → IsJournal e.plant (e.history ++ p.event ∷ []) (after_entries p.report.moment log (scan_entries p.report)).rows
-scan_committed e p log fits held =
+pub scan_committed : (e : PlainEngine) (p : PlainPrepared) (log : PlainLog) → NoReload e.history → Fits e p → IsJournal e.plant e.history log.rows → IsJournal e.plant (e.history ++ p.event ∷ []) (after_entries p.report.moment log (scan_entries p.report)).rows
+scan_committed e p log stays fits held =
     subst (λ (x : Event). IsJournal e.plant (e.history ++ x ∷ []) (after_entries p.report.moment log (scan_entries p.report)).rows) (sym fits.event_is)
-    (scan_journal e.plant e.history fits.image p.report.moment p.report log (subst (λ (x : Event). IsReport (state_of e) x p.report) fits.event_is fits.report_is) held)
+    (scan_journal e.plant e.history fits.image p.report.moment p.report log stays (subst (λ (x : Event). IsReport (state_of e) x p.report) fits.event_is fits.report_is) held)
 
 -- its moment isn't before that of the last scan
 scan_forward : (e : PlainEngine) (p : PlainPrepared) (k : PlainState) → Fits e p → IsState (state_of e) k → k.moment ≤ p.report.moment
@@ -69,16 +77,20 @@ scan_in_order e p k rows fits held until =
     let forward = scan_forward e p k fits held in
     omega (arith, last, forward)
 
--- an order leaves the journal of the history with it
-pub order_committed : (e : PlainEngine) (p : PlainPreparedOrder) (k : PlainState) (log : PlainLog) → IsState (state_of e) k → FitsOrder e p → IsJournal e.plant e.history log.rows
+-- an order leaves no reload in the history with it
+pub order_stays : (e : PlainEngine) (p : PlainPreparedOrder) → FitsOrder e p → NoReload e.history → NoReload (e.history ++ event.Order p.console p.order ∷ [])
+order_stays e p fits stays = stays_on e.history (event.Order p.console p.order ∷ []) stays tt
+
+-- and the journal of that history
+pub order_committed : (e : PlainEngine) (p : PlainPreparedOrder) (k : PlainState) (log : PlainLog) → NoReload e.history → IsState (state_of e) k → FitsOrder e p → IsJournal e.plant e.history log.rows
     → IsJournal e.plant (e.history ++ event.Order p.console p.order ∷ []) (after_entries k.moment log (order_entries p.console p.order p.done k.alarms)).rows
-order_committed e p k log held fits journal =
+order_committed e p k log stays held fits journal =
     let sys = state_of e in
     let done = ordered sys p.console p.order in
     let rows : ℕ → Result Effect OrderFault → List PlainAlarm → List Row = λ m d a. (after_entries m log (order_entries p.console p.order d a)).rows in
     let same : rows k.moment p.done k.alarms ≡ rows sys.moment done sys.alarms =
     ap (λ m. rows m p.done k.alarms) held.moment_is ∙ ap (λ d. rows sys.moment d k.alarms) fits.done_is ∙ ap (rows sys.moment done) held.alarms_are in
-    subst (IsJournal e.plant (e.history ++ event.Order p.console p.order ∷ [])) (sym same) (order_journal e.plant e.history p.console p.order log journal)
+    subst (IsJournal e.plant (e.history ++ event.Order p.console p.order ∷ [])) (sym same) (order_journal e.plant e.history p.console p.order log stays journal)
 
 pub order_until : (m : ℕ) (log : PlainLog) (console : ℕ) (order : Order) (done : Result Effect OrderFault) (alarms : List PlainAlarm) → All (λ row. row.moment ≤ m) log.rows
     → All (λ row. row.moment ≤ m) (after_entries m log (order_entries console order done alarms)).rows

@@ -7,6 +7,7 @@ use Rattle.plant_config.specs.Plants.{PlainPlant, IsPlant}
 use Rattle.plant_config.specs.Names.{globals_of}
 use Rattle.event_history.specs.declared.event.Event.{Event}
 use Rattle.event_history.specs.declared.event.Event.TheVariants as event
+use Rattle.event_history.specs.Reloads.{NoReload}
 use Rattle.operator_orders.specs.declared.order.Order.{Order}
 use Rattle.plant_system.specs.declared.event.TheConstants.{MOST_EVENTS}
 use Rattle.plant_system.specs.Orders.{order_outcome, alarms_by, faulted_by, reply_by}
@@ -21,16 +22,16 @@ use Rattle.engine.proofs.Journals.{journal_empty}
 use Rattle.engine.proofs.Lawful.{lawful_none}
 
 -- a scan that was made ready from what an engine holds fits that engine, where there is room for its rows
-pub scan_fits : (e : PlainEngine) (p : PlainPrepared) (old : PlainState) (events : ℕ) (pairs : List PlainPair) (t : ℕ) → IsPlant e.plant → IsState (state_of e) old → IsPreparedScan e.plant old events pairs t p → events ≡ length e.history → length p.report.faults + length p.report.changes ≤ e.row_room → Fits e p
-scan_fits e p old events pairs t begun held scan counted rows_there =
+pub scan_fits : (e : PlainEngine) (p : PlainPrepared) (old : PlainState) (events : ℕ) (pairs : List PlainPair) (t : ℕ) → IsPlant e.plant → NoReload e.history → IsState (state_of e) old → IsPreparedScan e.plant old events pairs t p → events ≡ length e.history → length p.report.faults + length p.report.changes ≤ e.row_room → Fits e p
+scan_fits e p old events pairs t begun stays held scan counted rows_there =
     let sys = state_of e in
-    let own : e.plant ≡ sys.plant = sym (system_keeps_its_plant e.plant e.history) in
+    let own : e.plant ≡ sys.plant = sym (system_keeps_its_plant e.plant e.history stays) in
     let image = scan.image in
     let is = scan.event_is in
     let new = after_effect p.effect old in
     let plant_is = subst IsPlant own begun in
     let made = subst (λ (x : PlainPlant). ScanRan x old image t new p.report) own scan.ran in
-    let taken : scan_event sys pairs t ≡ Ok (event.Scan image t) = sym (scan_event_is e.plant e.history old events pairs t held counted) ∙ scan.taken ∙ ap Ok is in
+    let taken : scan_event sys pairs t ≡ Ok (event.Scan image t) = sym (scan_event_is e.plant e.history old events pairs t stays held counted) ∙ scan.taken ∙ ap Ok is in
     let within = taken_within (globals_of sys.plant) sys.moment sys.events pairs t t image taken in
     let seen = system_scans e.plant e.history in
     let after = scan_agrees sys old new image t p.report plant_is seen within held made in
@@ -53,10 +54,10 @@ order_agrees e p old held fits =
     (order_steps (state_of e) old p.console p.order p.done fits.done_is held)
 
 -- an order that was made ready from what an engine holds fits that engine, where there is room for its rows
-pub order_fits : (e : PlainEngine) (k : PlainState) (console : ℕ) (order : Order) (p : PlainPreparedOrder) → IsState (state_of e) k → IsPreparedOrder e.plant k console order p → length e.history < MOST_EVENTS → 2 ≤ e.row_room → FitsOrder e p
-order_fits e k console order p held made few rows_there =
+pub order_fits : (e : PlainEngine) (k : PlainState) (console : ℕ) (order : Order) (p : PlainPreparedOrder) → NoReload e.history → IsState (state_of e) k → IsPreparedOrder e.plant k console order p → length e.history < MOST_EVENTS → 2 ≤ e.row_room → FitsOrder e p
+order_fits e k console order p stays held made few rows_there =
     let sys = state_of e in
-    let own : e.plant ≡ sys.plant = sym (system_keeps_its_plant e.plant e.history) in
+    let own : e.plant ≡ sys.plant = sym (system_keeps_its_plant e.plant e.history stays) in
     let is : p.done ≡ ordered sys p.console p.order =
     made.done_is
     ∙ (λ i. order_outcome (own i) (held.alarms_are i) (held.faulted_is i) (held.moment_is i) console order)
@@ -74,6 +75,7 @@ opening_engine plant k is held = record {
   state_is = subst (λ (s : System). IsState s k) (sym (system_none plant)) held;
   plant_is = is;
   lawful = lawful_none plant;
+  stays = tt;
   journal = journal_empty plant;
   until = All-nil (λ (row : Row). row.moment ≤ k.moment);
 }

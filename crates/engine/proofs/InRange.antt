@@ -7,7 +7,7 @@ use Rattle.plant_config.specs.Names.{globals_of}
 use Rattle.event_history.specs.declared.event.Event.{Event}
 use Rattle.event_history.specs.declared.event.Event.TheVariants as event
 use Rattle.plant_system.specs.System.{System, system, after_event}
-use Rattle.plant_system.proofs.InRange.{taken_fits, scan_in}
+use Rattle.plant_system.proofs.InRange.{taken_fits, scan_in, reload_in}
 use Rattle.engine.specs.Lawful.{IsTaken, IsLawfulHistory, HasValuesInRange}
 use Rattle.engine.proofs.Lawful.{lawful_keeps}
 
@@ -19,6 +19,7 @@ event_in : (sys : System) (e : Event) → IsTaken sys e → SoundInRange sys →
 event_in sys (event.Scan image t) taken holds =
     (holds.0, scan_in sys.plant image t sys.faulted sys.world holds.0 (taken_fits (globals_of sys.plant) sys.moment sys.events taken.0 t t image taken.1) holds.1)
 event_in sys (event.Order console order) taken holds = holds
+event_in sys (event.Reload new) taken holds = (taken.1.sound, reload_in sys.plant new sys.world taken.1.sound holds.1)
 
 -- so it is after a lawful history
 pub lawful_in_range : (plant : PlainPlant) (history : List Event) → IsSound plant.source → IsLawfulHistory plant history → SoundInRange (system plant history)

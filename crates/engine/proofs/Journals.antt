@@ -21,6 +21,7 @@ use Rattle.journal_core.specs.Rows.{PlainLog, after_entry, after_entries, fault_
 use Rattle.plant_config.specs.Plants.{PlainPlant}
 use Rattle.event_history.specs.declared.event.Event.{Event}
 use Rattle.event_history.specs.declared.event.Event.TheVariants as event
+use Rattle.event_history.specs.Reloads.{NoReload}
 use Rattle.operator_orders.specs.declared.order.Order.{Order}
 use Rattle.plant_system.specs.Orders.{changed_by}
 use Rattle.plant_system.specs.Reports.{PlainReport}
@@ -133,11 +134,11 @@ changes_named plant [] = refl
 changes_named plant (c ∷ cs) = ap (λ l. named_change plant c ∷ l) (changes_named plant cs)
 
 -- ---- a journal goes on, by entries that the system's plant names
-journal_on : (plant : PlainPlant) (history : List Event) (e : Event) (moment : ℕ) (log : PlainLog) (entries : List Entry) → moment ≡ (after_event (system plant history) e).moment
+journal_on : (plant : PlainPlant) (history : List Event) (e : Event) (moment : ℕ) (log : PlainLog) (entries : List Entry) → NoReload history → moment ≡ (after_event (system plant history) e).moment
     → map (named_entry (system plant history).plant) entries ≡ added_entries (system plant history) e → All (IsNamed (system plant history).plant) entries → IsJournal plant history log.rows → IsJournal plant (history ++ e ∷ []) (after_entries moment log entries).rows
-journal_on plant history e moment log entries at named within held =
+journal_on plant history e moment log entries stays at named within held =
     let sys = system plant history in
-    let own = system_keeps_its_plant plant history in
+    let own = system_keeps_its_plant plant history stays in
     let are = subst (λ (x : PlainPlant). map (named_entry x) entries ≡ added_entries sys e) own named in
     let journal = journal_of plant history in
     let long : length log.rows + 1 ≡ length journal + 1 = ap (λ k. k + 1) (sym (length-map log.rows (named_row plant)) ∙ ap length held.rows_are) in
@@ -152,22 +153,22 @@ journal_on plant history e moment log entries at named within held =
     }
 
 -- by the rows of a scan
-pub scan_journal : (plant : PlainPlant) (history : List Event) (image : List (ℕ × Value)) (t : ℕ) (r : PlainReport) (log : PlainLog) → IsReport (system plant history) (event.Scan image t) r → IsJournal plant history log.rows
+pub scan_journal : (plant : PlainPlant) (history : List Event) (image : List (ℕ × Value)) (t : ℕ) (r : PlainReport) (log : PlainLog) → NoReload history → IsReport (system plant history) (event.Scan image t) r → IsJournal plant history log.rows
     → IsJournal plant (history ++ event.Scan image t ∷ []) (after_entries r.moment log (scan_entries r)).rows
-scan_journal plant history image t r log report held =
+scan_journal plant history image t r log stays report held =
     let here = (system plant history).plant in
     let P = IsNamed here in
     let faults = faults_named here r.faults ∙ ap fault_entries report.faults_are in
     let changes = changes_named here r.changes ∙ ap (change_entries here) report.changes_are in
-    journal_on plant history (event.Scan image t) r.moment log (scan_entries r) report.moment_is
+    journal_on plant history (event.Scan image t) r.moment log (scan_entries r) stays report.moment_is
     (map-append (named_entry here) (map fault_entry r.faults) (map change_entry r.changes) ∙ (λ i. faults i ++ changes i))
     (All-append P (map fault_entry r.faults) (map change_entry r.changes) (All-map P fault_entry r.faults report.faults_within) (All-map P change_entry r.changes report.changes_within))
     held
 
 -- by those of an order
-pub order_journal : (plant : PlainPlant) (history : List Event) (console : ℕ) (order : Order) (log : PlainLog) → IsJournal plant history log.rows
+pub order_journal : (plant : PlainPlant) (history : List Event) (console : ℕ) (order : Order) (log : PlainLog) → NoReload history → IsJournal plant history log.rows
     → IsJournal plant (history ++ event.Order console order ∷ []) (after_entries (system plant history).moment log (order_entries console order (ordered (system plant history) console order) (system plant history).alarms)).rows
-order_journal plant history console order log held =
+order_journal plant history console order log stays held =
     let sys = system plant history in
     let done = ordered sys console order in
     let changes = changes_from 0 sys.alarms (after_event sys (event.Order console order)).alarms in
@@ -175,7 +176,7 @@ order_journal plant history console order log held =
     let many = system_alarms plant history in
     let few : All (λ (c : ℕ × PlainChange). c.0 < length sys.plant.alarms) changes = numbers_more changes (0 + length sys.alarms) (length sys.plant.alarms) (omega (arith, many)) (changes_within 0 sys.alarms (after_event sys (event.Order console order)).alarms) in
     let P = IsNamed sys.plant in
-    journal_on plant history (event.Order console order) sys.moment log (order_entries console order done sys.alarms) refl
+    journal_on plant history (event.Order console order) sys.moment log (order_entries console order done sys.alarms) stays refl
     (ap (λ l. named_order sys.plant console order (refusal_of done) ∷ l) (changes_named sys.plant (one_or_none (changed_by done sys.alarms)) ∙ ap (change_entries sys.plant) (sym are)))
     (All-cons P (entry.Order console order.verb order.target (refusal_of done)) (map change_entry (one_or_none (changed_by done sys.alarms)))
     (order_named sys.plant sys.alarms sys.faulted sys.moment console order (system_faulted plant history))

@@ -1,11 +1,12 @@
 -- Histories whose events were each taken.
-use Rattle.std.proofs.Common.{◌≡◌, ℕ, ◌<◌, ◌≤◌, Bool, true, false, List, [], ◌∷◌, ◌++◌, length, fold, refl, arith, Ok, Err, if◌then◌else◌}
+use Rattle.std.proofs.Common.{◌≡◌, ℕ, ◌<◌, ◌≤◌, Bool, true, false, List, [], ◌∷◌, ◌++◌, length, fold, refl, arith, ◌∙◌, Ok, Err, if◌then◌else◌}
 use Rattle.std.specs.Prelude.{nat_le}
 use Rattle.std.proofs.lemmas.Bool.Decides.{nat_tests}
 use Rattle.alarm_machine.specs.declared.limits.TheConstants.{LAST_MOMENT}
 use Rattle.plant_config.specs.Plants.{PlainPlant}
 use Rattle.plant_config.specs.Names.{globals_of}
 use Rattle.plant_system.specs.declared.event.TheConstants.{MOST_EVENTS}
+use Rattle.plant_system.specs.Reloads.{numbers_of}
 use Rattle.event_history.specs.declared.event.Event.{Event}
 use Rattle.event_history.specs.declared.event.Event.TheVariants as event
 use Rattle.operator_orders.specs.declared.order.Order.{Order}
@@ -14,6 +15,7 @@ use Rattle.plant_system.specs.declared.event.EngineFault.TheVariants as refusal
 use Rattle.plant_system.specs.System.{System, system, opening_system, after_event, order_event}
 use Rattle.engine.specs.Lawful.{IsTaken, AreTaken, IsLawfulHistory}
 use Rattle.plant_system.proofs.Images.{taken_when}
+use Rattle.plant_system.proofs.Reloading.{reload_found}
 use Rattle.plant_system.proofs.Systems.{system_events}
 
 taken_next : (s : System) (history : List Event) (e : Event) → AreTaken s history → IsTaken (fold after_event s history) e → AreTaken s (history ++ e ∷ [])
@@ -55,9 +57,25 @@ Short s = (s.events ≤ MOST_EVENTS) × (s.moment ≤ LAST_MOMENT)
 short_next : (s : System) (e : Event) → IsTaken s e → Short s → Short (after_event s e)
 short_next s (event.Scan image t) taken short = let when = taken_when (globals_of s.plant) s.moment s.events taken.0 t t image taken.1 in (omega (arith, when.room), when.in_range)
 short_next s (event.Order console order) taken short = let room = order_room s console order taken in (omega (arith, room), short.1)
+short_next s (event.Reload new) taken short = let found = reload_found s.plant s.events new taken.0 in (omega (arith, found.room), short.1)
 
 pub lawful_short : (plant : PlainPlant) (history : List Event) → IsLawfulHistory plant history → (length history ≤ 1000000) × ((system plant history).moment ≤ 4000000000000)
 lawful_short plant history lawful =
     let short = lawful_keeps Short short_next plant history (omega arith, omega arith) lawful in
     let events = system_events plant history in
     (omega (arith, events, short.0), short.1)
+
+-- the numbers of a plant's consoles are these, and its epoch is this
+abbrev pub HasNumbers : List ℕ → ℕ → PlainPlant → Type 0
+HasNumbers numbers epoch plant = (numbers_of plant.consoles ≡ numbers) × (plant.epoch ≡ epoch)
+
+numbers_stay : (numbers : List ℕ) (epoch : ℕ) (s : System) (e : Event) → IsTaken s e → HasNumbers numbers epoch s.plant → HasNumbers numbers epoch (after_event s e).plant
+numbers_stay numbers epoch s (event.Scan image t) taken has = has
+numbers_stay numbers epoch s (event.Order console order) taken has = has
+numbers_stay numbers epoch s (event.Reload new) taken has = let found = reload_found s.plant s.events new taken.0 in (found.numbers ∙ has.0, found.epoch ∙ has.1)
+
+-- the plant after a lawful history has the consoles' numbers and the epoch of the plant before it
+pub lawful_numbers : (plant : PlainPlant) (history : List Event) → IsLawfulHistory plant history → HasNumbers (numbers_of plant.consoles) plant.epoch (system plant history).plant
+lawful_numbers plant history lawful =
+    let numbers = numbers_of plant.consoles in
+    lawful_keeps (λ s. HasNumbers numbers plant.epoch s.plant) (numbers_stay numbers plant.epoch) plant history (refl, refl) lawful

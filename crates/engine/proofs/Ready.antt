@@ -17,7 +17,7 @@ pub ready : (plant : PlainPlant) (history : List Event) (rows : List Row) (k : P
 ready plant history rows k is =
     let sys = system plant history in
     let holds = lawful_in_range plant history is.plant_is.sound is.lawful in
-    subst (λ (x : PlainPlant). IsReady x k) (system_keeps_its_plant plant history) (record {
+    subst (λ (x : PlainPlant). IsReady x k) (system_keeps_its_plant plant history is.stays) (record {
       sound = holds.0;
       programs = kept_faulted plant history k is.state_is;
       alarms = kept_alarms plant history k is.state_is;

@@ -10,6 +10,7 @@ use Rattle.alarm_machine.specs.declared.limits.TheConstants.{LAST_MOMENT}
 use Rattle.event_history.specs.declared.event.Event.{Event}
 use Rattle.event_history.specs.declared.event.Event.TheVariants as event
 use Rattle.event_history.specs.contracts.event.Event as event_row
+use Rattle.event_history.specs.Reloads.{NoReload}
 use Rattle.plant_system.specs.Reports.{PlainReport}
 use Rattle.plant_system.specs.States.{PlainState, PlainPrepared, PlainPreparedOrder, IsState, IsReport, after_effect}
 use Rattle.plant_system.specs.System.{System, system, after_event, scan_event, ordered, reply_to}
@@ -62,10 +63,11 @@ pub record FitsOrder (e : PlainEngine) (p : PlainPreparedOrder) : Type 0 where
   pub taken : IsTaken (state_of e) (event.Order p.console p.order)
   pub row_room : 2 ≤ e.row_room
 
--- what an engine keeps is what the system after its history has, what holds of each plant holds of this one, the history is lawful, and the rows are its journal, none of them later than the last scan
+-- what an engine keeps is what the system after its history has, what holds of each plant holds of this one, the history is lawful and has no reload, and the rows are its journal, none of them later than the last scan
 pub record IsEngine (plant : PlainPlant) (history : List Event) (rows : List Row) (k : PlainState) : Type 0 where
   pub state_is : IsState (system plant history) k
   pub plant_is : IsPlant plant
   pub lawful : IsLawfulHistory plant history
+  pub stays : NoReload history
   pub journal : IsJournal plant history rows
   pub until : All (λ row. row.moment ≤ k.moment) rows

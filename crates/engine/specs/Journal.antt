@@ -25,6 +25,7 @@ use Rattle.operator_orders.specs.declared.order.Order.{Order}
 use Rattle.plant_system.specs.declared.state.Effect.{Effect}
 use Rattle.plant_system.specs.Reports.{PlainReport}
 use Rattle.plant_system.specs.Orders.{is_restart, changed_by}
+use Rattle.plant_system.specs.Reloads.{kept_numbers, kept_count, fresh_count}
 use Rattle.plant_system.specs.System.{System, opening_system, after_event, ordered, faults_of, changes_of}
 
 -- what a row tells, by names alone: a program's fault at a spot, the change of the code of the alarm with a tag, an order of a console, the name of its target if there is one, and why it was refused, if it was, or a reload: how many alarms kept their states and how many are new
@@ -32,7 +33,7 @@ pub data NamedEntry : Type 0 where
   FaultAt : Spot → Trap → NamedEntry
   ChangeOf : List ℕ → PlainChange → NamedEntry
   OrderBy : ℕ → Verb → Option (List ℕ) → Option OrderFault → NamedEntry
-  Reloaded : ℕ → ℕ → NamedEntry
+  ReloadOf : ℕ → ℕ → NamedEntry
 
 -- a row by names: its number, the moment of its event, and what it tells
 pub record NamedRow : Type 0 where
@@ -63,7 +64,7 @@ abbrev pub named_entry : PlainPlant → Entry → NamedEntry
 named_entry plant (entry.Fault place trap) = FaultAt (place_spot plant.source place) trap
 named_entry plant (entry.Alarm alarm change) = named_change plant (alarm, change)
 named_entry plant (entry.Order console verb target refused) = OrderBy console verb (order_target plant verb target refused) refused
-named_entry plant (entry.Reload kept fresh) = Reloaded kept fresh
+named_entry plant (entry.Reload kept fresh) = ReloadOf kept fresh
 
 -- a row by the names of a plant
 abbrev pub named_row : PlainPlant → Row → NamedRow
@@ -79,7 +80,7 @@ abbrev pub entry_text : NamedEntry → List ℕ
 entry_text (FaultAt spot trap) = fault_body (path_text spot.path) spot.statement trap
 entry_text (ChangeOf tag change) = alarm_body tag change
 entry_text (OrderBy console verb target refused) = order_body console verb (target_text target) refused
-entry_text (Reloaded kept fresh) = reload_body kept fresh
+entry_text (ReloadOf kept fresh) = reload_body kept fresh
 
 -- the text of a row by names, of a journal with this epoch: `NUMBER STAMP BODY`
 abbrev pub named_text : ℕ → NamedRow → List ℕ
@@ -103,10 +104,15 @@ fault_entries faults = map (λ (f : Spot × Trap). FaultAt f.0 f.1) faults
 abbrev pub change_entries : PlainPlant → List (ℕ × PlainChange) → List NamedEntry
 change_entries plant changes = map (named_change plant) changes
 
--- the entries that an event adds, by the names of the plant that the system has at that time: a scan its faults in program order, an order itself with its reply; then the changes of alarms' codes in the order of the database
+-- the entry that a reload adds: how many alarms of the new plant keep their states, and how many are new
+abbrev pub reload_entry : PlainPlant → PlainPlant → NamedEntry
+reload_entry old new = let kept = kept_numbers old new in ReloadOf (kept_count kept) (fresh_count kept)
+
+-- the entries that an event adds, by the names of the plant that the system has at that time: a scan its faults in program order, an order itself with its reply; then the changes of alarms' codes in the order of the database. A reload adds itself alone
 abbrev pub added_entries : System → Event → List NamedEntry
 added_entries sys (event.Scan image t) = fault_entries (faults_of sys (event.Scan image t)) ++ change_entries sys.plant (changes_of sys (event.Scan image t))
 added_entries sys (event.Order console order) = named_order sys.plant console order (refusal_of (ordered sys console order)) ∷ change_entries sys.plant (changes_of sys (event.Order console order))
+added_entries sys (event.Reload new) = reload_entry sys.plant new ∷ []
 
 -- the entries that a scan's report has, with the places of its faults
 abbrev pub scan_entries : PlainReport → List Entry

@@ -6,16 +6,17 @@ use Rattle.plant_types.specs.declared.values.Value.{Value}
 use Rattle.plant_logic.specs.declared.logic.Variable.{Variable}
 use Rattle.plant_logic.specs.Worlds.{path_of}
 use Rattle.plant_logic.specs.Ranges.{AllInRange}
-use Rattle.plant_config.specs.Plants.{PlainPlant}
+use Rattle.plant_config.specs.Plants.{PlainPlant, IsPlant}
 use Rattle.plant_config.specs.Names.{globals_of}
 use Rattle.event_history.specs.declared.event.Event.{Event}
 use Rattle.event_history.specs.declared.event.Event.TheVariants as event
-use Rattle.plant_system.specs.System.{System, opening_system, after_event, scan_event, order_event, is_output}
+use Rattle.plant_system.specs.System.{System, opening_system, after_event, scan_event, order_event, reload_event, is_output}
 
--- an event was taken in a state: a scan is the one that some pairs give at its moment, an order is one that isn't refused there
+-- an event was taken in a state: a scan is the one that some pairs give at its moment, an order is one that isn't refused there, and so is a reload, whose plant keeps the rules of plants
 abbrev pub IsTaken : System → Event → Type 0
 IsTaken sys (event.Scan image t) = (pairs : List PlainPair) × (scan_event sys pairs t ≡ Ok (event.Scan image t))
 IsTaken sys (event.Order console order) = order_event sys console order ≡ Ok (event.Order console order)
+IsTaken sys (event.Reload new) = (reload_event sys new ≡ Ok (event.Reload new)) × IsPlant new
 
 -- from a state on, each event was taken in the state that those before it left
 abbrev pub AreTaken : System → List Event → Type 0

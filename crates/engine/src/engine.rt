@@ -1,12 +1,13 @@
 //! The engine: its public calls.
 
-ghost use Rattle.std.specs.Prelude.{◌≡◌, ◌+◌, ◌<◌, ◌≤◌, ◌++◌, [], ◌∷◌, length, slice_get, string_bytes, Some, Ok, IfOk, OnOk, OnErr, IfErr};
+ghost use Rattle.std.specs.Prelude.{◌≡◌, ◌+◌, ◌<◌, ◌≤◌, ◌++◌, [], ◌∷◌, length, slice_get, string_bytes, Some, Ok, Err, IfOk, OnOk, OnErr, IfErr};
 ghost use Rattle.std.specs.Option.{option_map};
 ghost use Rattle.alarm_machine.specs.declared.limits.TheConstants.{LAST_MOMENT};
 ghost use Rattle.plant_system.specs.Faults.{faults_by, IsNoCrews};
 ghost use Rattle.plant_system.specs.Image.{IsDue};
 ghost use Rattle.plant_system.specs.Orders.{restart_of};
-ghost use Rattle.plant_system.specs.System.{scan_event, order_event, reply_to, outputs_of, summary_of};
+ghost use Rattle.event_history.specs.Reloads.{NoReload};
+ghost use Rattle.plant_system.specs.System.{scan_event, order_event, reload_event, reply_to, outputs_of, summary_of};
 ghost use Rattle.engine.specs.Lawful.{IsLawfulHistory};
 ghost use Rattle.engine.specs.Journal.{IsJournal, IsLine, added_entries, journal_of};
 ghost use Rattle.engine.specs.Engines.{state_of, Fits, FitsOrder, IsEngine, LeavesState, TakesScan};
@@ -23,8 +24,8 @@ use operator_orders::Order;
 use plant_config::Plant;
 use plant_system::{
     Before, EngineFault, MOST_EVENTS, Prepared, PreparedOrder, ReadyScan, Reply, Report, Room,
-    RunRoom, State, alarm_state, apply, apply_scan, empty_report, opening_state, prepared_order,
-    prepared_scan,
+    RunRoom, State, alarm_state, apply, apply_scan, empty_report, may_reload, opening_state,
+    prepared_order, prepared_scan,
 };
 use plant_types::{Items, Pair, Value};
 use scan_logic::{Levelled, Workspace, plan_levels};
@@ -98,7 +99,7 @@ fn push_taken(history: &mut History, image: Vec<(u32, Value)>, moment: u64) -> V
     history.push(&event);
     match event {
         Event::Scan(image, _) => image.into_vec(),
-        Event::Order(..) => unreachable!(),
+        Event::Order(..) | Event::Reload(_) => unreachable!(),
     }
 }
 
@@ -295,6 +296,25 @@ impl Engine {
         ensures { LeavesState self.now prepared.now }
     {
         let _kept = &self.state;
+    }
+
+    /// A law, which does nothing: no event of an engine is a reload, so its plant is the one with which it began.
+    pub fn keeps_its_plant(&self)
+        ensures stays { NoReload self.now.history }
+        ensures plant { (state_of self.now).plant ≡ self.now.plant }
+    {
+        let _kept = &self.state;
+    }
+
+    /// Tells whether a plant may take the place of the present one, and if not, why. Nothing changes.
+    ///
+    /// The refusals, in the order in which they are tested: `ReloadConsoles` (E7) where the consoles' numbers, in their order, aren't those of the
+    /// present plant, `ReloadEpoch` (E8) where the epoch is another, `HistoryFull` (E6) at 1,000,000 events.
+    pub fn may_reload(&self, plant: &Plant) -> Result<(), EngineFault>
+        ensures ok { OnOk result (reload_event (state_of self.now) plant.now ≡ Ok (Event.Reload plant.now)) }
+        ensures err { IfErr result (λ e. reload_event (state_of self.now) plant.now ≡ Err e) }
+    {
+        may_reload(&self.plant, self.history.len(), plant)
     }
 
     /// Gives a report back, so that the next scan's lists take its memory and none of their own. The report is lost; the engine stays as it is.

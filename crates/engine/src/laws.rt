@@ -1,25 +1,29 @@
 //! Laws of lawful histories. These functions do nothing: each has a law as its contract, for the crates above.
 
-ghost use Rattle.std.specs.Prelude.{◌≡◌, ◌≤◌, List, length, All};
+ghost use Rattle.std.specs.Prelude.{◌≡◌, ◌≤◌, List, [], ◌∷◌, length, All};
 ghost use Rattle.plant_config.specs.Plants.{PlainPlant, IsPlant};
 ghost use Rattle.event_history.specs.declared.event.Event.{Event};
+ghost use Rattle.event_history.specs.Reloads.{NoReload};
+ghost use Rattle.plant_system.specs.Reloads.{numbers_of};
 ghost use Rattle.plant_system.specs.System.{System, after_event, system, outputs_of};
 ghost use Rattle.engine.specs.Lawful.{IsLawfulHistory, HasValuesInRange, IsOutputValue};
 
-/// The system holds its plant, and no event changes it: after each history it is the plant with which the system began.
+/// The system holds its plant, and only a reload changes it: after each history without one it is the plant with which the system began.
 pub fn system_keeps_its_plant()
-    ensures { (plant : PlainPlant) (history : List Event) → (system plant history).plant ≡ plant }
+    ensures { (plant : PlainPlant) (history : List Event) → NoReload history → (system plant history).plant ≡ plant }
 {}
 
-/// One event, a scan or an order, changes nothing of the plant that the system holds.
+/// One event that is no reload, so a scan or an order, changes nothing of the plant that the system holds.
 pub fn event_keeps_plant()
-    ensures { (sys : System) (e : Event) → (after_event sys e).plant ≡ sys.plant }
+    ensures { (sys : System) (e : Event) → NoReload (e ∷ []) → (after_event sys e).plant ≡ sys.plant }
 {}
 
-/// After each history the system has the consoles of the plant with which it began, in their order, and its epoch.
-pub fn system_keeps_consoles_and_epoch()
-    ensures consoles { (plant : PlainPlant) (history : List Event) → (system plant history).plant.consoles ≡ plant.consoles }
-    ensures epoch { (plant : PlainPlant) (history : List Event) → (system plant history).plant.epoch ≡ plant.epoch }
+/// After each lawful history, also one with reloads, the consoles' numbers, in their order, and the epoch are those of the plant with which the
+/// system began.
+pub fn lawful_history_keeps_consoles_and_epoch()
+    ensures consoles { (plant : PlainPlant) (history : List Event) → IsLawfulHistory plant history
+        → numbers_of (system plant history).plant.consoles ≡ numbers_of plant.consoles }
+    ensures epoch { (plant : PlainPlant) (history : List Event) → IsLawfulHistory plant history → (system plant history).plant.epoch ≡ plant.epoch }
 {}
 
 /// After each lawful history the value of each variable is in the range of its kind.

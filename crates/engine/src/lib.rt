@@ -1,4 +1,5 @@
-//! The engine of a plant: one event, a scan or an order, is one step of the system.
+//! The engine of a plant: one event, a scan or an order, is one step of the system. A reload is an event of the system too, but no engine makes one
+//! yet, and its type keeps that its history has none.
 //!
 //! Contracts see an engine as its plant, its history, and its room for more rows of the journal. All else that it keeps is what the system, a
 //! fold over that history, has, and the journal, the rows that its events added; of the events themselves it keeps the number alone. An event is
@@ -18,8 +19,8 @@ pub use engine::Engine;
 pub use event_history::Event;
 pub use journal_core::{Entry, Log, Row};
 pub use laws::{
-    event_keeps_plant, lawful_history_is_short, lawful_history_stays_in_range,
-    outputs_are_worth_their_numbers, system_keeps_consoles_and_epoch, system_keeps_its_plant,
+    event_keeps_plant, lawful_history_is_short, lawful_history_keeps_consoles_and_epoch,
+    lawful_history_stays_in_range, outputs_are_worth_their_numbers, system_keeps_its_plant,
 };
 pub use operator_orders::Order;
 pub use plant_config::{AlarmRow, ConfigFault, Files, Limit, Plant, Variable};

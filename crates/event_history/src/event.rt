@@ -1,7 +1,9 @@
 //! What happens to a plant.
 
 use operator_orders::Order;
+use plant_config::Plant;
 use plant_types::{Items, Value};
+use trace::Shown;
 
 /// One event of the history.
 #[derive(Drop)]
@@ -10,4 +12,6 @@ pub enum Event {
     Scan(Items<(u32, Value)>, u64),
     /// An order, from the console of a number.
     Order(u32, Order),
+    /// A reload: this plant takes the place of the present one. The event has no bytes of it.
+    Reload(Shown<Plant>),
 }

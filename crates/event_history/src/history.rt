@@ -23,9 +23,13 @@ impl Drop for History {
 
 impl Model for History {
     ghost use Rattle.std.specs.Prelude.{◌≡◌, List, length};
+    ghost use Rattle.std.specs.Coded.{coded_list};
+    ghost use Rattle.event_history.specs.contracts.event.Event as event_row;
     ghost use Rattle.event_history.specs.declared.event.Event.{Event};
 
     ghost Value = { List Event };
+
+    ghost coded = { coded_list event_row.the_row.coded };
 
     ghost view = { λ h. h.events };
 

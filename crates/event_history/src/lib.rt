@@ -1,6 +1,6 @@
 //! The events of a plant, and its history: the events so far, as contracts see them.
 //!
-//! An event is a scan with its image, or an operator's order. A history takes no memory: its events are for contracts alone.
+//! An event is a scan with its image, an operator's order, or a reload, which changes the plant. A history takes no memory: its events are for contracts alone.
 #![tactic(auto)]
 
 mod event;

@@ -9,6 +9,8 @@ use Rattle.alarm_machine.specs.Alarms.{PlainAlarm}
 use Rattle.alarm_bank.specs.Moves.{changes_from}
 use Rattle.event_history.specs.declared.event.Event.{Event}
 use Rattle.event_history.specs.declared.event.Event.TheVariants as event
+use Rattle.event_history.specs.Reloads.{NoReload}
+use Rattle.event_history.proofs.Reloads.{stayed}
 use Rattle.plant_config.specs.Plants.{PlainPlant, IsPlant}
 use Rattle.plant_config.specs.Names.{tag_of}
 use Rattle.plant_system.specs.System.{System, system, after_event, faults_of, changes_of}
@@ -79,6 +81,7 @@ event_follows codes sys (event.Order console order) apart many are = (
   changes_follow sys.plant apart 0 codes sys.alarms (after_event sys (event.Order console order)).alarms (omega (arith, many))
       (λ j inside. let same : 0 + j ≡ j = omega arith in ap (λ k. codes (tag_of sys.plant k)) same ∙ are j (omega (arith, many, inside))),
 )
+event_follows codes sys (event.Reload new) apart many are = (tt, tt)
 
 rows_follow : (codes : List ℕ → Code) (n moment : ℕ) (entries : List NamedEntry) → Follow codes entries → RowsFollow codes (rows_from n moment entries)
 rows_follow codes n moment [] p = tt
@@ -90,34 +93,35 @@ more_follow : (codes : List ℕ → Code) (xs ys : List NamedRow) → RowsFollow
 more_follow codes [] ys p q = q
 more_follow codes (x ∷ xs) ys p q = (p.0, more_follow (λ tag. code_told tag (codes tag) x.entry) xs ys p.1 q)
 
--- the rows of a history follow from NORM on
+-- the rows of a history without a reload follow from NORM on
 abbrev Follows : PlainPlant → List Event → Type 0
-Follows plant history = RowsFollow (λ tag. code.Norm) (journal_of plant history)
+Follows plant history = NoReload history → RowsFollow (λ tag. code.Norm) (journal_of plant history)
 
 -- the codes that a journal tells are those of a state's alarms, by the tags of a plant
 abbrev AreTold : List NamedRow → System → PlainPlant → Type 0
 AreTold rows sys plant = AreApart plant × ((n : ℕ) → n < length plant.alarms → last_code (tag_of plant n) rows ≡ code_at n sys.alarms)
 
 follows_next : (plant : PlainPlant) → AreApart plant → (history : List Event) (e : Event) → Follows plant history → Follows plant (history ++ e ∷ [])
-follows_next plant apart history e follows =
+follows_next plant apart history e follows stays =
+    let until = stayed history (e ∷ []) stays in
     let sys = system plant history in
     let rows = journal_of plant history in
     let codes : List ℕ → Code = λ tag. last_code tag rows in
-    let told : AreTold rows sys sys.plant = subst (AreTold rows sys) (sym (system_keeps_its_plant plant history)) (apart, λ n there. sym (codes_told plant apart history n there)) in
+    let told : AreTold rows sys sys.plant = subst (AreTold rows sys) (sym (system_keeps_its_plant plant history until)) (apart, λ n there. sym (codes_told plant apart history until n there)) in
     subst (RowsFollow (λ tag. code.Norm)) (sym (journal_next plant history e))
-    (more_follow (λ tag. code.Norm) rows (added_rows (length rows + 1) sys e) follows
+    (more_follow (λ tag. code.Norm) rows (added_rows (length rows + 1) sys e) (follows until)
     (rows_follow codes (length rows + 1) (after_event sys e).moment (added_entries sys e) (event_follows codes sys e told.0 (system_alarms plant history) told.1)))
 
 journal_follows : (plant : PlainPlant) → AreApart plant → (history : List Event) → Follows plant history
-journal_follows plant apart history = by_events (Follows plant) (follows_next plant apart) [] history (subst (RowsFollow (λ tag. code.Norm)) (sym (journal_none plant)) tt)
+journal_follows plant apart history = by_events (Follows plant) (follows_next plant apart) [] history (λ stays. subst (RowsFollow (λ tag. code.Norm)) (sym (journal_none plant)) tt)
 
 -- a row among others
 row_starts : (codes : List ℕ → Code) (before : List NamedRow) (row : NamedRow) (after : List NamedRow) → RowsFollow codes (before ++ row ∷ after) → Starts (λ tag. code_after tag (codes tag) before) row.entry
 row_starts codes [] row after p = p.0
 row_starts codes (b ∷ before) row after p = row_starts (λ tag. code_told tag (codes tag) b.entry) before row after p.1
 
-pub change_starts : (plant : PlainPlant) (history : List Event) (before : List NamedRow) (row : NamedRow) (after : List NamedRow) (tag : List ℕ) (change : PlainChange) → IsPlant plant
+pub change_starts : (plant : PlainPlant) (history : List Event) (before : List NamedRow) (row : NamedRow) (after : List NamedRow) (tag : List ℕ) (change : PlainChange) → IsPlant plant → NoReload history
     → journal_of plant history ≡ before ++ row ∷ after → row.entry ≡ ChangeOf tag change → change.from ≡ last_code tag before
-change_starts plant history before row after tag change plant_is is entry_is =
+change_starts plant history before row after tag change plant_is stays is entry_is =
     subst (Starts (λ t. last_code t before)) entry_is
-    (row_starts (λ t. code.Norm) before row after (subst (RowsFollow (λ t. code.Norm)) is (journal_follows plant (tags_apart plant plant_is) history)))
+    (row_starts (λ t. code.Norm) before row after (subst (RowsFollow (λ t. code.Norm)) is (journal_follows plant (tags_apart plant plant_is) history stays)))

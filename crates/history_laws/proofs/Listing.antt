@@ -8,6 +8,7 @@ use Rattle.alarm_machine.specs.Alarms.{PlainAlarm}
 use Rattle.alarm_bank.specs.declared.rows.Site.{Site}
 use Rattle.alarm_bank.specs.Banks.{counted}
 use Rattle.event_history.specs.declared.event.Event.{Event}
+use Rattle.event_history.specs.Reloads.{NoReload}
 use Rattle.plant_config.specs.declared.rows.AlarmRow.{AlarmRow}
 use Rattle.plant_config.specs.Plants.{PlainPlant, IsPlant}
 use Rattle.plant_config.specs.Names.{tag_of}
@@ -29,11 +30,11 @@ line_told plant alarm None = refl
 line_told plant alarm (Some a) = refl
 
 -- the lines, by any plant that is the system's
-lines_by : (plant : PlainPlant) (history : List Event) → state_lines (system plant history) ≡ lines_below (λ alarm. shown_alarm plant alarm (option_map (λ a. a.state) (slice_get (system plant history).alarms alarm))) (length plant.alarms)
+lines_by : (plant : PlainPlant) (history : List Event) → NoReload history → state_lines (system plant history) ≡ lines_below (λ alarm. shown_alarm plant alarm (option_map (λ a. a.state) (slice_get (system plant history).alarms alarm))) (length plant.alarms)
 unfolding state_lines_of
-lines_by plant history =
+lines_by plant history stays =
     ap (λ (p : PlainPlant). lines_below (λ alarm. shown_alarm p alarm (option_map (λ a. a.state) (slice_get (system plant history).alarms alarm))) (length p.alarms))
-    (system_keeps_its_plant plant history)
+    (system_keeps_its_plant plant history stays)
 
 -- lines for the same numbers
 lines_alike : (f g : ℕ → List (List ℕ)) (n : ℕ) → ((k : ℕ) → k < n → f k ≡ g k) → lines_below f n ≡ lines_below g n
@@ -43,13 +44,13 @@ lines_alike f g (suc n) same =
     let last = same n (omega arith) in
     λ i. before i ++ last i
 
-pub lines_told : (plant : PlainPlant) (history : List Event) → IsPlant plant → state_lines (system plant history) ≡ told_lines plant (journal_of plant history)
-lines_told plant history is =
+pub lines_told : (plant : PlainPlant) (history : List Event) → IsPlant plant → NoReload history → state_lines (system plant history) ≡ told_lines plant (journal_of plant history)
+lines_told plant history is stays =
     let alarms = (system plant history).alarms in
     let rows = journal_of plant history in
-    lines_by plant history
+    lines_by plant history stays
     ∙ lines_alike (λ alarm. shown_alarm plant alarm (option_map (λ a. a.state) (slice_get alarms alarm))) (λ alarm. code_line plant alarm (last_code (tag_of plant alarm) rows)) (length plant.alarms)
-    (λ alarm there. line_told plant alarm (slice_get alarms alarm) ∙ ap (code_line plant alarm) (codes_told plant (tags_apart plant is) history alarm there))
+    (λ alarm there. line_told plant alarm (slice_get alarms alarm) ∙ ap (code_line plant alarm) (codes_told plant (tags_apart plant is) history stays alarm there))
 
 -- alarms whose codes rows tell are counted as the rows tell
 counted_told : (rows : List NamedRow) (of_plant : List AlarmRow) (alarms : List PlainAlarm) → length alarms ≡ length of_plant
@@ -61,16 +62,16 @@ counted_told rows (row ∷ of_plant) (a ∷ alarms) same told =
     let others = counted_told rows of_plant alarms (omega (arith, same)) (λ k h. told (suc k) (omega (arith, h))) in
     λ i. record { area = row.area; priority = row.priority; code = first i } ∷ others i
 
-summary_told : (plant : PlainPlant) (history : List Event) → IsPlant plant → summary_of (system plant history) ≡ map (told_alarm (journal_of plant history)) plant.alarms
-summary_told plant history is =
+summary_told : (plant : PlainPlant) (history : List Event) → IsPlant plant → NoReload history → summary_of (system plant history) ≡ map (told_alarm (journal_of plant history)) plant.alarms
+summary_told plant history is stays =
     let sys = system plant history in
-    ap (λ (p : PlainPlant). counted (sites_of p.alarms) sys.alarms) (system_keeps_its_plant plant history)
-    ∙ counted_told (journal_of plant history) plant.alarms sys.alarms (as_many plant history) (codes_told plant (tags_apart plant is) history)
+    ap (λ (p : PlainPlant). counted (sites_of p.alarms) sys.alarms) (system_keeps_its_plant plant history stays)
+    ∙ counted_told (journal_of plant history) plant.alarms sys.alarms (as_many plant history stays) (codes_told plant (tags_apart plant is) history stays)
 
-pub list_told : (plant : PlainPlant) (history : List Event) → IsPlant plant → list_text (system plant history) ≡ told_list plant (journal_of plant history)
+pub list_told : (plant : PlainPlant) (history : List Event) → IsPlant plant → NoReload history → list_text (system plant history) ≡ told_list plant (journal_of plant history)
 unfolding list_text
-list_told plant history is =
-    let own = system_keeps_its_plant plant history in
-    let lines = lines_told plant history is in
-    let summary = summary_told plant history is in
+list_told plant history is stays =
+    let own = system_keeps_its_plant plant history stays in
+    let lines = lines_told plant history is stays in
+    let summary = summary_told plant history is stays in
     λ i. with_end (lines i ++ count_lines (own i) (summary i))

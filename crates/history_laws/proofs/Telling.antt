@@ -16,6 +16,8 @@ use Rattle.alarm_machine.specs.Alarms.{PlainAlarm}
 use Rattle.alarm_bank.specs.Moves.{changes_from}
 use Rattle.event_history.specs.declared.event.Event.{Event}
 use Rattle.event_history.specs.declared.event.Event.TheVariants as event
+use Rattle.event_history.specs.Reloads.{NoReload}
+use Rattle.event_history.proofs.Reloads.{stayed, stays_after}
 use Rattle.plant_config.specs.declared.rows.AlarmRow.{AlarmRow}
 use Rattle.plant_config.specs.Plants.{PlainPlant, IsPlant}
 use Rattle.plant_config.specs.Names.{tag_of}
@@ -122,11 +124,11 @@ faults_tell_none : (tag : List ℕ) (c : Code) (faults : List (Spot × Trap)) �
 faults_tell_none tag c [] = refl
 faults_tell_none tag c (f ∷ faults) = faults_tell_none tag c faults
 
--- the entries of an event lead from the code before it to the code after it, of an alarm of the plant that the system has
-event_tells : (alarm : ℕ) (sys : System) (e : Event) → length (after_event sys e).alarms ≡ length sys.alarms → length sys.alarms ≡ length sys.plant.alarms
+-- the entries of an event that is no reload lead from the code before it to the code after it, of an alarm of the plant that the system has
+event_tells : (alarm : ℕ) (sys : System) (e : Event) → NoReload (e ∷ []) → length (after_event sys e).alarms ≡ length sys.alarms → length sys.alarms ≡ length sys.plant.alarms
     → AreApart sys.plant → alarm < length sys.plant.alarms
     → fold (code_told (tag_of sys.plant alarm)) (code_at alarm sys.alarms) (added_entries sys e) ≡ code_at alarm (after_event sys e).alarms
-event_tells alarm sys (event.Scan image t) same many apart there =
+event_tells alarm sys (event.Scan image t) stays same many apart there =
     let e = event.Scan image t in
     let tag = tag_of sys.plant alarm in
     let c = code_at alarm sys.alarms in
@@ -135,9 +137,10 @@ event_tells alarm sys (event.Scan image t) same many apart there =
     fold-append (code_told tag) c (fault_entries (faults_of sys e)) changes
     ∙ ap (λ x. fold (code_told tag) x changes) (faults_tell_none tag c (faults_of sys e))
     ∙ changes_tell sys.plant apart alarm 0 alarm sys.alarms (after_event sys e).alarms own same there (omega (arith, many))
-event_tells alarm sys (event.Order console order) same many apart there =
+event_tells alarm sys (event.Order console order) stays same many apart there =
     let own : alarm ≡ 0 + alarm = omega arith in
     changes_tell sys.plant apart alarm 0 alarm sys.alarms (after_event sys (event.Order console order)).alarms own same there (omega (arith, many))
+event_tells alarm sys (event.Reload new) stays same many apart there = absurd stays
 
 -- rows tell what their entries tell
 rows_tell : (tag : List ℕ) (n moment : ℕ) (c : Code) (entries : List NamedEntry) → code_after tag c (rows_from n moment entries) ≡ fold (code_told tag) c entries
@@ -152,12 +155,12 @@ by_events P keeps done [] p = subst P (sym (append-nil done)) p
 by_events P keeps done (e ∷ rest) p = subst P (append_assoc done (e ∷ []) rest) (by_events P keeps (done ++ e ∷ []) rest (keeps done e p))
 
 -- an alarm for each row of the database
-pub as_many : (plant : PlainPlant) (history : List Event) → length (system plant history).alarms ≡ length plant.alarms
-as_many plant history = system_alarms plant history ∙ ap (λ (p : PlainPlant). length p.alarms) (system_keeps_its_plant plant history)
+pub as_many : (plant : PlainPlant) (history : List Event) → NoReload history → length (system plant history).alarms ≡ length plant.alarms
+as_many plant history stays = system_alarms plant history ∙ ap (λ (p : PlainPlant). length p.alarms) (system_keeps_its_plant plant history stays)
 
--- the journal tells the code of each alarm that is there
+-- the journal of a history without a reload tells the code of each alarm that is there
 abbrev pub Tells : PlainPlant → List Event → Type 0
-Tells plant history = (alarm : ℕ) → alarm < length plant.alarms → code_at alarm (system plant history).alarms ≡ last_code (tag_of plant alarm) (journal_of plant history)
+Tells plant history = NoReload history → (alarm : ℕ) → alarm < length plant.alarms → code_at alarm (system plant history).alarms ≡ last_code (tag_of plant alarm) (journal_of plant history)
 
 opening_code : (rows : List AlarmRow) (alarm : ℕ) → code_at alarm (map opening_alarm rows) ≡ code.Norm
 opening_code [] alarm = refl
@@ -165,25 +168,27 @@ opening_code (row ∷ rows) zero = refl
 opening_code (row ∷ rows) (suc alarm) = opening_code rows alarm
 
 tells_none : (plant : PlainPlant) → Tells plant []
-tells_none plant alarm there =
+tells_none plant stays alarm there =
     ap (λ (s : System). code_at alarm s.alarms) (system_none plant) ∙ opening_code plant.alarms alarm ∙ sym (ap (last_code (tag_of plant alarm)) (journal_none plant))
 
 tells_next : (plant : PlainPlant) → AreApart plant → (history : List Event) (e : Event) → Tells plant history → Tells plant (history ++ e ∷ [])
-tells_next plant apart history e told alarm there =
+tells_next plant apart history e told stays alarm there =
+    let until = stayed history (e ∷ []) stays in
+    let one = stays_after history (e ∷ []) stays in
     let sys = system plant history in
     let tag = tag_of plant alarm in
     let rows = journal_of plant history in
     let n = length rows + 1 in
     let next = system_next plant history e in
     let same : length (after_event sys e).alarms ≡ length sys.alarms =
-    ap (λ (s : System). length s.alarms) (sym next) ∙ as_many plant (history ++ e ∷ []) ∙ sym (as_many plant history) in
+    ap (λ (s : System). length s.alarms) (sym next) ∙ as_many plant (history ++ e ∷ []) stays ∙ sym (as_many plant history until) in
     let led : fold (code_told tag) (code_at alarm sys.alarms) (added_entries sys e) ≡ code_at alarm (after_event sys e).alarms =
     subst (λ (p : PlainPlant). AreApart p → alarm < length p.alarms → fold (code_told (tag_of p alarm)) (code_at alarm sys.alarms) (added_entries sys e) ≡ code_at alarm (after_event sys e).alarms)
-    (system_keeps_its_plant plant history) (event_tells alarm sys e same (system_alarms plant history)) apart there in
+    (system_keeps_its_plant plant history until) (event_tells alarm sys e one same (system_alarms plant history)) apart there in
     sym
     (ap (last_code tag) (journal_next plant history e)
     ∙ fold-append (λ (c : Code) (row : NamedRow). code_told tag c row.entry) code.Norm rows (added_rows n sys e)
-    ∙ ap (λ c. code_after tag c (added_rows n sys e)) (sym (told alarm there))
+    ∙ ap (λ c. code_after tag c (added_rows n sys e)) (sym (told until alarm there))
     ∙ rows_tell tag n (after_event sys e).moment (code_at alarm sys.alarms) (added_entries sys e)
     ∙ led
     ∙ ap (λ (s : System). code_at alarm s.alarms) (sym next))
@@ -192,9 +197,9 @@ pub codes_told : (plant : PlainPlant) → AreApart plant → (history : List Eve
 codes_told plant apart history = by_events (Tells plant) (tells_next plant apart) [] history (tells_none plant)
 
 -- the code of an alarm that is there
-pub code_is : (plant : PlainPlant) (history : List Event) (alarm : ℕ) (a : PlainAlarm) → IsPlant plant → slice_get (system plant history).alarms alarm ≡ Some a
+pub code_is : (plant : PlainPlant) (history : List Event) (alarm : ℕ) (a : PlainAlarm) → IsPlant plant → NoReload history → slice_get (system plant history).alarms alarm ≡ Some a
     → code_of a.state ≡ last_code (tag_of plant alarm) (journal_of plant history)
-code_is plant history alarm a plant_is is =
-    let many = as_many plant history in
+code_is plant history alarm a plant_is stays is =
+    let many = as_many plant history stays in
     let within = slice_get_within (system plant history).alarms alarm a is in
-    sym (ap (λ (o : Option PlainAlarm). option_map_or (λ (b : PlainAlarm). code_of b.state) o code.Norm) is) ∙ codes_told plant (tags_apart plant plant_is) history alarm (omega (arith, many, within))
+    sym (ap (λ (o : Option PlainAlarm). option_map_or (λ (b : PlainAlarm). code_of b.state) o code.Norm) is) ∙ codes_told plant (tags_apart plant plant_is) history stays alarm (omega (arith, many, within))

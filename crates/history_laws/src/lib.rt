@@ -11,6 +11,7 @@ ghost use Rattle.std.specs.Prelude.{◌≡◌, ℕ, true, false, List, [], ◌�
 ghost use Rattle.alarm_machine.specs.Codes.{PlainChange, code_of};
 ghost use Rattle.alarm_machine.specs.Alarms.{PlainAlarm};
 ghost use Rattle.event_history.specs.declared.event.Event.{Event};
+ghost use Rattle.event_history.specs.Reloads.{NoReload};
 ghost use Rattle.plant_config.specs.Plants.{PlainPlant, IsPlant};
 ghost use Rattle.plant_config.specs.Names.{tag_of};
 ghost use Rattle.plant_system.specs.System.{system};
@@ -23,20 +24,20 @@ ghost use Rattle.serving.specs.Session.{out_text};
 ghost use Rattle.history_laws.specs.Told.{last_code, told_lines, told_list};
 ghost use Rattle.history_laws.specs.Records.{ends_at_line, has_no_body, IsPlayed, GoesOn, LeaveAlike, IsPlayedAlike, AddsNothing, AddsNothingAfter, only_asks, request_of, CanBeLeftOut};
 
-/// The code of each alarm is the one to which the last change of its tag in the journal leads, and NORM where the journal has no change of it.
-/// And each change goes from the code that the rows before it tell, so none is missing between two.
+/// In a history without a reload, as that of every engine is, the code of each alarm is the one to which the last change of its tag in the journal
+/// leads, and NORM where the journal has no change of it. And each change goes from the code that the rows before it tell, so none is missing between two.
 pub fn journal_tells_codes()
-    ensures last { (plant : PlainPlant) (history : List Event) (alarm : ℕ) (a : PlainAlarm) → IsPlant plant → slice_get (system plant history).alarms alarm ≡ Some a
+    ensures last { (plant : PlainPlant) (history : List Event) (alarm : ℕ) (a : PlainAlarm) → IsPlant plant → NoReload history → slice_get (system plant history).alarms alarm ≡ Some a
         → code_of a.state ≡ last_code (tag_of plant alarm) (journal_of plant history) }
-    ensures each { (plant : PlainPlant) (history : List Event) (before : List NamedRow) (row : NamedRow) (after : List NamedRow) (tag : List ℕ) (change : PlainChange) → IsPlant plant
+    ensures each { (plant : PlainPlant) (history : List Event) (before : List NamedRow) (row : NamedRow) (after : List NamedRow) (tag : List ℕ) (change : PlainChange) → IsPlant plant → NoReload history
         → journal_of plant history ≡ before ++ row ∷ after → row.entry ≡ ChangeOf tag change → change.from ≡ last_code tag before }
 {}
 
-/// The rows of the journal make the list of alarms: its STATE lines are those of the alarms that aren't NORM by the journal, each with the code
+/// In a history without a reload the rows of the journal make the list of alarms: its STATE lines are those of the alarms that aren't NORM by the journal, each with the code
 /// that the journal tells, and the whole answer to `list` is made of the plant and of these rows.
 pub fn journal_makes_list()
-    ensures lines { (plant : PlainPlant) (history : List Event) → IsPlant plant → state_lines (system plant history) ≡ told_lines plant (journal_of plant history) }
-    ensures text { (plant : PlainPlant) (history : List Event) → IsPlant plant → list_text (system plant history) ≡ told_list plant (journal_of plant history) }
+    ensures lines { (plant : PlainPlant) (history : List Event) → IsPlant plant → NoReload history → state_lines (system plant history) ≡ told_lines plant (journal_of plant history) }
+    ensures text { (plant : PlainPlant) (history : List Event) → IsPlant plant → NoReload history → list_text (system plant history) ≡ told_list plant (journal_of plant history) }
 {}
 
 /// What an input leaves is one history, whatever it is answered.

@@ -12,6 +12,7 @@ use Rattle.plant_system.specs.System.{System, opening_system, after_event, reply
 abbrev pub order_of_event : Event → Option (ℕ × Order)
 order_of_event (event.Scan image t) = None
 order_of_event (event.Order console order) = Some (console, order)
+order_of_event (event.Reload new) = None
 
 -- what an order is answered in a state
 abbrev pub answer_to : System → ℕ → Order → Answer Order Reply

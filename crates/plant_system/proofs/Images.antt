@@ -169,6 +169,8 @@ refused_image refusal.ImageName full t r none due = ap (by_image full t) due
 refused_image refusal.ImageKind full t r none due = ap (by_image full t) due
 refused_image (refusal.Crew fault) full t r none due = absurd (shows fault r due none)
 refused_image refusal.HistoryFull full t r none due = ap (by_image full t) due
+refused_image refusal.ReloadConsoles full t r none due = ap (by_image full t) due
+refused_image refusal.ReloadEpoch full t r none due = ap (by_image full t) due
 
 refused_in_time : (late early full : Bool) (r : Result (List (ℕ × Value)) EngineFault) (t : ℕ) (e : EngineFault) → late ≡ false → early ≡ false → ((n : ℕ) → faults_with n e ≡ n) → IsDue e r
     → IsDue e (if late then Err refusal.MomentRange else if early then Err refusal.MomentBack else by_image full t r)

@@ -23,10 +23,13 @@ use Rattle.plant_logic.specs.Source.{Source}
 use Rattle.plant_logic.specs.Names.{find_global}
 use Rattle.plant_logic.specs.Worlds.{World, assign, opening, path_of, run_program}
 use Rattle.plant_logic.specs.Ranges.{AllInRange}
+use Rattle.plant_logic.specs.Carried.{carried}
+use Rattle.plant_logic.proofs.Carrying.{carried_in_range}
 use Rattle.plant_cells.specs.Cells.{PlainCells}
 use Rattle.block_frames.specs.Stands.{StandFor}
 use Rattle.plant_walk.specs.Sound.{IsSound}
 use Rattle.plant_walk.specs.Runs.{HasCells}
+use Rattle.plant_walk.proofs.Small.{sound_named}
 use Rattle.plant_walk.proofs.Standing.{are_there}
 use Rattle.plant_walk.proofs.Ranges.{run_program_keeps, assigned_global_keeps, opening_in_range}
 use Rattle.plant_config.specs.Plants.{PlainPlant}
@@ -152,6 +155,10 @@ scan_stands source old new image t flags faulted faults sound fits held ran =
 pub scan_in : (plant : PlainPlant) (image : List (ℕ × Value)) (t : ℕ) (flags : List Bool) (w : World) → IsSound plant.source → All (FitsGlobal plant.source.globals) image → AllInRange plant.source w → AllInRange plant.source (world_after plant image t flags w).world
 unfolding world_after
 scan_in plant image t flags w sound fits holds = programs_in plant.source t 0 flags (with_inputs (globals_of plant) image w) sound (inputs_in plant.source image w sound fits holds)
+
+-- what goes over to the source of a new plant is in range
+pub reload_in : (old new : PlainPlant) (w : World) → IsSound new.source → AllInRange old.source w → AllInRange new.source (carried old.source new.source w)
+reload_in old new w sound holds = carried_in_range old.source new.source w (sound_named new.source sound) holds (opening_in_range new.source sound)
 
 -- the cells before the first event stand for a world in range
 pub opening_stands : (source : Source) (cells : PlainCells) → IsSound source → StandFor source cells (opening source) → StandInRange source cells

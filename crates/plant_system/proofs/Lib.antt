@@ -2,6 +2,8 @@ mod AlarmExamples
 pub mod CellWorlds
 pub mod Images
 pub mod OrderLaws
+pub mod Reloading
+mod ReloadExamples
 pub mod Outs
 pub mod Systems
 pub mod Twins

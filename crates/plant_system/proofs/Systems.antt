@@ -13,6 +13,7 @@ use Rattle.alarm_machine.specs.Alarms.{PlainAlarm}
 use Rattle.alarm_bank.specs.declared.rows.Site.{Site}
 use Rattle.alarm_bank.specs.Banks.{IsSite}
 use Rattle.alarm_bank.specs.Moves.{put_all, changes_from}
+use Rattle.alarm_bank.specs.Reloads.{alarm_of}
 use Rattle.alarm_bank.proofs.BankLaws.{scan_each_length}
 use Rattle.st_tree.specs.Meaning.{Ran, Done, Trapped}
 use Rattle.plant_logic.specs.declared.logic.Variable.{Variable}
@@ -27,6 +28,7 @@ use Rattle.plant_config.specs.Plants.{PlainPlant, IsPlant, IsAlarmRow}
 use Rattle.plant_system.specs.declared.event.TheConstants.{MOST_EVENTS}
 use Rattle.event_history.specs.declared.event.Event.{Event}
 use Rattle.event_history.specs.declared.event.Event.TheVariants as event
+use Rattle.event_history.specs.Reloads.{NoReload}
 use Rattle.operator_orders.specs.declared.order.Order.{Order}
 use Rattle.plant_system.specs.declared.event.EngineFault.{EngineFault}
 use Rattle.plant_system.specs.declared.event.EngineFault.TheVariants as refusal
@@ -36,7 +38,8 @@ use Rattle.plant_config.specs.Names.{globals_of, programs_of, body_paths}
 use Rattle.scan_logic.specs.Scans.{Scanned, after_run, programs_from}
 use Rattle.plant_system.specs.Programs.{opening_faulted, with_inputs, global_in, world_after}
 use Rattle.plant_system.specs.Orders.{order_outcome, alarms_by, faulted_by}
-use Rattle.plant_system.specs.System.{System, system, after_event, taken_scan, scan_event, order_event, opening_system, opening_alarm, scanned_by, after_scan_event, after_order_event, ordered, conditions, delays_of, no_scans, suppressions, scans_after, alarms_after, sites_of, outputs_from, out_at, outs_from}
+use Rattle.plant_system.specs.Reloads.{kept_number, kept_numbers, new_of, news_of}
+use Rattle.plant_system.specs.System.{System, system, after_event, taken_scan, scan_event, order_event, taken_reload, reload_event, opening_system, opening_alarm, scanned_by, after_scan_event, after_order_event, ordered, conditions, delays_of, kept_scans, no_scans, suppressions, scans_after, alarms_after, sites_of, outputs_from, out_at, outs_from}
 use Rattle.alarm_watch.specs.declared.watched.Watch.{Watch}
 use Rattle.alarm_watch.specs.Watched.{Follow, alarms_watched, watched_conditions}
 use Rattle.std_blocks.specs.Calls.{Call}
@@ -53,18 +56,21 @@ use Rattle.plant_system.proofs.CellWorlds.{inputs_stand, values_stand, alarms_sa
 use Rattle.plant_system.proofs.Follows.{follow_order}
 use Rattle.plant_system.proofs.Images.{has_number}
 
-pub event_keeps_plant : (s : System) (e : Event) → (after_event s e).plant ≡ s.plant
-event_keeps_plant s (event.Scan image t) = refl
-event_keeps_plant s (event.Order console order) = refl
+pub event_keeps_plant : (s : System) (e : Event) → NoReload (e ∷ []) → (after_event s e).plant ≡ s.plant
+event_keeps_plant s (event.Scan image t) stays = refl
+event_keeps_plant s (event.Order console order) stays = refl
+event_keeps_plant s (event.Reload new) stays = absurd stays
 
-plant_from : (s : System) (history : List Event) → (fold after_event s history).plant ≡ s.plant
-plant_from s [] = refl
-plant_from s (e ∷ history) = plant_from (after_event s e) history ∙ event_keeps_plant s e
+plant_from : (s : System) (history : List Event) → NoReload history → (fold after_event s history).plant ≡ s.plant
+plant_from s [] stays = refl
+plant_from s (event.Scan image t ∷ history) stays = plant_from (after_event s (event.Scan image t)) history stays
+plant_from s (event.Order console order ∷ history) stays = plant_from (after_event s (event.Order console order)) history stays
+plant_from s (event.Reload new ∷ history) stays = absurd stays
 
--- a system keeps the plant that it began with
-pub system_keeps_its_plant : (plant : PlainPlant) (history : List Event) → (system plant history).plant ≡ plant
+-- a system keeps the plant that it began with, where no event is a reload
+pub system_keeps_its_plant : (plant : PlainPlant) (history : List Event) → NoReload history → (system plant history).plant ≡ plant
 unfolding system
-system_keeps_its_plant plant history = plant_from (opening_system plant) history
+system_keeps_its_plant plant history stays = plant_from (opening_system plant) history stays
 
 pub system_next : (plant : PlainPlant) (history : List Event) (e : Event) → system plant (history ++ e ∷ []) ≡ after_event (system plant history) e
 unfolding system
@@ -130,6 +136,7 @@ alarms_there plant history = system_keeps HasAlarms keeps plant history (length-
         let scans = length-scans_after now t s.plant.alarms s.scans h.1 in
         (length-alarms_after now t s.plant.alarms (scans_after now t s.plant.alarms s.scans) s.alarms scans h.0, scans)
     keeps s (event.Order console order) h = (length-alarms_by (ordered s console order) s.alarms ∙ h.0, h.1)
+    keeps s (event.Reload new) h = (length-map (news_of s.plant new) (alarm_of s.alarms) ∙ length-map new.alarms (new_of s.plant), length-map (kept_numbers s.plant new) (kept_scans s.scans) ∙ length-map new.alarms (kept_number s.plant))
 
 pub system_alarms : (plant : PlainPlant) (history : List Event) → length ((system plant history).alarms) ≡ length ((system plant history).plant.alarms)
 system_alarms plant history = (alarms_there plant history).0
@@ -144,6 +151,7 @@ system_faulted plant history =
     (λ s. elim [
       | event.Scan image t ↦ λ h. length-world_after s.plant image t s.faulted s.world ∙ h
       | event.Order console order ↦ λ h. length-faulted_by (ordered s console order) s.faulted ∙ h
+      | event.Reload new ↦ λ h. length-map (programs_of new) (λ (program : List ℕ). false)
     ])
     plant history (length-map (programs_of plant) (λ (program : List ℕ). false))
 
@@ -151,6 +159,7 @@ events_from : (s : System) (history : List Event) → (fold after_event s histor
 events_from s [] = omega arith
 events_from s (event.Scan image t ∷ history) = let h = events_from (after_event s (event.Scan image t)) history in omega (arith, h)
 events_from s (event.Order console order ∷ history) = let h = events_from (after_event s (event.Order console order)) history in omega (arith, h)
+events_from s (event.Reload new ∷ history) = let h = events_from (after_event s (event.Reload new)) history in omega (arith, h)
 
 -- as many events as the history has
 pub system_events : (plant : PlainPlant) (history : List Event) → (system plant history).events ≡ length history
@@ -258,11 +267,18 @@ scan_reports sys old new image t r is seen within each held made =
     }
 
 -- the event of a scan, by what an engine keeps and how many events there were
-pub scan_event_is : (plant : PlainPlant) (history : List Event) (k : PlainState) (n : ℕ) (pairs : List PlainPair) (t : ℕ) → IsState (system plant history) k → n ≡ length history → taken_scan (globals_of plant) k.moment n pairs t ≡ scan_event (system plant history) pairs t
-scan_event_is plant history k n pairs t held is =
-    let own = system_keeps_its_plant plant history in
+pub scan_event_is : (plant : PlainPlant) (history : List Event) (k : PlainState) (n : ℕ) (pairs : List PlainPair) (t : ℕ) → NoReload history → IsState (system plant history) k → n ≡ length history → taken_scan (globals_of plant) k.moment n pairs t ≡ scan_event (system plant history) pairs t
+scan_event_is plant history k n pairs t stays held is =
+    let own = system_keeps_its_plant plant history stays in
     let events = is ∙ sym (system_events plant history) in
     λ i. taken_scan (globals_of (sym own i)) (held.moment_is i) (events i) pairs t
+
+-- the event of a reload, by what an engine keeps
+pub reload_event_is : (plant : PlainPlant) (history : List Event) (n : ℕ) (new : PlainPlant) → NoReload history → n ≡ length history → taken_reload plant n new ≡ reload_event (system plant history) new
+reload_event_is plant history n new stays is =
+    let own = system_keeps_its_plant plant history stays in
+    let events = is ∙ sym (system_events plant history) in
+    λ i. taken_reload (sym own i) (events i) new
 
 -- what an effect makes of one state that is kept for a system, it makes of each
 pub effect_anywhere : (sys next : System) (old k : PlainState) (effect : PlainScanEffect) → IsState sys old → IsState sys k → IsState next (after_effect effect old) → IsState next (after_effect effect k)

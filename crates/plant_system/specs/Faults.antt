@@ -4,7 +4,7 @@ use Rattle.crew.specs.declared.fault.CrewFault.{CrewFault}
 use Rattle.crew.specs.declared.fault.CrewFault.TheVariants as crew_fault
 use Rattle.crew.specs.Faults.{faults_after}
 use Rattle.plant_system.specs.declared.event.EngineFault.{EngineFault}
-use Rattle.plant_system.specs.declared.event.EngineFault.TheVariants.{Memory, MomentBack, MomentRange, ImageName, ImageKind, Crew, HistoryFull}
+use Rattle.plant_system.specs.declared.event.EngineFault.TheVariants.{Memory, MomentBack, MomentRange, ImageName, ImageKind, Crew, HistoryFull, ReloadConsoles, ReloadEpoch}
 
 -- the number by which a refusal is printed; refused memory, which is never printed, has none
 abbrev pub fault_text : EngineFault → List ℕ
@@ -15,6 +15,8 @@ fault_text ImageName = codes "E3"
 fault_text ImageKind = codes "E4"
 fault_text (Crew _) = codes "E5"
 fault_text HistoryFull = codes "E6"
+fault_text ReloadConsoles = codes "E7"
+fault_text ReloadEpoch = codes "E8"
 
 -- a crew's fault refuses the event; memory that was refused to it is refused memory
 abbrev pub refusal_by : CrewFault → EngineFault
@@ -32,6 +34,8 @@ faults_with n ImageName = n
 faults_with n ImageKind = n
 faults_with n (Crew fault) = faults_after {T = Unit {0}} n (Err fault)
 faults_with n HistoryFull = n
+faults_with n ReloadConsoles = n
+faults_with n ReloadEpoch = n
 
 -- the count after an event was answered
 abbrev pub faults_by : {T : Type 0} → ℕ → Result T EngineFault → ℕ

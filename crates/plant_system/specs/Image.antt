@@ -57,3 +57,5 @@ IsDue refusal.ImageKind due = due ≡ Err refusal.ImageKind
 IsDue (refusal.Crew crew_fault.Memory) due = ⊥
 IsDue {A} (refusal.Crew _) due = (a : A) × (due ≡ Ok a)
 IsDue refusal.HistoryFull due = due ≡ Err refusal.HistoryFull
+IsDue refusal.ReloadConsoles due = due ≡ Err refusal.ReloadConsoles
+IsDue refusal.ReloadEpoch due = due ≡ Err refusal.ReloadEpoch

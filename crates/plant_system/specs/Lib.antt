@@ -1,6 +1,7 @@
 pub mod Programs
 pub mod Image
 pub mod Orders
+pub mod Reloads
 pub mod System
 pub mod Watches
 pub mod Reports

@@ -1,5 +1,5 @@
 -- The system: it holds its plant, and each event is a step from system to system.
-use Rattle.std.specs.Prelude.{ℕ, ◌+◌, ℤ, nat_lt, nat_le, Bool, true, false, if◌then◌else◌, List, [], ◌∷◌, map, fold, Option, Some, None, Result, Ok, Err}
+use Rattle.std.specs.Prelude.{ℕ, ◌+◌, ◌==◌, ℤ, nat_lt, nat_le, Bool, true, false, not, if◌then◌else◌, List, [], ◌∷◌, map, fold, Option, Some, None, Result, Ok, Err, slice_get, slice_index_or}
 use Rattle.std.specs.Ordering.{int_eq}
 use Rattle.plant_types.specs.Pairs.{PlainPair}
 use Rattle.plant_types.specs.Values.{is_true, value_of_kind}
@@ -10,6 +10,7 @@ use Rattle.plant_types.specs.declared.values.Region.TheVariants as region
 use Rattle.st_tree.specs.Meaning.{Spot}
 use Rattle.plant_logic.specs.declared.logic.Variable.{Variable}
 use Rattle.plant_logic.specs.Worlds.{World, opening}
+use Rattle.plant_logic.specs.Carried.{carried}
 use Rattle.alarm_machine.specs.declared.states.OrderFault.{OrderFault}
 use Rattle.alarm_machine.specs.Codes.{PlainChange}
 use Rattle.alarm_machine.specs.Alarms.{PlainAlarm, new_alarm}
@@ -18,6 +19,7 @@ use Rattle.alarm_delays.specs.Delays.{counts, scans_each}
 use Rattle.alarm_bank.specs.declared.rows.Site.{Site}
 use Rattle.alarm_bank.specs.declared.rows.Counted.{Counted}
 use Rattle.alarm_bank.specs.Banks.{scan_each, counted}
+use Rattle.alarm_bank.specs.Reloads.{alarm_of}
 use Rattle.alarm_bank.specs.Moves.{changes_from}
 use Rattle.alarm_watch.specs.Watched.{suppression}
 use Rattle.plant_config.specs.declared.rows.AlarmRow.{AlarmRow}
@@ -36,6 +38,7 @@ use Rattle.scan_logic.specs.Scans.{Scanned}
 use Rattle.plant_system.specs.Programs.{opening_faulted, global_in, world_after}
 use Rattle.plant_system.specs.Image.{image_of}
 use Rattle.plant_system.specs.Orders.{order_outcome, alarms_by, faulted_by, reply_by}
+use Rattle.plant_system.specs.Reloads.{kept_numbers, news_of, numbers_of, same_numbers}
 
 -- the whole state: the plant, the variables' values and the calls of standard blocks, for each program whether it is faulted, the alarms, the scans as each alarm saw them, the last scan's moment, and how many events there were
 pub record System : Type 0 where
@@ -109,10 +112,28 @@ after_order_event sys console order =
     let done = ordered sys console order in
     record sys { faulted = faulted_by done sys.faulted; alarms = alarms_by done sys.alarms; events = sys.events + 1 }
 
+-- the scans that an alarm of a new plant has seen: those of the old alarm as which it goes on, if there is one; else none
+abbrev pub kept_scans : List (List Call) → Option ℕ → List Call
+kept_scans scans None = []
+kept_scans scans (Some k) = slice_index_or scans k []
+
+-- a reload: the new plant, with what goes over of the variables and the calls of standard blocks, no program faulted, each alarm as it goes on or as before the first event, and the last moment as it is
+abbrev pub after_reload_event : System → PlainPlant → System
+after_reload_event sys new = record {
+  plant = new;
+  world = carried sys.plant.source new.source sys.world;
+  faulted = opening_faulted (programs_of new);
+  alarms = map (alarm_of sys.alarms) (news_of sys.plant new);
+  scans = map (kept_scans sys.scans) (kept_numbers sys.plant new);
+  moment = sys.moment;
+  events = sys.events + 1;
+}
+
 -- one event is one step, by the plant that the system holds
 abbrev pub after_event : System → Event → System
 after_event sys (event.Scan image t) = after_scan_event sys image t
 after_event sys (event.Order console order) = after_order_event sys console order
+after_event sys (event.Reload new) = after_reload_event sys new
 
 -- what the events make of the system that begins with a plant
 unfoldable pub system : PlainPlant → List Event → System
@@ -136,6 +157,18 @@ scan_event sys pairs t = taken_scan (globals_of sys.plant) sys.moment sys.events
 unfoldable pub order_event : System → ℕ → Order → Result Event EngineFault
 order_event sys console order = if nat_le MOST_EVENTS sys.events then Err refusal.HistoryFull else Ok (event.Order console order)
 
+-- the event that a reload is after so many events, or its refusal: E7 where the consoles' numbers, in their order, aren't those of the present plant, E8 where the epoch is another, E6 where the history is full
+unfoldable pub taken_reload : PlainPlant → ℕ → PlainPlant → Result Event EngineFault
+taken_reload plant events new =
+    if not (same_numbers (numbers_of plant.consoles) (numbers_of new.consoles)) then Err refusal.ReloadConsoles
+    else if not (plant.epoch == new.epoch) then Err refusal.ReloadEpoch
+    else if nat_le MOST_EVENTS events then Err refusal.HistoryFull
+    else Ok (event.Reload new)
+
+-- the event that a reload is in a state, or its refusal
+abbrev pub reload_event : System → PlainPlant → Result Event EngineFault
+reload_event sys new = taken_reload sys.plant sys.events new
+
 -- the reply to an order
 abbrev pub reply_to : System → ℕ → Order → Reply
 reply_to sys console order = reply_by (ordered sys console order) sys.alarms
@@ -144,9 +177,11 @@ reply_to sys console order = reply_by (ordered sys console order) sys.alarms
 abbrev pub faults_of : System → Event → List (Spot × Trap)
 faults_of sys (event.Scan image t) = (scanned_by sys image t).faults
 faults_of sys (event.Order console order) = []
+faults_of sys (event.Reload new) = []
 
--- the changes of an event
+-- the changes of alarms that an event reports; a reload reports none, also of alarms that begin anew
 abbrev pub changes_of : System → Event → List (ℕ × PlainChange)
+changes_of sys (event.Reload new) = []
 changes_of sys e = changes_from 0 sys.alarms (after_event sys e).alarms
 
 -- the area and the priority of each alarm
@@ -184,6 +219,7 @@ outs_from n (global ∷ globals) before now = elim (out_at n global before now) 
   | Some v ↦ (n, v) ∷ outs_from (n + 1) globals before now
 ]
 
--- the outputs that an event changed
+-- the outputs that an event changed, as it reports them; a reload reports none
 abbrev pub outs_of : System → Event → List (ℕ × Value)
+outs_of sys (event.Reload new) = []
 outs_of sys e = outs_from 0 (globals_of sys.plant) (global_in (globals_of sys.plant) sys.world) (global_in (globals_of sys.plant) (after_event sys e).world)

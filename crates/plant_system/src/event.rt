@@ -63,6 +63,12 @@ pub enum EngineFault {
     /// E6: the history has 1,000,000 events.
     #[error("E6: the history has {limit} events", limit = MOST_EVENTS)]
     HistoryFull,
+    /// E7: a plant that is to be reloaded has other consoles, by their numbers in their order.
+    #[error("E7: the consoles' numbers, in their order, are others")]
+    ReloadConsoles,
+    /// E8: a plant that is to be reloaded has another epoch.
+    #[error("E8: the epoch is another")]
+    ReloadEpoch,
 }
 
 impl From<AllocError> for EngineFault {
@@ -94,7 +100,7 @@ impl EngineFault {
     ghost use Rattle.std.specs.Prelude.{◌≡◌};
     ghost use Rattle.plant_system.specs.Faults.{fault_text};
 
-    /// The number by which it is printed, `E1` to `E6`; `""` for `Memory`, which is never printed.
+    /// The number by which it is printed, `E1` to `E8`; `""` for `Memory`, which is never printed.
     pub fn text(self) -> &'static str
         ensures { result.now ≡ fault_text self }
     {
@@ -106,6 +112,8 @@ impl EngineFault {
             EngineFault::ImageKind => "E4",
             EngineFault::Crew(_) => "E5",
             EngineFault::HistoryFull => "E6",
+            EngineFault::ReloadConsoles => "E7",
+            EngineFault::ReloadEpoch => "E8",
         }
     }
 }

@@ -45,10 +45,14 @@ pub struct Prepared {
 }
 
 impl Model for Prepared {
+    ghost use Rattle.std.specs.Coded.{codes};
+    ghost use Rattle.event_history.specs.contracts.event.Event as event_row;
     ghost use Rattle.event_history.specs.declared.event.Event.TheVariants.{Scan};
     ghost use Rattle.plant_system.specs.States.{PlainPrepared};
 
     ghost Value = { PlainPrepared };
+
+    ghost coded = { Prim.hlevel (codes, event_row.the_row.coded) };
 
     ghost view = { λ p. record { event = Scan p.scan.value.image.items p.scan.value.moment; effect = p.scan.value.effect; report = p.scan.value.report } };
 }

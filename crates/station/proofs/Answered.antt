@@ -42,6 +42,7 @@ shown_from n sys (event.Order console order ∷ events) =
     let rest = answers_shown n (entries_from next events) in
     let a = answer_to sys console order in
     one_shown (console == n) a (answers_from n next events) rest (shown_from n next events) ∙ ap (λ (b : Bool). if b then board_answer a ∷ rest else rest) (turned console n)
+shown_from n sys (event.Reload new ∷ events) = shown_from n (after_event sys (event.Reload new)) events
 
 -- the answers of a history are those of its entries
 all_shown : (n : ℕ) (plant : PlainPlant) (history : List Event) → map board_answer (answers_of n plant history) ≡ answers_shown n (entries_of plant history)

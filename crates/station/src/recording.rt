@@ -20,5 +20,6 @@ pub(crate) fn open_consoles<L: Ledger>(
     ensures opened { IfOk result (λ r. AreConsolesOf recorder.old.engine.plant (published recorder.old.board) (log_kept recorder.old.board) r.0.items r.1.items) }
 {
     let Recorder { engine, board, .. } = recorder;
+    engine.keeps_its_plant();
     open_lanes(alloc, engine.plant().consoles(), board)
 }

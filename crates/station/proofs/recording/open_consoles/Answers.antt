@@ -1,6 +1,5 @@
 use Rattle.std.proofs.Common.{◌≡◌, ap, ◌∙◌, subst}
 use Rattle.plant_config.specs.Plants.{PlainPlant, IsPlant}
-use Rattle.plant_system.proofs.Systems.{system_keeps_its_plant}
 use Rattle.boards.specs.Readers.{published, log_kept}
 use Rattle.station.proofs.Openings.{consoles_opened}
 use Rattle.station.proofs.recording.open_consoles.Goals as goal
@@ -9,7 +8,7 @@ pub returns-clause-opened : goal.returns-clause-opened
 returns-clause-opened g c =
     let s = c.args.recorder.now in
     let e = s.engine in
-    let own : c.plant.result.now ≡ e.plant = c.plant.ensures ∙ system_keeps_its_plant e.plant e.history in
+    let own : c.plant.result.now ≡ e.plant = c.plant.ensures ∙ c.keeps_its_plant.ensures.plant in
     let is : IsPlant e.plant = subst (λ (p : PlainPlant). IsPlant p) own c.consoles.ensures.plant in
     consoles_opened c.open_lanes.result (λ r. r.0.items) (λ r. r.1.items) e.plant c.consoles.result.now (published s.board) (log_kept s.board) (c.consoles.ensures.consoles ∙ ap (λ (p : PlainPlant). p.consoles) own) is
     c.open_lanes.ensures.opened c.open_lanes.ensures.looks c.open_lanes.ensures.marked

@@ -1,6 +1,6 @@
 use Rattle.std.proofs.Common.{arith}
 use Rattle.std.proofs.lemmas.Grind.{common_steps}
-use Rattle.engine.proofs.Commits.{scan_state, scan_committed, scan_later, scan_until, scan_in_order, scan_room}
+use Rattle.engine.proofs.Commits.{scan_state, scan_stays, scan_committed, scan_later, scan_until, scan_in_order, scan_room}
 use Rattle.engine.proofs.Lawful.{lawful_next, lawful_short}
 use Rattle.engine.proofs.engine.Engine.put_scan.Goals as goal
 
@@ -13,7 +13,8 @@ invariant_of-self c =
         state_is = scan_state _ _ k fits c.self.invariant.0.state_is;
         plant_is = c.self.invariant.0.plant_is;
         lawful = lawful_next _ _ _ c.self.invariant.0.lawful fits.taken;
-        journal = scan_committed _ _ c.self.inside.log fits c.self.invariant.0.journal;
+        stays = scan_stays _ _ fits c.self.invariant.0.stays;
+        journal = scan_committed _ _ c.self.inside.log c.self.invariant.0.stays fits c.self.invariant.0.journal;
         until = scan_until _ _ k c.self.inside.log fits c.self.invariant.0.state_is c.self.invariant.0.until;
       },
       c.self.invariant.1,
