@@ -1,17 +1,16 @@
 -- What a commit leaves in the journal.
-use Rattle.std.proofs.Common.{◌≡◌, ℕ, ◌+◌, ◌≤◌, List, [], ◌∷◌, ◌++◌, length, All, ap, sym, ◌∙◌, subst, arith}
+use Rattle.std.proofs.Common.{◌≡◌, ℕ, ◌+◌, ◌≤◌, List, [], ◌∷◌, ◌++◌, length, replicate, All, ap, sym, length-append, ◌∙◌, subst, arith}
 use Rattle.std.proofs.lemmas.List.{length-map}
 use Rattle.std.specs.declared.result.Result.{Result}
 use Rattle.alarm_machine.specs.declared.states.OrderFault.{OrderFault}
 use Rattle.alarm_machine.specs.Alarms.{PlainAlarm}
 use Rattle.journal_core.specs.declared.row.Row.{Row}
-use Rattle.journal_core.specs.Rows.{PlainLog, after_entries, last_moment}
+use Rattle.journal_core.specs.Rows.{PlainLog, after_entry, after_entries, last_moment}
+use Rattle.journal_core.specs.declared.row.Entry.TheVariants as entry
 use Rattle.plant_config.specs.Plants.{PlainPlant}
 use Rattle.plant_config.specs.Names.{globals_of}
 use Rattle.event_history.specs.declared.event.Event.{Event}
 use Rattle.event_history.specs.declared.event.Event.TheVariants as event
-use Rattle.event_history.specs.Reloads.{NoReload}
-use Rattle.event_history.proofs.Reloads.{stays_on}
 use Rattle.operator_orders.specs.declared.order.Order.{Order}
 use Rattle.plant_system.specs.declared.state.Effect.{Effect}
 use Rattle.alarm_bank.specs.Moves.{changes_from}
@@ -19,31 +18,49 @@ use Rattle.journal_core.specs.Rows.{change_entry}
 use Rattle.plant_system.specs.System.{System, system, after_event, ordered}
 use Rattle.engine.specs.Lawful.{IsTaken}
 use Rattle.plant_system.specs.Reports.{PlainReport}
-use Rattle.engine.specs.Journal.{IsJournal, named_change, named_order, refusal_of, one_or_none, change_entries, added_entries, scan_entries, order_entries}
+use Rattle.engine.specs.Journal.{IsJournal, named_change, named_order, refusal_of, one_or_none, change_entries, added_entries, row_plants, scan_entries, order_entries}
+use Rattle.engine.specs.declared.past.PastPlant.{PastPlant}
+use Rattle.engine.specs.Past.{ArePast}
+use Rattle.engine.proofs.Pasts.{past_more, past_reload}
 use Rattle.plant_system.specs.Orders.{alarms_by, changed_by}
 use Rattle.engine.proofs.OrderRows.{order_changes}
-use Rattle.engine.specs.Engines.{PlainEngine, Fits, FitsOrder, state_of}
+use Rattle.engine.specs.Engines.{PlainEngine, PlainPreparedReload, Fits, FitsOrder, FitsReload, state_of}
 use Rattle.plant_system.specs.States.{PlainState, PlainPrepared, PlainPreparedOrder, after_effect, IsState, IsReport}
 use Rattle.alarm_delays.specs.Delays.{PlainDelays}
 use Rattle.plant_system.proofs.Images.{taken_when}
 use Rattle.plant_system.proofs.Systems.{system_next}
-use Rattle.engine.proofs.Journals.{scan_journal, order_journal, until_after, last_below, room_after, length-scan_entries, few_order_entries}
+use Rattle.engine.proofs.Journals.{as_many_plants, plants_next, reload_journal, scan_journal, order_journal, until_after, last_below, room_after, length-scan_entries, few_order_entries}
+
+-- one more event leaves rows of the plant that the system has
+past_event : (plant : PlainPlant) (history : List Event) (e : Event) (now : PlainPlant) (past : List PastPlant) → (system plant history).plant ≡ now → ArePast (row_plants plant history) past now → ArePast (row_plants plant (history ++ e ∷ [])) past now
+past_event plant history e now past own are =
+    let sys = system plant history in
+    let more = past_more (row_plants plant history) past now (length (added_entries sys e)) are in
+    let next : row_plants plant (history ++ e ∷ []) ≡ row_plants plant history ++ replicate (length (added_entries sys e)) now =
+    plants_next plant history e ∙ ap (λ (p : PlainPlant). row_plants plant history ++ replicate (length (added_entries sys e)) p) own in
+    subst (λ (plants : List PlainPlant). ArePast plants past now) (sym next) more
+
+pub order_past : (e : PlainEngine) (p : PlainPreparedOrder) (now : PlainPlant) (past : List PastPlant) → (state_of e).plant ≡ now → ArePast (row_plants e.plant e.history) past now → ArePast (row_plants e.plant (e.history ++ event.Order p.console p.order ∷ [])) past now
+order_past e p now past own are = past_event e.plant e.history (event.Order p.console p.order) now past own are
 
 -- a scan leaves the state of the history with it
 pub scan_state : (e : PlainEngine) (p : PlainPrepared) (k : PlainState) → Fits e p → IsState (state_of e) k → IsState (system e.plant (e.history ++ p.event ∷ [])) (after_effect p.effect k)
 scan_state e p k fits held = subst (λ (s : System). IsState s (after_effect p.effect k)) (sym (system_next e.plant e.history p.event)) (fits.effect_is k held)
 
--- and no reload in it
-pub scan_stays : (e : PlainEngine) (p : PlainPrepared) → Fits e p → NoReload e.history → NoReload (e.history ++ p.event ∷ [])
-scan_stays e p fits stays =
-    let one : NoReload (event.Scan fits.image p.report.moment ∷ []) = tt in
-    stays_on e.history (p.event ∷ []) stays (subst (λ (x : Event). NoReload (x ∷ [])) (sym fits.event_is) one)
+-- and the same plant
+pub scan_present : (e : PlainEngine) (p : PlainPrepared) (now : PlainPlant) → Fits e p → (state_of e).plant ≡ now → (system e.plant (e.history ++ p.event ∷ [])).plant ≡ now
+scan_present e p now fits own =
+    ap (λ (s : System). s.plant) (system_next e.plant e.history p.event) ∙ ap (λ (x : Event). (after_event (state_of e) x).plant) fits.event_is ∙ own
 
 -- and the journal of that history
-pub scan_committed : (e : PlainEngine) (p : PlainPrepared) (log : PlainLog) → NoReload e.history → Fits e p → IsJournal e.plant e.history log.rows → IsJournal e.plant (e.history ++ p.event ∷ []) (after_entries p.report.moment log (scan_entries p.report)).rows
-scan_committed e p log stays fits held =
+pub scan_committed : (e : PlainEngine) (p : PlainPrepared) (log : PlainLog) → Fits e p → IsJournal e.plant e.history log.rows → IsJournal e.plant (e.history ++ p.event ∷ []) (after_entries p.report.moment log (scan_entries p.report)).rows
+scan_committed e p log fits held =
     subst (λ (x : Event). IsJournal e.plant (e.history ++ x ∷ []) (after_entries p.report.moment log (scan_entries p.report)).rows) (sym fits.event_is)
-    (scan_journal e.plant e.history fits.image p.report.moment p.report log stays (subst (λ (x : Event). IsReport (state_of e) x p.report) fits.event_is fits.report_is) held)
+    (scan_journal e.plant e.history fits.image p.report.moment p.report log (subst (λ (x : Event). IsReport (state_of e) x p.report) fits.event_is fits.report_is) held)
+
+-- with rows of the same plant
+pub scan_past : (e : PlainEngine) (p : PlainPrepared) (now : PlainPlant) (past : List PastPlant) → (state_of e).plant ≡ now → ArePast (row_plants e.plant e.history) past now → ArePast (row_plants e.plant (e.history ++ p.event ∷ [])) past now
+scan_past e p now past own are = past_event e.plant e.history p.event now past own are
 
 -- its moment isn't before that of the last scan
 scan_forward : (e : PlainEngine) (p : PlainPrepared) (k : PlainState) → Fits e p → IsState (state_of e) k → k.moment ≤ p.report.moment
@@ -77,20 +94,20 @@ scan_in_order e p k rows fits held until =
     let forward = scan_forward e p k fits held in
     omega (arith, last, forward)
 
--- an order leaves no reload in the history with it
-pub order_stays : (e : PlainEngine) (p : PlainPreparedOrder) → FitsOrder e p → NoReload e.history → NoReload (e.history ++ event.Order p.console p.order ∷ [])
-order_stays e p fits stays = stays_on e.history (event.Order p.console p.order ∷ []) stays tt
+-- an order leaves the same plant
+pub order_present : (e : PlainEngine) (p : PlainPreparedOrder) (now : PlainPlant) → (state_of e).plant ≡ now → (system e.plant (e.history ++ event.Order p.console p.order ∷ [])).plant ≡ now
+order_present e p now own = ap (λ (s : System). s.plant) (system_next e.plant e.history (event.Order p.console p.order)) ∙ own
 
 -- and the journal of that history
-pub order_committed : (e : PlainEngine) (p : PlainPreparedOrder) (k : PlainState) (log : PlainLog) → NoReload e.history → IsState (state_of e) k → FitsOrder e p → IsJournal e.plant e.history log.rows
+pub order_committed : (e : PlainEngine) (p : PlainPreparedOrder) (k : PlainState) (log : PlainLog) → IsState (state_of e) k → FitsOrder e p → IsJournal e.plant e.history log.rows
     → IsJournal e.plant (e.history ++ event.Order p.console p.order ∷ []) (after_entries k.moment log (order_entries p.console p.order p.done k.alarms)).rows
-order_committed e p k log stays held fits journal =
+order_committed e p k log held fits journal =
     let sys = state_of e in
     let done = ordered sys p.console p.order in
     let rows : ℕ → Result Effect OrderFault → List PlainAlarm → List Row = λ m d a. (after_entries m log (order_entries p.console p.order d a)).rows in
     let same : rows k.moment p.done k.alarms ≡ rows sys.moment done sys.alarms =
     ap (λ m. rows m p.done k.alarms) held.moment_is ∙ ap (λ d. rows sys.moment d k.alarms) fits.done_is ∙ ap (rows sys.moment done) held.alarms_are in
-    subst (IsJournal e.plant (e.history ++ event.Order p.console p.order ∷ [])) (sym same) (order_journal e.plant e.history p.console p.order log stays journal)
+    subst (IsJournal e.plant (e.history ++ event.Order p.console p.order ∷ [])) (sym same) (order_journal e.plant e.history p.console p.order log journal)
 
 pub order_until : (m : ℕ) (log : PlainLog) (console : ℕ) (order : Order) (done : Result Effect OrderFault) (alarms : List PlainAlarm) → All (λ row. row.moment ≤ m) log.rows
     → All (λ row. row.moment ≤ m) (after_entries m log (order_entries console order done alarms)).rows
@@ -105,7 +122,7 @@ scan_room moment log r there =
 
 -- as many entries as an order adds by names
 order_many : (plant : PlainPlant) (console : ℕ) (order : Order) (done : Result Effect OrderFault) (alarms : List PlainAlarm)
-    → length (order_entries console order done alarms) ≡ length (named_order plant console order (refusal_of done) ∷ change_entries plant (changes_from 0 alarms (alarms_by done alarms)))
+    → length (order_entries console order done alarms) ≡ length (named_order plant console order.verb order.target (refusal_of done) ∷ change_entries plant (changes_from 0 alarms (alarms_by done alarms)))
 order_many plant console order done alarms =
     let ours = length-map (one_or_none (changed_by done alarms)) change_entry in
     let theirs = length-map (changes_from 0 alarms (alarms_by done alarms)) (named_change plant) in
@@ -122,3 +139,37 @@ order_room e p k log held fits there =
     let same : length (order_entries p.console p.order p.done k.alarms) ≡ length (order_entries p.console p.order done sys.alarms) = λ i. length (order_entries p.console p.order (fits.done_is i) (held.alarms_are i)) in
     let many : length (order_entries p.console p.order done sys.alarms) ≡ length (added_entries sys (event.Order p.console p.order)) = order_many sys.plant p.console p.order done sys.alarms in
     omega (arith, left, few, same, many, there)
+
+-- a reload leaves its plant
+pub reload_present : (e : PlainEngine) (new : PlainPlant) → (system e.plant (e.history ++ event.Reload new ∷ [])).plant ≡ new
+reload_present e new = ap (λ (s : System). s.plant) (system_next e.plant e.history (event.Reload new))
+
+-- and the state of the history with it
+pub reload_state : (e : PlainEngine) (p : PlainPreparedReload) → FitsReload e p → IsState (system e.plant (e.history ++ event.Reload p.plant ∷ [])) p.state
+reload_state e p fits = subst (λ (s : System). IsState s p.state) (sym (system_next e.plant e.history (event.Reload p.plant))) fits.state_is
+
+-- and its journal
+pub reload_committed : (e : PlainEngine) (p : PlainPreparedReload) (log : PlainLog) (moment : ℕ) → moment ≡ (state_of e).moment → FitsReload e p → IsJournal e.plant e.history log.rows
+    → IsJournal e.plant (e.history ++ event.Reload p.plant ∷ []) (after_entry moment log (entry.Reload p.kept p.fresh)).rows
+reload_committed e p log moment at fits journal =
+    subst (λ m. IsJournal e.plant (e.history ++ event.Reload p.plant ∷ []) (after_entry m log (entry.Reload p.kept p.fresh)).rows) (sym at)
+    (reload_journal e.plant e.history p.plant p.kept p.fresh log fits.told journal)
+
+pub reload_until : (e : PlainEngine) (p : PlainPreparedReload) (k : PlainState) (log : PlainLog) (moment : ℕ) → moment ≡ (state_of e).moment → IsState (state_of e) k → FitsReload e p → All (λ row. row.moment ≤ k.moment) log.rows
+    → All (λ row. row.moment ≤ p.state.moment) (after_entry moment log (entry.Reload p.kept p.fresh)).rows
+reload_until e p k log moment at held fits until =
+    let same : moment ≡ p.state.moment = at ∙ sym fits.state_is.moment_is in
+    subst (λ m. All (λ (row : Row). row.moment ≤ m) (after_entry moment log (entry.Reload p.kept p.fresh)).rows) same
+    (until_after k.moment moment log (entry.Reload p.kept p.fresh ∷ []) (omega (arith, at, held.moment_is)) until)
+
+-- the plants of its rows: the row of the reload is the last one of the plant whose place it takes
+pub reload_past : (e : PlainEngine) (new now : PlainPlant) (past : List PastPlant) (rows : List Row) (last : ℕ) → (state_of e).plant ≡ now → IsJournal e.plant e.history rows → last ≡ length rows + 1 → ArePast (row_plants e.plant e.history) past now
+    → ArePast (row_plants e.plant (e.history ++ event.Reload new ∷ [])) (past ++ record { plant = now; last = last } ∷ []) new
+reload_past e new now past rows last own journal is are =
+    let plants = row_plants e.plant e.history in
+    let many = as_many_plants plants rows journal.named in
+    let more = past_event e.plant e.history (event.Reload new) now past own are in
+    let next = plants_next e.plant e.history (event.Reload new) in
+    let both = length-append plants ((state_of e).plant ∷ []) in
+    let long = ap length next in
+    past_reload (row_plants e.plant (e.history ++ event.Reload new ∷ [])) past now new last more (omega (arith, many, both, long, is))

@@ -7,31 +7,33 @@ use Rattle.plant_config.specs.Plants.{PlainPlant, IsPlant}
 use Rattle.plant_config.specs.Names.{globals_of}
 use Rattle.event_history.specs.declared.event.Event.{Event}
 use Rattle.event_history.specs.declared.event.Event.TheVariants as event
-use Rattle.event_history.specs.Reloads.{NoReload}
 use Rattle.operator_orders.specs.declared.order.Order.{Order}
 use Rattle.plant_system.specs.declared.event.TheConstants.{MOST_EVENTS}
-use Rattle.plant_system.specs.Orders.{order_outcome, alarms_by, faulted_by, reply_by}
-use Rattle.plant_system.specs.System.{System, opening_system, after_event, after_scan_event, scan_event, ordered, system}
+use Rattle.plant_system.specs.Orders.{order_outcome, unless_old, alarms_by, faulted_by, reply_by}
+use Rattle.plant_system.specs.System.{System, opening_system, after_event, after_scan_event, scan_event, reload_event, ordered, system}
 use Rattle.plant_system.specs.States.{PlainState, PlainPrepared, PlainPreparedOrder, IsState, IsReport, after_effect}
-use Rattle.plant_system.specs.Steps.{ScanRan, IsPreparedScan, IsPreparedOrder}
+use Rattle.plant_system.specs.Steps.{ScanRan, IsPreparedScan, IsPreparedOrder, IsReadyReload}
+use Rattle.plant_system.specs.declared.reloading.ReadyReload.{ReadyReload}
+use Rattle.plant_system.specs.Reloads.{fresh_count, kept_count, kept_numbers}
 use Rattle.plant_system.proofs.Images.{taken_within}
-use Rattle.plant_system.proofs.Systems.{system_keeps_its_plant, system_next, system_none, system_scans, kept_alarms, scan_agrees, scan_reports, scan_event_is, effect_anywhere, order_steps, order_event_room}
+use Rattle.plant_system.proofs.Reloading.{reload_found}
+use Rattle.plant_system.proofs.Systems.{system_events, system_next, system_reloads, system_none, system_scans, kept_alarms, scan_agrees, scan_reports, scan_event_is, effect_anywhere, order_steps, order_event_room}
 use Rattle.engine.specs.Lawful.{IsTaken}
-use Rattle.engine.specs.Engines.{PlainEngine, Fits, FitsOrder, IsEngine, state_of}
-use Rattle.engine.proofs.Journals.{journal_empty}
+use Rattle.engine.specs.Engines.{PlainEngine, Fits, FitsOrder, FitsReload, IsEngine, state_of}
+use Rattle.engine.specs.Past.{ArePast}
+use Rattle.engine.proofs.Journals.{journal_empty, plants_none}
+use Rattle.engine.proofs.Pasts.{past_none}
 use Rattle.engine.proofs.Lawful.{lawful_none}
 
 -- a scan that was made ready from what an engine holds fits that engine, where there is room for its rows
-pub scan_fits : (e : PlainEngine) (p : PlainPrepared) (old : PlainState) (events : ℕ) (pairs : List PlainPair) (t : ℕ) → IsPlant e.plant → NoReload e.history → IsState (state_of e) old → IsPreparedScan e.plant old events pairs t p → events ≡ length e.history → length p.report.faults + length p.report.changes ≤ e.row_room → Fits e p
-scan_fits e p old events pairs t begun stays held scan counted rows_there =
+pub scan_fits : (e : PlainEngine) (now : PlainPlant) (p : PlainPrepared) (old : PlainState) (events : ℕ) (pairs : List PlainPair) (t : ℕ) → IsPlant (state_of e).plant → (state_of e).plant ≡ now → IsState (state_of e) old → IsPreparedScan now old events pairs t p → events ≡ length e.history → length p.report.faults + length p.report.changes ≤ e.row_room → Fits e p
+scan_fits e now p old events pairs t plant_is own held scan counted rows_there =
     let sys = state_of e in
-    let own : e.plant ≡ sys.plant = sym (system_keeps_its_plant e.plant e.history stays) in
     let image = scan.image in
     let is = scan.event_is in
     let new = after_effect p.effect old in
-    let plant_is = subst IsPlant own begun in
-    let made = subst (λ (x : PlainPlant). ScanRan x old image t new p.report) own scan.ran in
-    let taken : scan_event sys pairs t ≡ Ok (event.Scan image t) = sym (scan_event_is e.plant e.history old events pairs t stays held counted) ∙ scan.taken ∙ ap Ok is in
+    let made = subst (λ (x : PlainPlant). ScanRan x old image t new p.report) (sym own) scan.ran in
+    let taken : scan_event sys pairs t ≡ Ok (event.Scan image t) = sym (scan_event_is e.plant now e.history old events pairs t own held counted) ∙ scan.taken ∙ ap Ok is in
     let within = taken_within (globals_of sys.plant) sys.moment sys.events pairs t t image taken in
     let seen = system_scans e.plant e.history in
     let after = scan_agrees sys old new image t p.report plant_is seen within held made in
@@ -54,13 +56,12 @@ order_agrees e p old held fits =
     (order_steps (state_of e) old p.console p.order p.done fits.done_is held)
 
 -- an order that was made ready from what an engine holds fits that engine, where there is room for its rows
-pub order_fits : (e : PlainEngine) (k : PlainState) (console : ℕ) (order : Order) (p : PlainPreparedOrder) → NoReload e.history → IsState (state_of e) k → IsPreparedOrder e.plant k console order p → length e.history < MOST_EVENTS → 2 ≤ e.row_room → FitsOrder e p
-order_fits e k console order p stays held made few rows_there =
+pub order_fits : (e : PlainEngine) (now : PlainPlant) (k : PlainState) (console : ℕ) (order : Order) (p : PlainPreparedOrder) → (state_of e).plant ≡ now → IsState (state_of e) k → IsPreparedOrder now k console order p → length e.history < MOST_EVENTS → 2 ≤ e.row_room → FitsOrder e p
+order_fits e now k console order p own held made few rows_there =
     let sys = state_of e in
-    let own : e.plant ≡ sys.plant = sym (system_keeps_its_plant e.plant e.history stays) in
     let is : p.done ≡ ordered sys p.console p.order =
     made.done_is
-    ∙ (λ i. order_outcome (own i) (held.alarms_are i) (held.faulted_is i) (held.moment_is i) console order)
+    ∙ (λ i. unless_old (held.reloads_is i) order (order_outcome (sym own i) (held.alarms_are i) (held.faulted_is i) (held.moment_is i) console order))
     ∙ (λ i. ordered sys (sym made.console_is i) (sym made.order_is i)) in
     record {
       row_room = rows_there;
@@ -69,13 +70,37 @@ order_fits e k console order p stays held made few rows_there =
       taken = order_event_room e.plant e.history p.console p.order few;
     }
 
+-- a reload that was made ready from what an engine holds fits that engine, where there is room for its row and for the plant whose place it takes
+pub reload_fits : (e : PlainEngine) (now new : PlainPlant) (k : PlainState) (r : ReadyReload) → (state_of e).plant ≡ now → IsState (state_of e) k → IsReadyReload now new k r → reload_event (state_of e) new ≡ Ok (event.Reload new) → 1 ≤ e.row_room → 1 ≤ e.reload_room
+    → FitsReload e (record { plant = new; state = r.state; kept = r.kept; fresh = r.fresh })
+reload_fits e now new k r own held made taken rows_there there =
+    let sys = state_of e in
+    let kept : kept_numbers now new ≡ kept_numbers sys.plant new = ap (λ (p : PlainPlant). kept_numbers p new) (sym own) in
+    record {
+      state_is = made.state_is sys own held;
+      told = record { kept_is = made.kept_is ∙ ap kept_count kept; fresh_is = made.fresh_is ∙ ap fresh_count kept };
+      taken = (taken, made.plant_is);
+      row_room = rows_there;
+      reload_room = there;
+    }
+
+-- and there were few reloads before
+pub reload_few : (e : PlainEngine) (new : PlainPlant) (k : PlainState) → IsState (state_of e) k → reload_event (state_of e) new ≡ Ok (event.Reload new) → k.reloads < MOST_EVENTS
+reload_few e new k held taken =
+    let sys = state_of e in
+    let found = reload_found sys.plant sys.events new taken in
+    let events = system_events e.plant e.history in
+    let few = system_reloads e.plant e.history in
+    omega (arith, found.room, events, few, held.reloads_is)
+
 -- before the first event
-pub opening_engine : (plant : PlainPlant) (k : PlainState) → IsPlant plant → IsState (opening_system plant) k → IsEngine plant [] [] k
+pub opening_engine : (plant : PlainPlant) (k : PlainState) → IsPlant plant → IsState (opening_system plant) k → IsEngine plant [] [] k plant []
 opening_engine plant k is held = record {
   state_is = subst (λ (s : System). IsState s k) (sym (system_none plant)) held;
+  present = ap (λ (s : System). s.plant) (system_none plant);
   plant_is = is;
   lawful = lawful_none plant;
-  stays = tt;
   journal = journal_empty plant;
+  past = subst (λ (plants : List PlainPlant). ArePast plants [] plant) (sym (plants_none plant)) (past_none plant);
   until = All-nil (λ (row : Row). row.moment ≤ k.moment);
 }

@@ -1,9 +1,8 @@
 -- The journal goes on by the rows of one event.
-use Rattle.std.proofs.Common.{◌≡◌, ℕ, suc, ◌+◌, ◌-◌, ◌<◌, ◌≤◌, List, [], ◌∷◌, ◌++◌, length, map, All, fold, refl, ap, sym, ◌∙◌, subst, append_assoc, append-nil, length-append, arith, Option, Some, None}
+use Rattle.std.proofs.Common.{◌≡◌, ℕ, suc, ◌+◌, ◌-◌, ◌<◌, ◌≤◌, List, [], ◌∷◌, ◌++◌, length, map, replicate, zero, All, fold, refl, ap, sym, ◌∙◌, subst, append_assoc, append-nil, length-append, arith, Option, Some, None}
 use Rattle.std.specs.declared.result.Result.{Result}
 use Rattle.std.specs.Prelude.{slice_get}
-use Rattle.std.specs.Option.{option_map}
-use Rattle.std.proofs.lemmas.Option.{slice_get-map}
+use Rattle.std.proofs.lemmas.Option.{same_Some}
 use Rattle.std.proofs.lemmas.List.{map-append, length-map}
 use Rattle.std.proofs.lemmas.List.Elements.{All-nil, All-cons, All-head, All-tail, All-push, All-weaker, All-append, All-map}
 use Rattle.plant_types.specs.declared.values.Place.{Place}
@@ -21,16 +20,18 @@ use Rattle.journal_core.specs.Rows.{PlainLog, after_entry, after_entries, fault_
 use Rattle.plant_config.specs.Plants.{PlainPlant}
 use Rattle.event_history.specs.declared.event.Event.{Event}
 use Rattle.event_history.specs.declared.event.Event.TheVariants as event
-use Rattle.event_history.specs.Reloads.{NoReload}
 use Rattle.operator_orders.specs.declared.order.Order.{Order}
 use Rattle.plant_system.specs.Orders.{changed_by}
 use Rattle.plant_system.specs.Reports.{PlainReport}
 use Rattle.plant_system.specs.States.{IsReport}
 use Rattle.alarm_bank.specs.Moves.{changes_from}
 use Rattle.plant_system.specs.System.{System, system, opening_system, after_event, ordered}
-use Rattle.plant_system.proofs.Systems.{system_keeps_its_plant, system_alarms, system_faulted, changes_within, numbers_more}
+use Rattle.plant_system.proofs.Systems.{system_alarms, system_faulted, changes_within, numbers_more}
 use Rattle.engine.proofs.OrderRows.{order_changes, order_named}
-use Rattle.engine.specs.Journal.{NamedEntry, FaultAt, named_change, named_order, named_entry, named_row, fault_entries, change_entries, added_entries, refusal_of, one_or_none, scan_entries, order_entries, rows_from, added_rows, journal_from, journal_of, IsNamed, IsJournal}
+use Rattle.engine.specs.Journal.{NamedEntry, FaultAt, ReloadOf, named_change, named_order, named_entry, named_row, fault_entries, change_entries, added_entries, refusal_of, one_or_none, scan_entries, order_entries, rows_from, added_rows, journal_from, journal_of, plants_from, row_plants, named_rows, AreNamed, IsNamed, IsJournal}
+use Rattle.engine.specs.declared.past.PastPlant.{PastPlant}
+use Rattle.engine.specs.Past.{ArePast, plant_at}
+use Rattle.engine.specs.Engines.{TellsReload}
 
 length-rows_from : (n moment : ℕ) (entries : List NamedEntry) → length (rows_from n moment entries) ≡ length entries
 length-rows_from n moment [] = refl
@@ -68,16 +69,70 @@ journal_none plant = refl
 abbrev row_for : ℕ → PlainLog → Entry → Row
 row_for moment log entry = record { number = length log.rows + 1; moment = moment; entry = entry }
 
-pub named_after : (plant : PlainPlant) (moment : ℕ) (log : PlainLog) (entries : List Entry) → map (named_row plant) (after_entries moment log entries).rows ≡ map (named_row plant) log.rows ++ rows_from (length log.rows + 1) moment (map (named_entry plant) entries)
-named_after plant moment log [] = sym (append-nil (map (named_row plant) log.rows))
-named_after plant moment log (entry ∷ entries) =
+-- one row more, and its plant
+named_push : (plants : List PlainPlant) (rows : List Row) (plant : PlainPlant) (row : Row) → length plants ≡ length rows → named_rows (plants ++ plant ∷ []) (rows ++ row ∷ []) ≡ named_rows plants rows ++ named_row plant row ∷ []
+named_push [] [] plant row many = refl
+named_push [] (r ∷ rows) plant row many = absurd (omega (arith, many))
+named_push (p ∷ plants) [] plant row many = absurd (omega (arith, many))
+named_push (p ∷ plants) (r ∷ rows) plant row many = ap (λ l. named_row p r ∷ l) (named_push plants rows plant row (omega (arith, many)))
+
+pub named_after : (plants : List PlainPlant) (plant : PlainPlant) (moment : ℕ) (log : PlainLog) (entries : List Entry) → length plants ≡ length log.rows
+    → named_rows (plants ++ replicate (length entries) plant) (after_entries moment log entries).rows ≡ named_rows plants log.rows ++ rows_from (length log.rows + 1) moment (map (named_entry plant) entries)
+named_after plants plant moment log [] many = ap (λ (l : List PlainPlant). named_rows l log.rows) (append-nil plants) ∙ sym (append-nil (named_rows plants log.rows))
+named_after plants plant moment log (entry ∷ entries) many =
     let rest = map (named_entry plant) entries in
     let row = row_for moment log entry in
+    let more = replicate (length entries) plant in
+    let then = after_entries moment (after_entry moment log entry) entries in
     let long : length (log.rows ++ row ∷ []) + 1 ≡ length log.rows + 1 + 1 = ap (λ k. k + 1) (length-append log.rows (row ∷ [])) in
-    named_after plant moment (after_entry moment log entry) entries
-    ∙ ap (λ k. map (named_row plant) (log.rows ++ row ∷ []) ++ rows_from k moment rest) long
-    ∙ ap (λ l. l ++ rows_from (length log.rows + 1 + 1) moment rest) (map-append (named_row plant) log.rows (row ∷ []))
-    ∙ append_assoc (map (named_row plant) log.rows) (named_row plant row ∷ []) (rows_from (length log.rows + 1 + 1) moment rest)
+    let both : length (plants ++ plant ∷ []) ≡ length (log.rows ++ row ∷ []) = length-append plants (plant ∷ []) ∙ ap (λ k. k + 1) many ∙ sym (length-append log.rows (row ∷ [])) in
+    ap (λ (l : List PlainPlant). named_rows l then.rows) (sym (append_assoc plants (plant ∷ []) more))
+    ∙ named_after (plants ++ plant ∷ []) plant moment (after_entry moment log entry) entries both
+    ∙ ap (λ k. named_rows (plants ++ plant ∷ []) (log.rows ++ row ∷ []) ++ rows_from k moment rest) long
+    ∙ ap (λ l. l ++ rows_from (length log.rows + 1 + 1) moment rest) (named_push plants log.rows plant row many)
+    ∙ append_assoc (named_rows plants log.rows) (named_row plant row ∷ []) (rows_from (length log.rows + 1 + 1) moment rest)
+
+-- each plant has what its row names, also of rows that are added
+named_both : (plants : List PlainPlant) (rows : List Row) (plant : PlainPlant) (row : Row) → AreNamed plants rows → IsNamed plant row.entry → AreNamed (plants ++ plant ∷ []) (rows ++ row ∷ [])
+named_both [] [] plant row all one = (one, tt)
+named_both [] (r ∷ rows) plant row all one = absurd all
+named_both (p ∷ plants) [] plant row all one = absurd all
+named_both (p ∷ plants) (r ∷ rows) plant row all one = (all.0, named_both plants rows plant row all.1 one)
+
+named_more : (plants : List PlainPlant) (plant : PlainPlant) (moment : ℕ) (log : PlainLog) (entries : List Entry) → AreNamed plants log.rows → All (IsNamed plant) entries
+    → AreNamed (plants ++ replicate (length entries) plant) (after_entries moment log entries).rows
+named_more plants plant moment log [] all new = subst (λ (l : List PlainPlant). AreNamed l log.rows) (sym (append-nil plants)) all
+named_more plants plant moment log (entry ∷ entries) all new =
+    let then = after_entries moment (after_entry moment log entry) entries in
+    subst (λ (l : List PlainPlant). AreNamed l then.rows) (append_assoc plants (plant ∷ []) (replicate (length entries) plant))
+    (named_more (plants ++ plant ∷ []) plant moment (after_entry moment log entry) entries
+    (named_both plants log.rows plant (row_for moment log entry) all (All-head (IsNamed plant) entry entries new)) (All-tail (IsNamed plant) entry entries new))
+
+-- as many plants as rows
+pub as_many_plants : (plants : List PlainPlant) (rows : List Row) → AreNamed plants rows → length plants ≡ length rows
+as_many_plants [] [] all = refl
+as_many_plants [] (r ∷ rows) all = absurd all
+as_many_plants (p ∷ plants) [] all = absurd all
+as_many_plants (p ∷ plants) (r ∷ rows) all = ap suc (as_many_plants plants rows all.1)
+
+-- the plants of the rows that one more event adds
+plants_more : (sys : System) (history : List Event) (e : Event)
+    → plants_from sys (history ++ e ∷ []) ≡ plants_from sys history ++ replicate (length (added_entries (fold after_event sys history) e)) (fold after_event sys history).plant
+plants_more sys [] e = append-nil (replicate (length (added_entries sys e)) sys.plant)
+plants_more sys (d ∷ history) e =
+    let here = replicate (length (added_entries sys d)) sys.plant in
+    let last = fold after_event (after_event sys d) history in
+    ap (λ (l : List PlainPlant). here ++ l) (plants_more (after_event sys d) history e)
+    ∙ sym (append_assoc here (plants_from (after_event sys d) history) (replicate (length (added_entries last e)) last.plant))
+
+pub plants_next : (plant : PlainPlant) (history : List Event) (e : Event)
+    → row_plants plant (history ++ e ∷ []) ≡ row_plants plant history ++ replicate (length (added_entries (system plant history) e)) (system plant history).plant
+unfolding row_plants system
+plants_next plant history e = plants_more (opening_system plant) history e
+
+pub plants_none : (plant : PlainPlant) → row_plants plant [] ≡ []
+unfolding row_plants
+plants_none plant = refl
 
 -- entries that are added one after the other
 pub after_both : (moment : ℕ) (log : PlainLog) (xs ys : List Entry) → after_entries moment (after_entries moment log xs) ys ≡ after_entries moment log (xs ++ ys)
@@ -133,42 +188,66 @@ pub changes_named : (plant : PlainPlant) (changes : List (ℕ × PlainChange)) �
 changes_named plant [] = refl
 changes_named plant (c ∷ cs) = ap (λ l. named_change plant c ∷ l) (changes_named plant cs)
 
+-- as many rows by names as rows
+named_many : (plants : List PlainPlant) (rows : List Row) → length plants ≡ length rows → length (named_rows plants rows) ≡ length rows
+named_many [] [] many = refl
+named_many [] (r ∷ rows) many = absurd (omega (arith, many))
+named_many (p ∷ plants) [] many = absurd (omega (arith, many))
+named_many (p ∷ plants) (r ∷ rows) many = ap suc (named_many plants rows (omega (arith, many)))
+
+pub as_many_rows : (plant : PlainPlant) (history : List Event) (rows : List Row) → IsJournal plant history rows → length rows ≡ length (journal_of plant history)
+as_many_rows plant history rows held =
+    let plants = row_plants plant history in
+    sym (named_many plants rows (as_many_plants plants rows held.named)) ∙ ap length held.rows_are
+
+-- the plants of the rows after one more event, by its entries
+pub after_plants : (plant : PlainPlant) (history : List Event) (e : Event) (entries : List Entry) → map (named_entry (system plant history).plant) entries ≡ added_entries (system plant history) e
+    → row_plants plant (history ++ e ∷ []) ≡ row_plants plant history ++ replicate (length entries) (system plant history).plant
+after_plants plant history e entries are =
+    let here = (system plant history).plant in
+    let many : length (added_entries (system plant history) e) ≡ length entries = ap length (sym are) ∙ length-map entries (named_entry here) in
+    plants_next plant history e ∙ ap (λ n. row_plants plant history ++ replicate n here) many
+
 -- ---- a journal goes on, by entries that the system's plant names
-journal_on : (plant : PlainPlant) (history : List Event) (e : Event) (moment : ℕ) (log : PlainLog) (entries : List Entry) → NoReload history → moment ≡ (after_event (system plant history) e).moment
+journal_on : (plant : PlainPlant) (history : List Event) (e : Event) (moment : ℕ) (log : PlainLog) (entries : List Entry) → moment ≡ (after_event (system plant history) e).moment
     → map (named_entry (system plant history).plant) entries ≡ added_entries (system plant history) e → All (IsNamed (system plant history).plant) entries → IsJournal plant history log.rows → IsJournal plant (history ++ e ∷ []) (after_entries moment log entries).rows
-journal_on plant history e moment log entries stays at named within held =
+journal_on plant history e moment log entries at are within held =
     let sys = system plant history in
-    let own = system_keeps_its_plant plant history stays in
-    let are = subst (λ (x : PlainPlant). map (named_entry x) entries ≡ added_entries sys e) own named in
+    let here = sys.plant in
+    let plants = row_plants plant history in
     let journal = journal_of plant history in
-    let long : length log.rows + 1 ≡ length journal + 1 = ap (λ k. k + 1) (sym (length-map log.rows (named_row plant)) ∙ ap length held.rows_are) in
+    let then = (after_entries moment log entries).rows in
+    let many = as_many_plants plants log.rows held.named in
+    let long : length log.rows + 1 ≡ length journal + 1 = ap (λ k. k + 1) (as_many_rows plant history log.rows held) in
+    let next = after_plants plant history e entries are in
     record {
-      rows_are = named_after plant moment log entries
-          ∙ ap (λ l. l ++ rows_from (length log.rows + 1) moment (map (named_entry plant) entries)) held.rows_are
-          ∙ ap (λ n. journal ++ rows_from n moment (map (named_entry plant) entries)) long
+      rows_are = ap (λ (l : List PlainPlant). named_rows l then) next
+          ∙ named_after plants here moment log entries many
+          ∙ ap (λ l. l ++ rows_from (length log.rows + 1) moment (map (named_entry here) entries)) held.rows_are
+          ∙ ap (λ n. journal ++ rows_from n moment (map (named_entry here) entries)) long
           ∙ ap (λ es. journal ++ rows_from (length journal + 1) moment es) are
           ∙ ap (λ m. journal ++ rows_from (length journal + 1) m (added_entries sys e)) at
           ∙ sym (journal_next plant history e);
-      named = all_after (λ (row : Row). IsNamed plant row.entry) moment log entries held.named (λ n. subst (λ (x : PlainPlant). All (IsNamed x) entries) own within);
+      named = subst (λ (l : List PlainPlant). AreNamed l then) (sym next) (named_more plants here moment log entries held.named within);
     }
 
 -- by the rows of a scan
-pub scan_journal : (plant : PlainPlant) (history : List Event) (image : List (ℕ × Value)) (t : ℕ) (r : PlainReport) (log : PlainLog) → NoReload history → IsReport (system plant history) (event.Scan image t) r → IsJournal plant history log.rows
+pub scan_journal : (plant : PlainPlant) (history : List Event) (image : List (ℕ × Value)) (t : ℕ) (r : PlainReport) (log : PlainLog) → IsReport (system plant history) (event.Scan image t) r → IsJournal plant history log.rows
     → IsJournal plant (history ++ event.Scan image t ∷ []) (after_entries r.moment log (scan_entries r)).rows
-scan_journal plant history image t r log stays report held =
+scan_journal plant history image t r log report held =
     let here = (system plant history).plant in
     let P = IsNamed here in
     let faults = faults_named here r.faults ∙ ap fault_entries report.faults_are in
     let changes = changes_named here r.changes ∙ ap (change_entries here) report.changes_are in
-    journal_on plant history (event.Scan image t) r.moment log (scan_entries r) stays report.moment_is
+    journal_on plant history (event.Scan image t) r.moment log (scan_entries r) report.moment_is
     (map-append (named_entry here) (map fault_entry r.faults) (map change_entry r.changes) ∙ (λ i. faults i ++ changes i))
     (All-append P (map fault_entry r.faults) (map change_entry r.changes) (All-map P fault_entry r.faults report.faults_within) (All-map P change_entry r.changes report.changes_within))
     held
 
 -- by those of an order
-pub order_journal : (plant : PlainPlant) (history : List Event) (console : ℕ) (order : Order) (log : PlainLog) → NoReload history → IsJournal plant history log.rows
+pub order_journal : (plant : PlainPlant) (history : List Event) (console : ℕ) (order : Order) (log : PlainLog) → IsJournal plant history log.rows
     → IsJournal plant (history ++ event.Order console order ∷ []) (after_entries (system plant history).moment log (order_entries console order (ordered (system plant history) console order) (system plant history).alarms)).rows
-order_journal plant history console order log stays held =
+order_journal plant history console order log held =
     let sys = system plant history in
     let done = ordered sys console order in
     let changes = changes_from 0 sys.alarms (after_event sys (event.Order console order)).alarms in
@@ -176,16 +255,27 @@ order_journal plant history console order log stays held =
     let many = system_alarms plant history in
     let few : All (λ (c : ℕ × PlainChange). c.0 < length sys.plant.alarms) changes = numbers_more changes (0 + length sys.alarms) (length sys.plant.alarms) (omega (arith, many)) (changes_within 0 sys.alarms (after_event sys (event.Order console order)).alarms) in
     let P = IsNamed sys.plant in
-    journal_on plant history (event.Order console order) sys.moment log (order_entries console order done sys.alarms) stays refl
-    (ap (λ l. named_order sys.plant console order (refusal_of done) ∷ l) (changes_named sys.plant (one_or_none (changed_by done sys.alarms)) ∙ ap (change_entries sys.plant) (sym are)))
+    journal_on plant history (event.Order console order) sys.moment log (order_entries console order done sys.alarms) refl
+    (ap (λ l. named_order sys.plant console order.verb order.target (refusal_of done) ∷ l) (changes_named sys.plant (one_or_none (changed_by done sys.alarms)) ∙ ap (change_entries sys.plant) (sym are)))
     (All-cons P (entry.Order console order.verb order.target (refusal_of done)) (map change_entry (one_or_none (changed_by done sys.alarms)))
-    (order_named sys.plant sys.alarms sys.faulted sys.moment console order (system_faulted plant history))
+    (order_named sys.plant sys.alarms sys.faulted sys.moment sys.reloads console order (system_faulted plant history))
     (All-map P change_entry (one_or_none (changed_by done sys.alarms)) (subst (All (λ (c : ℕ × PlainChange). c.0 < length sys.plant.alarms)) are few)))
     held
 
+-- by that of a reload
+pub reload_journal : (plant : PlainPlant) (history : List Event) (new : PlainPlant) (kept fresh : ℕ) (log : PlainLog) → TellsReload (system plant history) new kept fresh → IsJournal plant history log.rows
+    → IsJournal plant (history ++ event.Reload new ∷ []) (after_entries (system plant history).moment log (entry.Reload kept fresh ∷ [])).rows
+reload_journal plant history new kept fresh log told held =
+    let here = (system plant history).plant in
+    journal_on plant history (event.Reload new) (system plant history).moment log (entry.Reload kept fresh ∷ []) refl
+    (λ i. ReloadOf (told.kept_is i) (told.fresh_is i) ∷ []) (All-cons (IsNamed here) (entry.Reload kept fresh) [] tt (All-nil (IsNamed here))) held
+
 -- the rows of a history without events
 pub journal_empty : (plant : PlainPlant) → IsJournal plant [] []
-journal_empty plant = record { rows_are = sym (journal_none plant); named = All-nil (λ (row : Row). IsNamed plant row.entry) }
+journal_empty plant = record {
+  rows_are = ap (λ (l : List PlainPlant). named_rows l []) (plants_none plant) ∙ sym (journal_none plant);
+  named = subst (λ (l : List PlainPlant). AreNamed l []) (sym (plants_none plant)) tt;
+}
 
 -- no row is later than the last scan
 each : (P : Entry → Type 0) (xs : List Entry) → ((x : Entry) → P x) → All P xs
@@ -215,10 +305,23 @@ few_order_entries console order done alarms =
     let same = length-map (one_or_none (changed_by done alarms)) change_entry in
     omega (arith, few, same)
 
--- the row of a number is that of the journal
-pub row_at : (plant : PlainPlant) (history : List Event) (rows : List Row) (k : ℕ) (row : Row) → IsJournal plant history rows → slice_get rows k ≡ Some row → slice_get (journal_of plant history) k ≡ Some (named_row plant row)
-row_at plant history rows k row held at =
-    ap (λ l. slice_get l k) (sym held.rows_are) ∙ slice_get-map (named_row plant) rows k ∙ ap (option_map (named_row plant)) at
+-- the row of a number is that of the journal, by the names of its plant
+get_named : (plants : List PlainPlant) (rows : List Row) (k : ℕ) (row : Row) → AreNamed plants rows → slice_get rows k ≡ Some row
+    → (plant : PlainPlant) × (slice_get plants k ≡ Some plant) × (slice_get (named_rows plants rows) k ≡ Some (named_row plant row)) × IsNamed plant row.entry
+get_named [] [] k row all at = absurd (cc (at))
+get_named [] (r ∷ rows) k row all at = absurd all
+get_named (p ∷ plants) [] k row all at = absurd all
+get_named (p ∷ plants) (r ∷ rows) zero row all at =
+    let same : r ≡ row = same_Some r row at in
+    (p, refl, ap (λ (x : Row). Some (named_row p x)) same, subst (λ (x : Row). IsNamed p x.entry) same all.0)
+get_named (p ∷ plants) (r ∷ rows) (suc k) row all at = get_named plants rows k row all.1 at
 
-pub as_many_rows : (plant : PlainPlant) (history : List Event) (rows : List Row) → IsJournal plant history rows → length rows ≡ length (journal_of plant history)
-as_many_rows plant history rows held = sym (length-map rows (named_row plant)) ∙ ap length held.rows_are
+pub row_at : (plant : PlainPlant) (history : List Event) (rows : List Row) (past : List PastPlant) (present : PlainPlant) (k : ℕ) (row : Row) → IsJournal plant history rows → ArePast (row_plants plant history) past present → slice_get rows k ≡ Some row
+    → (slice_get (journal_of plant history) k ≡ Some (named_row (plant_at past present (k + 1)) row)) × IsNamed (plant_at past present (k + 1)) row.entry
+row_at plant history rows past present k row held are at =
+    let got = get_named (row_plants plant history) rows k row held.named at in
+    let found : plant_at past present (k + 1) ≡ got.0 = are.found k got.0 got.1 in
+    (
+      ap (λ l. slice_get l k) (sym held.rows_are) ∙ got.2 ∙ ap (λ (p : PlainPlant). Some (named_row p row)) (sym found),
+      subst (λ (p : PlainPlant). IsNamed p row.entry) (sym found) got.3,
+    )

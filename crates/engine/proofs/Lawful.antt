@@ -3,7 +3,7 @@ use Rattle.std.proofs.Common.{◌≡◌, ℕ, ◌<◌, ◌≤◌, Bool, true, fa
 use Rattle.std.specs.Prelude.{nat_le}
 use Rattle.std.proofs.lemmas.Bool.Decides.{nat_tests}
 use Rattle.alarm_machine.specs.declared.limits.TheConstants.{LAST_MOMENT}
-use Rattle.plant_config.specs.Plants.{PlainPlant}
+use Rattle.plant_config.specs.Plants.{PlainPlant, IsPlant}
 use Rattle.plant_config.specs.Names.{globals_of}
 use Rattle.plant_system.specs.declared.event.TheConstants.{MOST_EVENTS}
 use Rattle.plant_system.specs.Reloads.{numbers_of}
@@ -79,3 +79,12 @@ pub lawful_numbers : (plant : PlainPlant) (history : List Event) → IsLawfulHis
 lawful_numbers plant history lawful =
     let numbers = numbers_of plant.consoles in
     lawful_keeps (λ s. HasNumbers numbers plant.epoch s.plant) (numbers_stay numbers plant.epoch) plant history (refl, refl) lawful
+
+-- after a lawful history the plant keeps the rules of plants
+plant_stays : (s : System) (e : Event) → IsTaken s e → IsPlant s.plant → IsPlant (after_event s e).plant
+plant_stays s (event.Scan image t) taken is = is
+plant_stays s (event.Order console order) taken is = is
+plant_stays s (event.Reload new) taken is = taken.1
+
+pub lawful_plant : (plant : PlainPlant) (history : List Event) → IsPlant plant → IsLawfulHistory plant history → IsPlant (system plant history).plant
+lawful_plant plant history is lawful = lawful_keeps (λ s. IsPlant s.plant) plant_stays plant history is lawful

@@ -3,6 +3,7 @@ mod InRange
 mod Ready
 mod Shown
 mod Journals
+mod Pasts
 pub mod NamedRows
 mod OrderRows
 mod Commits

@@ -33,5 +33,5 @@ entry_same plant (entry.Order console verb target refused) = refl
 entry_same plant (entry.Reload kept fresh) = refl
 
 -- and so is its text
-pub text_same : (plant : PlainPlant) (row : Row) → row_text plant.epoch row (name_of plant row.entry) ≡ named_text plant.epoch (named_row plant row)
-text_same plant row = ap (λ (body : List ℕ). decimal row.number ++ codes " " ++ stamp plant.epoch row.moment ++ codes " " ++ body) (entry_same plant row.entry)
+pub text_same : (epoch : ℕ) (plant : PlainPlant) (row : Row) → row_text epoch row (name_of plant row.entry) ≡ named_text epoch (named_row plant row)
+text_same epoch plant row = ap (λ (body : List ℕ). decimal row.number ++ codes " " ++ stamp epoch row.moment ++ codes " " ++ body) (entry_same plant row.entry)

@@ -1,5 +1,5 @@
 -- The rows that an order adds.
-use Rattle.std.proofs.Common.{◌≡◌, ℕ, zero, suc, ◌+◌, ◌<◌, Bool, true, false, if◌then◌else◌, List, [], ◌∷◌, length, refl, ap, sym, ◌∙◌, subst, arith, Option, Some, None, Ok, Err}
+use Rattle.std.proofs.Common.{◌≡◌, ◌==◌, ℕ, zero, suc, ◌+◌, ◌<◌, Bool, true, false, if◌then◌else◌, List, [], ◌∷◌, length, refl, ap, sym, ◌∙◌, subst, arith, Option, Some, None, Ok, Err}
 use Rattle.std.specs.Prelude.{slice_get, slice_set}
 use Rattle.std.specs.Option.{option_map}
 use Rattle.std.specs.List.{list_any}
@@ -20,7 +20,7 @@ use Rattle.plant_config.specs.Orderers.{has_area}
 use Rattle.operator_orders.specs.declared.order.Order.{Order}
 use Rattle.plant_system.specs.declared.state.Effect.{Effect}
 use Rattle.plant_system.specs.declared.state.Effect.TheVariants as effect
-use Rattle.plant_system.specs.Orders.{is_restart, is_console, order_at, alarm_order, program_order, order_outcome, alarms_by, changed_by}
+use Rattle.plant_system.specs.Orders.{is_restart, is_console, order_at, alarm_order, program_order, order_outcome, unless_old, alarms_by, changed_by}
 use Rattle.alarm_bank.specs.Moves.{change_from, changes_from}
 use Rattle.engine.specs.Journal.{refusal_of, one_or_none, HasTarget, IsNamed}
 
@@ -93,11 +93,17 @@ by_verb : (plant : PlainPlant) (alarms : List PlainAlarm) (faulted : List Bool) 
 by_verb plant alarms faulted last console verb n true is long = program_named plant faulted console verb n (slice_get faulted n) refl long is
 by_verb plant alarms faulted last console verb n false is long = alarm_named plant alarms last console verb n (slice_get plant.alarms n) refl is
 
-by_target : (plant : PlainPlant) (alarms : List PlainAlarm) (faulted : List Bool) (last console : ℕ) (verb : Verb) (target : Option ℕ) (made : ℕ) → length faulted ≡ length (programs_of plant)
-    → IsNamed plant (entry.Order console verb target (refusal_of (order_outcome plant alarms faulted last console (record { verb = verb; target = target; plant = made }))))
-by_target plant alarms faulted last console verb None made long = tt
-by_target plant alarms faulted last console verb (Some n) made long = by_verb plant alarms faulted last console verb n (is_restart verb) refl long
+by_target : (plant : PlainPlant) (alarms : List PlainAlarm) (faulted : List Bool) (last console : ℕ) (verb : Verb) (known : ℕ) (target : Option ℕ) → length faulted ≡ length (programs_of plant)
+    → IsNamed plant (entry.Order console verb target (refusal_of (order_outcome plant alarms faulted last console (record { verb = verb; target = target; plant = known }))))
+by_target plant alarms faulted last console verb known None long = tt
+by_target plant alarms faulted last console verb known (Some n) long = by_verb plant alarms faulted last console verb n (is_restart verb) refl long
 
-pub order_named : (plant : PlainPlant) (alarms : List PlainAlarm) (faulted : List Bool) (last console : ℕ) (order : Order) → length faulted ≡ length (programs_of plant)
-    → IsNamed plant (entry.Order console order.verb order.target (refusal_of (order_outcome plant alarms faulted last console order)))
-order_named plant alarms faulted last console order long = by_target plant alarms faulted last console order.verb order.target order.plant long
+if_known : (plant : PlainPlant) (console : ℕ) (order : Order) (done : Result Effect OrderFault) (known : Bool) → IsNamed plant (entry.Order console order.verb order.target (refusal_of done))
+    → IsNamed plant (entry.Order console order.verb order.target (refusal_of (if known then done else Err fault.OldPlant)))
+if_known plant console order done true named = named
+if_known plant console order done false named = tt
+
+pub order_named : (plant : PlainPlant) (alarms : List PlainAlarm) (faulted : List Bool) (last reloads console : ℕ) (order : Order) → length faulted ≡ length (programs_of plant)
+    → IsNamed plant (entry.Order console order.verb order.target (refusal_of (unless_old reloads order (order_outcome plant alarms faulted last console order))))
+order_named plant alarms faulted last reloads console order long =
+    if_known plant console order (order_outcome plant alarms faulted last console order) (order.plant == reloads) (by_target plant alarms faulted last console order.verb order.plant order.target long)

@@ -1,4 +1,4 @@
--- What an engine holds, by the plant with which it began.
+-- What an engine holds, by the plant that it has now.
 use Rattle.std.proofs.Common.{List, length, ap, sym, ◌∙◌, subst}
 use Rattle.std.proofs.lemmas.List.{length-map}
 use Rattle.alarm_delays.specs.Delays.{PlainDelays, since_of}
@@ -6,24 +6,25 @@ use Rattle.journal_core.specs.declared.row.Row.{Row}
 use Rattle.plant_config.specs.Plants.{PlainPlant}
 use Rattle.event_history.specs.declared.event.Event.{Event}
 use Rattle.plant_system.specs.System.{system}
+use Rattle.engine.specs.declared.past.PastPlant.{PastPlant}
 use Rattle.engine.specs.Engines.{IsEngine}
 use Rattle.plant_system.specs.States.{PlainState}
 use Rattle.plant_system.specs.Steps.{IsReady}
 use Rattle.engine.proofs.InRange.{lawful_in_range}
-use Rattle.plant_system.proofs.Systems.{system_keeps_its_plant, system_scans, kept_alarms, kept_faulted, kept_outputs}
+use Rattle.plant_system.proofs.Systems.{system_scans, kept_alarms, kept_faulted, kept_outputs}
 
 -- an engine has what the parts of an event ask
-pub ready : (plant : PlainPlant) (history : List Event) (rows : List Row) (k : PlainState) → IsEngine plant history rows k → IsReady plant k
-ready plant history rows k is =
-    let sys = system plant history in
-    let holds = lawful_in_range plant history is.plant_is.sound is.lawful in
-    subst (λ (x : PlainPlant). IsReady x k) (system_keeps_its_plant plant history is.stays) (record {
+pub ready : (began plant : PlainPlant) (history : List Event) (rows : List Row) (k : PlainState) (past : List PastPlant) → IsEngine began history rows k plant past → IsReady plant k
+ready began plant history rows k past is =
+    let sys = system began history in
+    let holds = lawful_in_range began history is.plant_is.sound is.lawful in
+    subst (λ (x : PlainPlant). IsReady x k) is.present (record {
       sound = holds.0;
-      programs = kept_faulted plant history k is.state_is;
-      alarms = kept_alarms plant history k is.state_is;
+      programs = kept_faulted began history k is.state_is;
+      alarms = kept_alarms began history k is.state_is;
       watches = is.state_is.watches_are;
       delays = ap (λ (d : PlainDelays). d.delays) is.state_is.delays_are;
-      since = ap (λ (d : PlainDelays). length d.since) is.state_is.delays_are ∙ length-map sys.scans since_of ∙ system_scans plant history;
+      since = ap (λ (d : PlainDelays). length d.since) is.state_is.delays_are ∙ length-map sys.scans since_of ∙ system_scans began history;
       last = ap (λ (d : PlainDelays). d.last) is.state_is.delays_are ∙ sym is.state_is.moment_is;
       follow = is.state_is.follow;
       outputs = kept_outputs sys k is.state_is;

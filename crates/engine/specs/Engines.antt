@@ -1,5 +1,5 @@
 -- What an engine shows and keeps, when something made ready fits it, and what a scan that is taken does to it.
-use Rattle.std.specs.Prelude.{◌≡◌, ℕ, ◌+◌, ◌≤◌, List, [], ◌∷◌, ◌++◌, length, All, Ok, refl}
+use Rattle.std.specs.Prelude.{◌≡◌, ℕ, ◌+◌, ◌≤◌, ◌⊎◌, List, [], ◌∷◌, ◌++◌, length, All, Ok, Err, refl}
 use Rattle.std.specs.Coded.{Coded, code_by, coded×, coded_list, coded_ℕ}
 use Rattle.plant_types.specs.Pairs.{PlainPair}
 use Rattle.plant_types.specs.declared.values.Value.{Value}
@@ -10,18 +10,23 @@ use Rattle.alarm_machine.specs.declared.limits.TheConstants.{LAST_MOMENT}
 use Rattle.event_history.specs.declared.event.Event.{Event}
 use Rattle.event_history.specs.declared.event.Event.TheVariants as event
 use Rattle.event_history.specs.contracts.event.Event as event_row
-use Rattle.event_history.specs.Reloads.{NoReload}
 use Rattle.plant_system.specs.Reports.{PlainReport}
 use Rattle.plant_system.specs.States.{PlainState, PlainPrepared, PlainPreparedOrder, IsState, IsReport, after_effect}
-use Rattle.plant_system.specs.System.{System, system, after_event, scan_event, ordered, reply_to}
+use Rattle.plant_system.specs.System.{System, system, after_event, scan_event, reload_event, ordered, reply_to}
+use Rattle.plant_system.specs.declared.event.EngineFault.{EngineFault}
+use Rattle.plant_system.specs.declared.event.EngineFault.TheVariants as refusal
 use Rattle.engine.specs.Lawful.{IsTaken, IsLawfulHistory}
-use Rattle.engine.specs.Journal.{IsJournal}
+use Rattle.plant_system.specs.Reloads.{fresh_count, kept_count, kept_numbers}
+use Rattle.engine.specs.declared.past.PastPlant.{PastPlant}
+use Rattle.engine.specs.Past.{ArePast}
+use Rattle.engine.specs.Journal.{IsJournal, row_plants}
 
--- the plant with which it began, the events so far, and for how many more rows of the journal there is room
+-- the plant with which it began, the events so far, and for how many more rows of the journal and for how many more reloads there is room
 pub record PlainEngine : Type 0 where
   pub plant : PlainPlant
   pub history : List Event
   pub row_room : ℕ
+  pub reload_room : ℕ
 
 -- the state of an engine's system
 abbrev pub state_of : PlainEngine → System
@@ -30,8 +35,8 @@ state_of e = system e.plant e.history
 -- a code of what an engine shows
 abbrev pub engine_code : Coded PlainEngine
 engine_code =
-    code_by (PlainPlant × (List Event × ℕ)) (coded× plant_code (coded× (coded_list event_row.the_row.coded) coded_ℕ))
-    (λ e. (e.plant, (e.history, e.row_room))) (λ p. record { plant = p.0; history = p.1.0; row_room = p.1.1 }) (λ _. refl)
+    code_by (PlainPlant × (List Event × (ℕ × ℕ))) (coded× plant_code (coded× (coded_list event_row.the_row.coded) (coded× coded_ℕ coded_ℕ)))
+    (λ e. (e.plant, (e.history, (e.row_room, e.reload_room)))) (λ p. record { plant = p.0; history = p.1.0; row_room = p.1.1.0; reload_room = p.1.1.1 }) (λ _. refl)
 
 -- a scan was taken: its event is the last of the history, and the report is what it did
 pub record TakesScan (old new : PlainEngine) (pairs : List PlainPair) (t : ℕ) (r : PlainReport) : Type 0 where
@@ -63,11 +68,36 @@ pub record FitsOrder (e : PlainEngine) (p : PlainPreparedOrder) : Type 0 where
   pub taken : IsTaken (state_of e) (event.Order p.console p.order)
   pub row_room : 2 ≤ e.row_room
 
--- what an engine keeps is what the system after its history has, what holds of each plant holds of this one, the history is lawful and has no reload, and the rows are its journal, none of them later than the last scan
-pub record IsEngine (plant : PlainPlant) (history : List Event) (rows : List Row) (k : PlainState) : Type 0 where
-  pub state_is : IsState (system plant history) k
-  pub plant_is : IsPlant plant
-  pub lawful : IsLawfulHistory plant history
-  pub stays : NoReload history
-  pub journal : IsJournal plant history rows
+-- a reload that was made ready: the new plant, what is kept after it, how many alarms go on, and how many begin anew
+pub record PlainPreparedReload : Type 0 where
+  pub plant : PlainPlant
+  pub state : PlainState
+  pub kept : ℕ
+  pub fresh : ℕ
+
+-- what is told of a reload: how many alarms keep their states, and how many are new
+pub record TellsReload (sys : System) (new : PlainPlant) (kept fresh : ℕ) : Type 0 where
+  pub kept_is : kept ≡ kept_count (kept_numbers sys.plant new)
+  pub fresh_is : fresh ≡ fresh_count (kept_numbers sys.plant new)
+
+-- a reload is refused for want of memory, or as it is due
+abbrev pub IsReloadRefusal : System → PlainPlant → EngineFault → Type 0
+IsReloadRefusal sys new fault = (fault ≡ refusal.Memory) ⊎ (reload_event sys new ≡ Err fault)
+
+-- an engine may commit a reload that was made ready: it is what the reload makes of this engine's state, the reload was taken there, and there is room for its row and for the plant whose place it takes
+pub record FitsReload (e : PlainEngine) (p : PlainPreparedReload) : Type 0 where
+  pub state_is : IsState (after_event (state_of e) (event.Reload p.plant)) p.state
+  pub told : TellsReload (state_of e) p.plant p.kept p.fresh
+  pub taken : IsTaken (state_of e) (event.Reload p.plant)
+  pub row_room : 1 ≤ e.row_room
+  pub reload_room : 1 ≤ e.reload_room
+
+-- what an engine keeps is what the system after its history has, its plant is the system's, the history is lawful and the plant with which it began keeps the rules of plants, the rows are the journal, none of them later than the last scan, and the plant of each is found
+pub record IsEngine (began : PlainPlant) (history : List Event) (rows : List Row) (k : PlainState) (plant : PlainPlant) (past : List PastPlant) : Type 0 where
+  pub state_is : IsState (system began history) k
+  pub present : (system began history).plant ≡ plant
+  pub plant_is : IsPlant began
+  pub lawful : IsLawfulHistory began history
+  pub journal : IsJournal began history rows
+  pub past : ArePast (row_plants began history) past plant
   pub until : All (λ row. row.moment ≤ k.moment) rows

@@ -1,5 +1,5 @@
 -- The journal of a history: the rows that its events add, by names.
-use Rattle.std.specs.Prelude.{◌≡◌, ℕ, ◌+◌, ◌-◌, ◌<◌, slice_get, List, [], ◌∷◌, ◌++◌, length, map, if◌then◌else◌, Option, Some, None, Result, Ok, Err, All, codes}
+use Rattle.std.specs.Prelude.{◌≡◌, ℕ, ◌+◌, ◌-◌, ◌<◌, slice_get, List, [], ◌∷◌, ◌++◌, length, map, replicate, if◌then◌else◌, Option, Some, None, Result, Ok, Err, codes}
 use Rattle.std.specs.Option.{option_map}
 use Rattle.std.specs.Fmt.{decimal}
 use Rattle.stamps.specs.Stamps.{stamp}
@@ -56,14 +56,14 @@ abbrev pub named_change : PlainPlant → (ℕ × PlainChange) → NamedEntry
 named_change plant change = ChangeOf (tag_of plant change.0) change.1
 
 -- an order of a console, by the name of its target
-abbrev pub named_order : PlainPlant → ℕ → Order → Option OrderFault → NamedEntry
-named_order plant console order refused = OrderBy console order.verb (order_target plant order.verb order.target refused) refused
+abbrev pub named_order : PlainPlant → ℕ → Verb → Option ℕ → Option OrderFault → NamedEntry
+named_order plant console verb target refused = OrderBy console verb (order_target plant verb target refused) refused
 
 -- an entry by the names of a plant: a fault's place is the spot that it has in the source
 abbrev pub named_entry : PlainPlant → Entry → NamedEntry
 named_entry plant (entry.Fault place trap) = FaultAt (place_spot plant.source place) trap
 named_entry plant (entry.Alarm alarm change) = named_change plant (alarm, change)
-named_entry plant (entry.Order console verb target refused) = OrderBy console verb (order_target plant verb target refused) refused
+named_entry plant (entry.Order console verb target refused) = named_order plant console verb target refused
 named_entry plant (entry.Reload kept fresh) = ReloadOf kept fresh
 
 -- a row by the names of a plant
@@ -111,7 +111,7 @@ reload_entry old new = let kept = kept_numbers old new in ReloadOf (kept_count k
 -- the entries that an event adds, by the names of the plant that the system has at that time: a scan its faults in program order, an order itself with its reply; then the changes of alarms' codes in the order of the database. A reload adds itself alone
 abbrev pub added_entries : System → Event → List NamedEntry
 added_entries sys (event.Scan image t) = fault_entries (faults_of sys (event.Scan image t)) ++ change_entries sys.plant (changes_of sys (event.Scan image t))
-added_entries sys (event.Order console order) = named_order sys.plant console order (refusal_of (ordered sys console order)) ∷ change_entries sys.plant (changes_of sys (event.Order console order))
+added_entries sys (event.Order console order) = named_order sys.plant console order.verb order.target (refusal_of (ordered sys console order)) ∷ change_entries sys.plant (changes_of sys (event.Order console order))
 added_entries sys (event.Reload new) = reload_entry sys.plant new ∷ []
 
 -- the entries that a scan's report has, with the places of its faults
@@ -153,10 +153,32 @@ IsNamed plant (entry.Order console verb target (Some fault.OldPlant)) = Unit {0}
 IsNamed plant (entry.Order console verb target refused) = (n : ℕ) × (target ≡ Some n) × HasTarget plant verb n
 IsNamed plant (entry.Reload kept fresh) = Unit {0}
 
--- the rows of a log, by the names of the plant, are the journal of a history, and the plant has what each names
+-- for each row that events add from a state on, the plant that the system had when it was added
+abbrev pub plants_from : System → List Event → List PlainPlant
+plants_from sys [] = []
+plants_from sys (e ∷ events) = replicate (length (added_entries sys e)) sys.plant ++ plants_from (after_event sys e) events
+
+-- for each row of a journal the plant whose names it has
+unfoldable pub row_plants : PlainPlant → List Event → List PlainPlant
+row_plants plant history = plants_from (opening_system plant) history
+
+-- rows by the names of plants, one plant for each
+abbrev pub named_rows : List PlainPlant → List Row → List NamedRow
+named_rows [] rows = []
+named_rows (plant ∷ plants) [] = []
+named_rows (plant ∷ plants) (row ∷ rows) = named_row plant row ∷ named_rows plants rows
+
+-- each plant has what its row names
+abbrev pub AreNamed : List PlainPlant → List Row → Type 0
+AreNamed [] [] = Unit {0}
+AreNamed [] (row ∷ rows) = ⊥
+AreNamed (plant ∷ plants) [] = ⊥
+AreNamed (plant ∷ plants) (row ∷ rows) = IsNamed plant row.entry × AreNamed plants rows
+
+-- the rows of a log, each by the names of the plant that the system had when it was added, are the journal of a history, and that plant has what the row names
 pub record IsJournal (plant : PlainPlant) (history : List Event) (rows : List Row) : Type 0 where
-  pub rows_are : map (named_row plant) rows ≡ journal_of plant history
-  pub named : All (λ row. IsNamed plant row.entry) rows
+  pub rows_are : named_rows (row_plants plant history) rows ≡ journal_of plant history
+  pub named : AreNamed (row_plants plant history) rows
 
 -- the name with which an entry of a plant is printed: a fault's path, an alarm's tag, an order's target; a reload has none
 abbrev pub name_of : PlainPlant → Entry → List ℕ

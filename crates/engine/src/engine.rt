@@ -6,26 +6,27 @@ ghost use Rattle.alarm_machine.specs.declared.limits.TheConstants.{LAST_MOMENT};
 ghost use Rattle.plant_system.specs.Faults.{faults_by, IsNoCrews};
 ghost use Rattle.plant_system.specs.Image.{IsDue};
 ghost use Rattle.plant_system.specs.Orders.{restart_of};
-ghost use Rattle.event_history.specs.Reloads.{NoReload};
 ghost use Rattle.plant_system.specs.System.{scan_event, order_event, reload_event, reply_to, outputs_of, summary_of};
 ghost use Rattle.engine.specs.Lawful.{IsLawfulHistory};
 ghost use Rattle.engine.specs.Journal.{IsJournal, IsLine, added_entries, journal_of};
-ghost use Rattle.engine.specs.Engines.{state_of, Fits, FitsOrder, IsEngine, LeavesState, TakesScan};
+ghost use Rattle.engine.specs.Engines.{state_of, Fits, FitsOrder, FitsReload, IsEngine, IsReloadRefusal, LeavesState, TakesScan, TellsReload};
 ghost use Rattle.plant_system.specs.States.{IsReport, delays_in};
 
 use crate::journal::{line_text, push_order, push_scan, row_count};
+use crate::past::PastPlants;
+use crate::reload::{PreparedReload, Reloaded, ReloadRefused};
 use alarm_bank::Summary;
 use alarm_delays::Delays;
 use alarm_machine::{AlarmState, Verb};
 use crew::Crew;
 use event_history::{Event, History};
-use journal_core::Log;
+use journal_core::{Entry, Log};
 use operator_orders::Order;
 use plant_config::Plant;
 use plant_system::{
-    Before, EngineFault, MOST_EVENTS, Prepared, PreparedOrder, ReadyScan, Reply, Report, Room,
-    RunRoom, State, alarm_state, apply, apply_scan, empty_report, may_reload, opening_state,
-    prepared_order, prepared_scan,
+    Before, EngineFault, MOST_EVENTS, Prepared, PreparedOrder, ReadyReload, ReadyScan, Reply,
+    Report, Room, RunRoom, State, alarm_state, apply, apply_scan, empty_report, may_reload,
+    opening_state, prepared_order, prepared_scan, ready_reload,
 };
 use plant_types::{Items, Pair, Value};
 use scan_logic::{Levelled, Workspace, plan_levels};
@@ -33,10 +34,16 @@ use slice_store::{Done, Job, Start};
 use std::alloc::{AllocError, Global};
 use std::marker::Model;
 use std::mem::replace;
+use trace::Shown;
 
 /// A plant, and what the events so far made of it.
 pub struct Engine {
+    /// The plant with which it began, for contracts alone.
+    began: Shown<Plant>,
+    /// The plant now.
     plant: Plant,
+    /// Those whose place another one took.
+    past: PastPlants,
     history: History,
     log: Log,
     state: State,
@@ -47,7 +54,9 @@ pub struct Engine {
 impl Drop for Engine {
     fn drop(self) {
         let Engine {
+            began: _,
             plant: _,
+            past: _,
             history: _,
             log: _,
             state: _,
@@ -66,14 +75,14 @@ impl Model for Engine {
 
     ghost coded = { engine_code };
 
-    ghost view = { λ e. record { plant = e.plant; history = e.history; row_room = e.log.room } };
+    ghost view = { λ e. record { plant = e.began; history = e.history; row_room = e.log.room; reload_room = e.past.room } };
 
-    ghost invariant = { λ e. IsEngine e.plant e.history e.log.rows e.state × IfSome e.levels (AreLevelsOf e.plant.source) };
+    ghost invariant = { λ e. IsEngine e.began e.history e.log.rows e.state e.plant e.past.plants × IfSome e.levels (AreLevelsOf e.plant.source) };
 }
 
 /// The state before the first event, and memory for scans. Fails if allocation fails.
 fn opening(alloc: Global, plant: &Plant) -> Result<(State, Room), AllocError>
-    ensures { IfOk result (λ made. IsEngine plant.now [] [] made.0) }
+    ensures { IfOk result (λ made. IsEngine plant.now [] [] made.0 plant.now []) }
 {
     let state = opening_state(alloc, plant)?;
     let run = RunRoom {
@@ -114,7 +123,9 @@ impl Engine {
             return Err(AllocError);
         };
         Ok(Engine {
+            began: Shown::of(&plant),
             plant,
+            past: PastPlants::new(alloc),
             history: History::new(),
             log: Log::new(alloc),
             state,
@@ -159,6 +170,13 @@ impl Engine {
         &self.state.delays
     }
 
+    /// How many reloads there were. An order is for the plant after so many.
+    pub fn reloads(&self) -> u32
+        ensures { result ≡ (state_of self.now).reloads }
+    {
+        self.state.reloads
+    }
+
     /// The moment of the last scan in milliseconds, 0 before the first.
     pub fn moment(&self) -> u64
         ensures moment { result ≡ (state_of self.now).moment }
@@ -191,7 +209,8 @@ impl Engine {
         ensures { IfOk result (λ text. IsLine self.now.plant.epoch (journal_of self.now.plant self.now.history) number (string_bytes text)) }
     {
         let row = self.log.row(number);
-        line_text(alloc, &self.plant, &row)
+        let plant = self.past.plant_at(&self.plant, number);
+        line_text(alloc, self.plant.epoch(), plant, &row)
     }
 
     /// Makes what a crew of several needs to run the programs: the levels in which they may run together. The first scan by such a crew makes it
@@ -298,14 +317,6 @@ impl Engine {
         let _kept = &self.state;
     }
 
-    /// A law, which does nothing: no event of an engine is a reload, so its plant is the one with which it began.
-    pub fn keeps_its_plant(&self)
-        ensures stays { NoReload self.now.history }
-        ensures plant { (state_of self.now).plant ≡ self.now.plant }
-    {
-        let _kept = &self.state;
-    }
-
     /// Tells whether a plant may take the place of the present one, and if not, why. Nothing changes.
     ///
     /// The refusals, in the order in which they are tested: `ReloadConsoles` (E7) where the consoles' numbers, in their order, aren't those of the
@@ -315,6 +326,79 @@ impl Engine {
         ensures err { IfErr result (λ e. reload_event (state_of self.now) plant.now ≡ Err e) }
     {
         may_reload(&self.plant, self.history.len(), plant)
+    }
+
+    /// Makes what a reload leaves of the state, and room for its row and for the plant whose place it takes, or returns why it is refused.
+    fn ready_reload(&mut self, alloc: Global, plant: &Plant) -> Result<ReadyReload, EngineFault>
+        ensures plant { self.new.plant ≡ self.old.plant }
+        ensures history { self.new.history ≡ self.old.history }
+        ensures row_room { self.old.row_room ≤ self.new.row_room }
+        ensures reload_room { self.old.reload_room ≤ self.new.reload_room }
+        ensures ok { IfOk result (λ r. FitsReload self.new (record { plant = plant.now; state = r.state; kept = r.kept; fresh = r.fresh })) }
+        ensures err { IfErr result (IsReloadRefusal (state_of self.old) plant.now) }
+    {
+        self.may_reload(plant)?;
+        self.log.reserve(1)?;
+        self.past.reserve()?;
+        Ok(ready_reload(alloc, &self.plant, &self.state, plant)?)
+    }
+
+    /// Makes ready that a plant takes the place of the present one, or returns the plant with why that is refused. It changes neither plant nor history.
+    ///
+    /// The refusals, in the order in which they are tested: `ReloadConsoles` (E7) where the consoles' numbers, in their order, aren't those of the
+    /// present plant, `ReloadEpoch` (E8) where the epoch is another, `HistoryFull` (E6) at 1,000,000 events, and `Memory` if allocation fails.
+    pub fn prepare_reload(
+        &mut self,
+        alloc: Global,
+        plant: Plant,
+    ) -> Result<PreparedReload, ReloadRefused>
+        ensures plant { self.new.plant ≡ self.old.plant }
+        ensures history { self.new.history ≡ self.old.history }
+        ensures row_room { self.old.row_room ≤ self.new.row_room }
+        ensures reload_room { self.old.reload_room ≤ self.new.reload_room }
+        ensures ok { IfOk result (λ p. FitsReload self.new p × (p.plant ≡ plant)) }
+        ensures err { IfErr result (λ r. IsReloadRefusal (state_of self.old) plant r.fault × (r.plant ≡ plant)) }
+    {
+        match self.ready_reload(alloc, &plant) {
+            Ok(ready) => Ok(PreparedReload { plant, ready }),
+            Err(fault) => Err(ReloadRefused { plant, fault }),
+        }
+    }
+
+    /// Adds a reload that was made ready to the history, puts its plant in the place of the present one, and returns how many alarms kept their states,
+    /// and how many are new. Its row in the journal bears the last moment. The scan after it asks all alarms. It allocates nothing and can't fail.
+    pub fn commit_reload(&mut self, prepared: PreparedReload) -> Reloaded
+        requires { FitsReload self.old prepared }
+        ensures plant { self.new.plant ≡ self.old.plant }
+        ensures history { self.new.history ≡ self.old.history ++ Event.Reload prepared.plant ∷ [] }
+        ensures row_room { self.new.row_room + 1 ≡ self.old.row_room }
+        ensures told { TellsReload (state_of self.old) prepared.plant result.kept result.fresh }
+    {
+        let PreparedReload { plant, ready } = prepared;
+        let ReadyReload { state, kept, fresh } = ready;
+        let moment = self.moment();
+        self.log.push(moment, Entry::Reload { kept, fresh });
+        self.history.push(&Event::Reload(Shown::of(&plant)));
+        let last = self.log.len();
+        let old = replace(&mut self.plant, plant);
+        self.past.push(old, last);
+        self.state = state;
+        self.levels = None;
+        Reloaded { kept, fresh }
+    }
+
+    /// Makes a reload ready and commits it. The refusals are those of `prepare_reload`.
+    pub fn reload(&mut self, alloc: Global, plant: Plant) -> Result<Reloaded, ReloadRefused>
+        ensures plant { self.new.plant ≡ self.old.plant }
+        ensures ok { OnOk result (self.new.history ≡ self.old.history ++ Event.Reload plant ∷ []) }
+        ensures allowed { OnOk result (reload_event (state_of self.old) plant ≡ Ok (Event.Reload plant)) }
+        ensures told { IfOk result (λ r. TellsReload (state_of self.old) plant r.kept r.fresh) }
+        ensures err { IfErr result (λ r. IsReloadRefusal (state_of self.old) plant r.fault × (r.plant ≡ plant)) }
+        ensures kept { OnErr result (self.new.history ≡ self.old.history) }
+        ensures row_room { OnErr result (self.old.row_room ≤ self.new.row_room) }
+    {
+        let prepared = self.prepare_reload(alloc, plant)?;
+        Ok(self.commit_reload(prepared))
     }
 
     /// Gives a report back, so that the next scan's lists take its memory and none of their own. The report is lost; the engine stays as it is.
@@ -350,7 +434,7 @@ impl Engine {
     }
 
     /// Adds an order that was made ready to the history, does it, and returns the reply: the change of the alarm's code if there is one,
-    /// or the refusal (O1 to O5). The order has a row in the journal, and so has that change. A refused order is in the history too, and
+    /// or the refusal (O1 to O6). The order has a row in the journal, and so has that change. A refused order is in the history too, and
     /// changes no alarm and no program. It allocates nothing and can't fail.
     pub fn commit_order(&mut self, prepared: PreparedOrder) -> Reply
         requires { FitsOrder self.old prepared }
@@ -410,7 +494,7 @@ impl Engine {
     /// Gives the order to restart the program of a number, from 0; `None` is for a program that isn't there. The program runs again from
     /// the next scan on, and no variable changes.
     ///
-    /// The replies are `Done(None)`, or in the order in which they are tested: O1 for no such program, O2 for a console that isn't
+    /// The order is for the present plant. The replies are `Done(None)`, or in the order in which they are tested: O1 for no such program, O2 for a console that isn't
     /// listed, O5 for a program that isn't faulted. The refusals are those of `prepare_order`.
     pub fn restart(
         &mut self,
@@ -419,14 +503,15 @@ impl Engine {
         program: Option<u32>,
     ) -> Result<Reply, EngineFault>
         ensures plant { self.new.plant ≡ self.old.plant }
-        ensures ok { OnOk result (self.new.history ≡ self.old.history ++ Event.Order console (restart_of program) ∷ []) }
-        ensures allowed { OnOk result (order_event (state_of self.old) console (restart_of program) ≡ Ok (Event.Order console (restart_of program))) }
-        ensures reply { IfOk result (λ r. r ≡ reply_to (state_of self.old) console (restart_of program)) }
-        ensures err { IfErr result (λ e. IsDue e (order_event (state_of self.old) console (restart_of program))) }
+        ensures ok { OnOk result (self.new.history ≡ self.old.history ++ Event.Order console (restart_of program (state_of self.old).reloads) ∷ []) }
+        ensures allowed { OnOk result (order_event (state_of self.old) console (restart_of program (state_of self.old).reloads) ≡ Ok (Event.Order console (restart_of program (state_of self.old).reloads))) }
+        ensures reply { IfOk result (λ r. r ≡ reply_to (state_of self.old) console (restart_of program (state_of self.old).reloads)) }
+        ensures err { IfErr result (λ e. IsDue e (order_event (state_of self.old) console (restart_of program (state_of self.old).reloads))) }
         ensures no_crew { IsNoCrews result }
         ensures kept { OnErr result (self.new.history ≡ self.old.history) }
         ensures row_room { OnErr result (self.old.row_room ≤ self.new.row_room) }
     {
-        self.order(alloc, console, Order::of(Verb::Restart, program, 0))
+        let plant = self.reloads();
+        self.order(alloc, console, Order::of(Verb::Restart, program, plant))
     }
 }

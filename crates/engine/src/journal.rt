@@ -13,6 +13,7 @@ use journal_core::{Entry, Log, Row, row_text};
 use operator_orders::Order;
 use plant_config::Plant;
 use plant_system::{Effect, Report, State};
+use stamps::Epoch;
 use std::alloc::{AllocError, Global};
 
 /// Why an order is refused, if it is.
@@ -112,13 +113,17 @@ fn order_name(
     }
 }
 
-/// The text of a row, with the name that it bears. Fails if allocation fails.
-pub fn line_text(alloc: Global, plant: &Plant, row: &Row) -> Result<String, AllocError>
+/// The text of a row, after an epoch, with the name that it has in a plant. Fails if allocation fails.
+pub fn line_text(
+    alloc: Global,
+    epoch: &Epoch,
+    plant: &Plant,
+    row: &Row,
+) -> Result<String, AllocError>
     requires named { IsNamed plant.now row.now.entry }
     requires range { row.now.moment ≤ LAST_MOMENT }
-    ensures { IfOk result (λ text. string_bytes text ≡ row_text plant.now.epoch row.now (name_of plant.now row.now.entry)) }
+    ensures { IfOk result (λ text. string_bytes text ≡ row_text epoch.now row.now (name_of plant.now row.now.entry)) }
 {
-    let epoch = plant.epoch();
     match row.entry {
         Entry::Fault(place, _) => {
             let path = plant.body_path(alloc, place.path)?;

@@ -1,7 +1,6 @@
-//! The engine of a plant: one event, a scan or an order, is one step of the system. A reload is an event of the system too, but no engine makes one
-//! yet, and its type keeps that its history has none.
+//! The engine of a plant: one event, a scan, an order or a reload, is one step of the system.
 //!
-//! Contracts see an engine as its plant, its history, and its room for more rows of the journal. All else that it keeps is what the system, a
+//! Contracts see an engine as the plant with which it began, its history, and its room for more rows of the journal and more reloads. All else that it keeps is what the system, a
 //! fold over that history, has, and the journal, the rows that its events added; of the events themselves it keeps the number alone. An event is
 //! first made ready, which may be refused and changes nothing but the room, and then committed, which allocates nothing and can't fail.
 //!
@@ -11,6 +10,8 @@
 mod engine;
 mod journal;
 mod laws;
+mod past;
+mod reload;
 
 pub use alarm_bank::Summary;
 pub use alarm_machine::{AlarmState, Change, Code, OrderFault, Verb};
@@ -26,6 +27,7 @@ pub use operator_orders::Order;
 pub use plant_config::{AlarmRow, ConfigFault, Files, Limit, Plant, Variable};
 pub use plant_file::Console;
 pub use plant_system::{EngineFault, Prepared, PreparedOrder, Reply, Report};
+pub use reload::{PreparedReload, Reloaded, ReloadRefused};
 pub use plant_types::{Given, Items, Kind, Pair, Place, Region, Text, Trap, Value};
 pub use slice_store::{Done, Job, Start};
 pub use stamps::Epoch;

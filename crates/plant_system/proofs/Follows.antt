@@ -1,5 +1,5 @@
 -- An order keeps the condition and the suppression of each alarm's last scan, so the alarms go on following the cells.
-use Rattle.std.proofs.Common.{◌≡◌, ℕ, ℤ, Bool, true, false, if◌then◌else◌, List, map, Option, Some, None, Ok, Err, refl, ap, sym, ◌∙◌}
+use Rattle.std.proofs.Common.{◌≡◌, ◌==◌, ℕ, ℤ, Bool, true, false, if◌then◌else◌, List, map, Option, Some, None, Ok, Err, refl, ap, sym, ◌∙◌}
 use Rattle.std.specs.Prelude.{slice_get}
 use Rattle.std.specs.List.{list_any}
 use Rattle.std.specs.Option.{option_map}
@@ -20,7 +20,7 @@ use Rattle.plant_config.specs.Orderers.{has_area}
 use Rattle.operator_orders.specs.declared.order.Order.{Order}
 use Rattle.plant_system.specs.declared.state.Effect.{Effect}
 use Rattle.plant_system.specs.declared.state.Effect.TheVariants as effect
-use Rattle.plant_system.specs.Orders.{is_restart, is_console, alarm_effect, order_at, alarm_order, program_order, order_outcome, alarms_by}
+use Rattle.plant_system.specs.Orders.{is_restart, is_console, alarm_effect, order_at, alarm_order, program_order, order_outcome, unless_old, alarms_by}
 
 -- what is told of an alarm by its last condition or suppression is told again after an order
 abbrev Keeps : (PlainAlarm → Bool) → List PlainAlarm → Result Effect OrderFault → Type 0
@@ -62,13 +62,19 @@ by_verb : (f : PlainAlarm → Bool) → IgnoresState f → (plant : PlainPlant) 
 by_verb f ignores plant alarms faulted last console verb n true = by_flag f plant alarms console n (slice_get faulted n)
 by_verb f ignores plant alarms faulted last console verb n false = by_row f ignores plant alarms last console verb n (slice_get plant.alarms n)
 
-by_target : (f : PlainAlarm → Bool) → IgnoresState f → (plant : PlainPlant) (alarms : List PlainAlarm) (faulted : List Bool) (last console : ℕ) (verb : Verb) (target : Option ℕ) (made : ℕ)
-    → Keeps f alarms (order_outcome plant alarms faulted last console (record { verb = verb; target = target; plant = made }))
-by_target f ignores plant alarms faulted last console verb None made = refl
-by_target f ignores plant alarms faulted last console verb (Some n) made = by_verb f ignores plant alarms faulted last console verb n (is_restart verb)
+by_target : (f : PlainAlarm → Bool) → IgnoresState f → (plant : PlainPlant) (alarms : List PlainAlarm) (faulted : List Bool) (last console : ℕ) (verb : Verb) (known : ℕ) (target : Option ℕ)
+    → Keeps f alarms (order_outcome plant alarms faulted last console (record { verb = verb; target = target; plant = known }))
+by_target f ignores plant alarms faulted last console verb known None = refl
+by_target f ignores plant alarms faulted last console verb known (Some n) = by_verb f ignores plant alarms faulted last console verb n (is_restart verb)
 
-order_keeps : (f : PlainAlarm → Bool) → IgnoresState f → (plant : PlainPlant) (alarms : List PlainAlarm) (faulted : List Bool) (last console : ℕ) (order : Order) → Keeps f alarms (order_outcome plant alarms faulted last console order)
-order_keeps f ignores plant alarms faulted last console order = by_target f ignores plant alarms faulted last console order.verb order.target order.plant
+if_known : (f : PlainAlarm → Bool) (alarms : List PlainAlarm) (done : Result Effect OrderFault) (known : Bool) → Keeps f alarms done → Keeps f alarms (if known then done else Err fault.OldPlant)
+if_known f alarms done true keeps = keeps
+if_known f alarms done false keeps = refl
+
+order_keeps : (f : PlainAlarm → Bool) → IgnoresState f → (plant : PlainPlant) (alarms : List PlainAlarm) (faulted : List Bool) (last reloads console : ℕ) (order : Order)
+    → Keeps f alarms (unless_old reloads order (order_outcome plant alarms faulted last console order))
+order_keeps f ignores plant alarms faulted last reloads console order =
+    if_known f alarms (order_outcome plant alarms faulted last console order) (order.plant == reloads) (by_target f ignores plant alarms faulted last console order.verb order.plant order.target)
 
 -- alarms with the same last conditions follow the delays alike
 follows_same : (d : PlainDelays) (xs ys : List PlainAlarm) → map (λ (a : PlainAlarm). a.condition) xs ≡ map (λ (a : PlainAlarm). a.condition) ys → Follows d ys → Follows d xs
@@ -84,10 +90,10 @@ follows_same d xs ys same follows n a delay r at d_at r_at = go (slice_get ys n)
         sym (same_Some b.condition a.condition is) ∙ follows n b delay r there d_at r_at
 
 -- the alarms that followed follow after an order
-pub follow_order : (now : ℕ → ℤ) (watches : List Watch) (d : PlainDelays) (plant : PlainPlant) (alarms : List PlainAlarm) (faulted : List Bool) (last console : ℕ) (order : Order) (done : Result Effect OrderFault)
-    → done ≡ order_outcome plant alarms faulted last console order → Follow now watches d alarms → Follow now watches d (alarms_by done alarms)
-follow_order now watches d plant alarms faulted last console order done is follow = record {
+pub follow_order : (now : ℕ → ℤ) (watches : List Watch) (d : PlainDelays) (plant : PlainPlant) (alarms : List PlainAlarm) (faulted : List Bool) (last reloads console : ℕ) (order : Order) (done : Result Effect OrderFault)
+    → done ≡ unless_old reloads order (order_outcome plant alarms faulted last console order) → Follow now watches d alarms → Follow now watches d (alarms_by done alarms)
+follow_order now watches d plant alarms faulted last reloads console order done is follow = record {
   conditions = follow.conditions;
-  suppressions = ap (λ x. map (λ (a : PlainAlarm). a.suppressed) (alarms_by x alarms)) is ∙ order_keeps (λ a. a.suppressed) (λ a s. refl) plant alarms faulted last console order ∙ follow.suppressions;
-  counted = follows_same d (alarms_by done alarms) alarms (ap (λ x. map (λ (a : PlainAlarm). a.condition) (alarms_by x alarms)) is ∙ order_keeps (λ a. a.condition) (λ a s. refl) plant alarms faulted last console order) follow.counted;
+  suppressions = ap (λ x. map (λ (a : PlainAlarm). a.suppressed) (alarms_by x alarms)) is ∙ order_keeps (λ a. a.suppressed) (λ a s. refl) plant alarms faulted last reloads console order ∙ follow.suppressions;
+  counted = follows_same d (alarms_by done alarms) alarms (ap (λ x. map (λ (a : PlainAlarm). a.condition) (alarms_by x alarms)) is ∙ order_keeps (λ a. a.condition) (λ a s. refl) plant alarms faulted last reloads console order) follow.counted;
 }

@@ -2,6 +2,7 @@ mod AlarmExamples
 pub mod CellWorlds
 pub mod Images
 pub mod OrderLaws
+pub mod Reloaded
 pub mod Reloading
 mod ReloadExamples
 pub mod Outs

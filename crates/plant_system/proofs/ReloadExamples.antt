@@ -12,9 +12,9 @@ use Rattle.event_history.specs.declared.event.Event.TheVariants as event
 use Rattle.plant_system.specs.declared.event.EngineFault.TheVariants as refusal
 use Rattle.std_blocks.specs.Calls.{Call}
 use Rattle.alarm_bank.specs.Reloads.{alarm_of}
-use Rattle.alarm_delays.specs.Delays.{counts, scan_of}
+use Rattle.alarm_delays.specs.Delays.{counts, kept_scans, scan_of}
 use Rattle.plant_system.specs.Reloads.{kept_numbers, kept_count, fresh_count, new_of}
-use Rattle.plant_system.specs.System.{kept_scans, opening_alarm, taken_reload}
+use Rattle.plant_system.specs.System.{opening_alarm, taken_reload}
 
 -- an alarm with a tag, that latches or doesn't, and may be shelved for so long
 abbrev row : List ℕ → Bool → ℕ → AlarmRow

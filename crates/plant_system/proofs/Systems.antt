@@ -11,7 +11,7 @@ use Rattle.alarm_machine.specs.declared.states.OrderFault.{OrderFault}
 use Rattle.alarm_machine.specs.Codes.{PlainChange, code_of, change_between}
 use Rattle.alarm_machine.specs.Alarms.{PlainAlarm}
 use Rattle.alarm_bank.specs.declared.rows.Site.{Site}
-use Rattle.alarm_bank.specs.Banks.{IsSite}
+use Rattle.alarm_bank.specs.Banks.{IsSite, PlainBank}
 use Rattle.alarm_bank.specs.Moves.{put_all, changes_from}
 use Rattle.alarm_bank.specs.Reloads.{alarm_of}
 use Rattle.alarm_bank.proofs.BankLaws.{scan_each_length}
@@ -20,7 +20,7 @@ use Rattle.plant_logic.specs.declared.logic.Variable.{Variable}
 use Rattle.plant_logic.specs.Source.{Source}
 use Rattle.plant_logic.specs.Worlds.{World, opening, run_program}
 use Rattle.plant_logic.specs.Paths.{paths_of, path_text}
-use Rattle.plant_cells.specs.Cells.{value_at}
+use Rattle.plant_cells.specs.Cells.{PlainCells, value_at}
 use Rattle.block_frames.specs.Stands.{StandFor}
 use Rattle.plant_walk.specs.Sound.{IsSound}
 use Rattle.plant_config.specs.declared.rows.AlarmRow.{AlarmRow}
@@ -37,19 +37,19 @@ use Rattle.plant_system.specs.declared.state.Effect.TheVariants as effect
 use Rattle.plant_config.specs.Names.{globals_of, programs_of, body_paths}
 use Rattle.scan_logic.specs.Scans.{Scanned, after_run, programs_from}
 use Rattle.plant_system.specs.Programs.{opening_faulted, with_inputs, global_in, world_after}
-use Rattle.plant_system.specs.Orders.{order_outcome, alarms_by, faulted_by}
+use Rattle.plant_system.specs.Orders.{order_outcome, unless_old, alarms_by, faulted_by}
 use Rattle.plant_system.specs.Reloads.{kept_number, kept_numbers, new_of, news_of}
-use Rattle.plant_system.specs.System.{System, system, after_event, taken_scan, scan_event, order_event, taken_reload, reload_event, opening_system, opening_alarm, scanned_by, after_scan_event, after_order_event, ordered, conditions, delays_of, kept_scans, no_scans, suppressions, scans_after, alarms_after, sites_of, outputs_from, out_at, outs_from}
+use Rattle.plant_system.specs.System.{System, system, after_event, taken_scan, scan_event, order_event, taken_reload, reload_event, opening_system, opening_alarm, scanned_by, after_scan_event, after_order_event, ordered, conditions, delays_of, no_scans, suppressions, scans_after, alarms_after, sites_of, outputs_from, out_at, outs_from}
 use Rattle.alarm_watch.specs.declared.watched.Watch.{Watch}
 use Rattle.alarm_watch.specs.Watched.{Follow, alarms_watched, watched_conditions}
 use Rattle.std_blocks.specs.Calls.{Call}
-use Rattle.alarm_delays.specs.Delays.{PlainDelays, after_conditions, after_met, counts}
+use Rattle.alarm_delays.specs.Delays.{PlainDelays, after_conditions, after_met, counts, kept_scans}
 use Rattle.alarm_delays.proofs.DelayLaws.{length_scans}
 use Rattle.plant_types.specs.Values.{is_true}
 use Rattle.plant_system.proofs.Watches.{delays_by, kept_watched, step_watched}
 use Rattle.plant_system.specs.Watches.{watches_of}
 use Rattle.plant_system.specs.Reports.{PlainReport}
-use Rattle.plant_system.specs.States.{PlainState, PlainScanEffect, PlainPreparedOrder, after_effect, delays_in, IsState, IsReport}
+use Rattle.plant_system.specs.States.{PlainState, PlainScanEffect, PlainPreparedOrder, after_effect, delays_in, unscanned, IsState, IsReport}
 use Rattle.scan_logic.specs.Runs.{ProgramsRan}
 use Rattle.plant_system.specs.Steps.{ScanRan}
 use Rattle.plant_system.proofs.CellWorlds.{inputs_stand, values_stand, alarms_same, scans_same, outputs_stand, outs_stand}
@@ -166,6 +166,18 @@ pub system_events : (plant : PlainPlant) (history : List Event) → (system plan
 unfolding system
 system_events plant history = events_from (opening_system plant) history ∙ zero-add (length history)
 
+-- no more reloads than events
+pub system_reloads : (plant : PlainPlant) (history : List Event) → (system plant history).reloads ≤ length history
+system_reloads plant history =
+    let few = system_keeps (λ s. s.reloads ≤ s.events) keeps plant history (omega arith) in
+    let events = system_events plant history in
+    omega (arith, few, events)
+  where
+    keeps : (s : System) (e : Event) → s.reloads ≤ s.events → (after_event s e).reloads ≤ (after_event s e).events
+    keeps s (event.Scan image t) h = omega (arith, h)
+    keeps s (event.Order console order) h = omega (arith, h)
+    keeps s (event.Reload new) h = omega (arith, h)
+
 -- an engine has an alarm for each row of the database
 pub kept_alarms : (plant : PlainPlant) (history : List Event) (k : PlainState) → IsState (system plant history) k → length k.alarms ≡ length ((system plant history).plant.alarms)
 kept_alarms plant history k held = ap length held.alarms_are ∙ system_alarms plant history
@@ -203,6 +215,7 @@ scan_agrees sys old new image t r is each within held made =
       faulted_is = runs.faulted_is;
       sites_are = made.sites_are ∙ held.sites_are;
       watches_are = made.watches_are ∙ held.watches_are;
+      reloads_is = made.reloads_are ∙ held.reloads_is;
       follow = λ _. made.follow;
       alarms_are = made.alarms_are
           ∙ (λ i. alarms_watched (value_at new.cells) t (held.watches_are i) (held.delays_are i) (held.alarms_are i))
@@ -267,16 +280,15 @@ scan_reports sys old new image t r is seen within each held made =
     }
 
 -- the event of a scan, by what an engine keeps and how many events there were
-pub scan_event_is : (plant : PlainPlant) (history : List Event) (k : PlainState) (n : ℕ) (pairs : List PlainPair) (t : ℕ) → NoReload history → IsState (system plant history) k → n ≡ length history → taken_scan (globals_of plant) k.moment n pairs t ≡ scan_event (system plant history) pairs t
-scan_event_is plant history k n pairs t stays held is =
-    let own = system_keeps_its_plant plant history stays in
+pub scan_event_is : (plant now : PlainPlant) (history : List Event) (k : PlainState) (n : ℕ) (pairs : List PlainPair) (t : ℕ) → (system plant history).plant ≡ now → IsState (system plant history) k → n ≡ length history
+    → taken_scan (globals_of now) k.moment n pairs t ≡ scan_event (system plant history) pairs t
+scan_event_is plant now history k n pairs t own held is =
     let events = is ∙ sym (system_events plant history) in
     λ i. taken_scan (globals_of (sym own i)) (held.moment_is i) (events i) pairs t
 
 -- the event of a reload, by what an engine keeps
-pub reload_event_is : (plant : PlainPlant) (history : List Event) (n : ℕ) (new : PlainPlant) → NoReload history → n ≡ length history → taken_reload plant n new ≡ reload_event (system plant history) new
-reload_event_is plant history n new stays is =
-    let own = system_keeps_its_plant plant history stays in
+pub reload_event_is : (plant now : PlainPlant) (history : List Event) (n : ℕ) (new : PlainPlant) → (system plant history).plant ≡ now → n ≡ length history → taken_reload now n new ≡ reload_event (system plant history) new
+reload_event_is plant now history n new own is =
     let events = is ∙ sym (system_events plant history) in
     λ i. taken_reload (sym own i) (events i) new
 
@@ -287,6 +299,7 @@ effect_anywhere sys next old k effect held keeps after = record {
   faulted_is = after.faulted_is;
   sites_are = keeps.sites_are ∙ sym held.sites_are ∙ after.sites_are;
   watches_are = keeps.watches_are ∙ sym held.watches_are ∙ after.watches_are;
+  reloads_is = keeps.reloads_is ∙ sym held.reloads_is ∙ after.reloads_is;
   follow = λ _.
       subst (λ (watches : List Watch). Follow (value_at effect.cells) watches (after_met effect.met effect.moment effect.moved k.delays) (put_all k.alarms effect.moved)) (held.watches_are ∙ sym keeps.watches_are)
       (subst (λ (d : PlainDelays). Follow (value_at effect.cells) old.watches (after_met effect.met effect.moment effect.moved d) (put_all k.alarms effect.moved)) (held.delays_are ∙ sym keeps.delays_are)
@@ -306,7 +319,8 @@ order_steps sys old console order done is held = record {
   faulted_is = ap (λ d. faulted_by d old.faulted) is ∙ ap (faulted_by (ordered sys console order)) held.faulted_is;
   sites_are = held.sites_are;
   watches_are = held.watches_are;
-  follow = λ followed. follow_order (value_at old.cells) old.watches old.delays sys.plant old.alarms sys.faulted sys.moment console order done (is ∙ ap (λ l. order_outcome sys.plant l sys.faulted sys.moment console order) (sym held.alarms_are)) (held.follow followed);
+  reloads_is = held.reloads_is;
+  follow = λ followed. follow_order (value_at old.cells) old.watches old.delays sys.plant old.alarms sys.faulted sys.moment sys.reloads console order done (is ∙ ap (λ l. unless_old sys.reloads order (order_outcome sys.plant l sys.faulted sys.moment console order)) (sym held.alarms_are)) (held.follow followed);
   alarms_are = ap (λ d. alarms_by d old.alarms) is ∙ ap (alarms_by (ordered sys console order)) held.alarms_are;
   delays_are = held.delays_are;
   outputs_are = held.outputs_are;
@@ -331,19 +345,23 @@ sites_there plant is =
     (All-weaker (IsAlarmRow plant) (λ row. IsSite (length plant.areas) (site row)) (λ row there. record { area = there.area; lowest = there.lowest; highest = there.highest }) plant.alarms is.alarms)
 
 -- before the first event
-pub opening_agrees : (plant : PlainPlant) (k : PlainState) → StandFor plant.source k.cells (opening plant.source) → k.faulted ≡ opening_faulted (programs_of plant) → k.sites ≡ sites_of plant.alarms → k.watches ≡ watches_of plant.alarms → k.follows ≡ false → k.alarms ≡ map opening_alarm plant.alarms → k.delays ≡ delays_in (opening_system plant) → k.outputs ≡ outputs_from 0 plant.source.globals (value_at k.cells) → k.moment ≡ 0 → IsState (opening_system plant) k
-opening_agrees plant k stands faulted sites watches never alarms delays outputs moment = record {
-  world_stands = stands;
-  faulted_is = faulted;
-  sites_are = sites;
-  watches_are = watches;
-  follow = λ is. absurd (let both : true ≡ false = sym is ∙ never in cc);
-  alarms_are = alarms;
-  delays_are = delays;
-  outputs_are = outputs ∙ outputs_stand plant.source (value_at k.cells) (global_in (globals_of plant) (opening plant.source)) (values_stand plant.source k.cells (opening plant.source) stands);
-  moment_is = moment;
-  in_range = rw moment (omega arith);
-}
+pub opening_agrees : (plant : PlainPlant) (cells : PlainCells) (bank : PlainBank) (delays : PlainDelays) → StandFor plant.source cells (opening plant.source)
+    → bank ≡ record { sites = sites_of plant.alarms; alarms = map opening_alarm plant.alarms; moment = 0 } → delays ≡ delays_in (opening_system plant) → IsState (opening_system plant) (unscanned plant cells bank delays 0)
+opening_agrees plant cells bank delays stands bank_is delays_are =
+    let moment : bank.moment ≡ 0 = ap (λ (b : PlainBank). b.moment) bank_is in
+    record {
+      world_stands = stands;
+      faulted_is = refl;
+      sites_are = ap (λ (b : PlainBank). b.sites) bank_is;
+      watches_are = refl;
+      reloads_is = refl;
+      follow = λ is. absurd (let never : false ≡ true = is in cc);
+      alarms_are = ap (λ (b : PlainBank). b.alarms) bank_is;
+      delays_are = delays_are;
+      outputs_are = outputs_stand plant.source (value_at cells) (global_in (globals_of plant) (opening plant.source)) (values_stand plant.source cells (opening plant.source) stands);
+      moment_is = moment;
+      in_range = rw moment (omega arith);
+    }
 
 -- an order where the history has room
 pub order_event_room : (plant : PlainPlant) (history : List Event) (console : ℕ) (order : Order) → length history < MOST_EVENTS → order_event (system plant history) console order ≡ Ok (event.Order console order)

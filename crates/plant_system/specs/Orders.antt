@@ -52,16 +52,20 @@ abbrev pub is_restart : Verb → Bool
 is_restart verb.Restart = true
 is_restart _ = false
 
--- the order to restart the program of a number, of the plant that runs
-abbrev pub restart_of : Option ℕ → Order
-restart_of program = order_with verb.Restart program 0
+-- the order to restart the program of a number, in the plant after so many reloads
+abbrev pub restart_of : Option ℕ → ℕ → Order
+restart_of program plant = order_with verb.Restart program plant
 
--- what an order does, or why it is refused
+-- what an order to the present plant does, or why it is refused
 abbrev pub order_outcome : PlainPlant → List PlainAlarm → List Bool → ℕ → ℕ → Order → Result Effect OrderFault
 order_outcome plant alarms faulted last console order = elim order.target [
   | None ↦ Err fault.UnknownTarget
   | Some n ↦ if is_restart order.verb then program_order plant faulted console n else alarm_order plant alarms last console order.verb n
 ]
+
+-- after so many reloads an order is refused whose maker knew another number of them: O6, before all else
+abbrev pub unless_old : ℕ → Order → Result Effect OrderFault → Result Effect OrderFault
+unless_old reloads order outcome = if order.plant == reloads then outcome else Err fault.OldPlant
 
 -- the alarms after an order: one of them is changed, or none
 abbrev pub alarms_by : Result Effect OrderFault → List PlainAlarm → List PlainAlarm

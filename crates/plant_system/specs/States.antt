@@ -1,5 +1,5 @@
 -- What is kept of a system, what a scan and an order that were made ready do to it, and what a scan reports.
-use Rattle.std.specs.Prelude.{◌≡◌, ℕ, ◌<◌, ◌≤◌, Bool, true, List, length, map, All, Result}
+use Rattle.std.specs.Prelude.{◌≡◌, ℕ, ◌<◌, ◌≤◌, Bool, true, false, List, length, map, All, Result}
 use Rattle.plant_types.specs.declared.values.Value.{Value}
 use Rattle.plant_cells.specs.Cells.{PlainCells, value_at}
 use Rattle.block_frames.specs.Stands.{StandFor}
@@ -8,20 +8,23 @@ use Rattle.alarm_machine.specs.Alarms.{PlainAlarm}
 use Rattle.alarm_machine.specs.declared.states.OrderFault.{OrderFault}
 use Rattle.alarm_machine.specs.declared.limits.TheConstants.{LAST_MOMENT}
 use Rattle.alarm_bank.specs.declared.rows.Site.{Site}
+use Rattle.alarm_bank.specs.Banks.{PlainBank}
 use Rattle.alarm_bank.specs.Moves.{put_all}
 use Rattle.alarm_delays.specs.Delays.{PlainDelays, after_met, since_of}
 use Rattle.alarm_watch.specs.declared.watched.Watch.{Watch}
 use Rattle.alarm_watch.specs.Watched.{Follow}
-use Rattle.plant_config.specs.Names.{globals_of, body_paths}
+use Rattle.plant_config.specs.Plants.{PlainPlant}
+use Rattle.plant_config.specs.Names.{globals_of, programs_of, body_paths}
 use Rattle.event_history.specs.declared.event.Event.{Event}
 use Rattle.operator_orders.specs.declared.order.Order.{Order}
 use Rattle.plant_system.specs.declared.event.Reply.{Reply}
 use Rattle.plant_system.specs.declared.state.Effect.{Effect}
 use Rattle.plant_system.specs.Reports.{PlainReport}
-use Rattle.plant_system.specs.System.{System, after_event, faults_of, changes_of, delays_of, outs_of, outputs_of, sites_of}
+use Rattle.plant_system.specs.Programs.{opening_faulted}
+use Rattle.plant_system.specs.System.{System, after_event, faults_of, changes_of, delays_of, outs_of, outputs_from, outputs_of, sites_of}
 use Rattle.plant_system.specs.Watches.{watches_of}
 
--- what is kept of a system beside its plant: the cells of the variables and clocks, the faulted programs, the area and priority of each alarm and what it watches, whether there was a scan, so that the alarms follow the cells, the alarms, their delays, the outputs and the last moment
+-- what is kept of a system beside its plant: the cells of the variables and clocks, the faulted programs, the area and priority of each alarm and what it watches, whether there was a scan, so that the alarms follow the cells, the alarms, their delays, the outputs, the last moment, and how many reloads there were
 pub record PlainState : Type 0 where
   pub cells : PlainCells
   pub faulted : List Bool
@@ -32,6 +35,26 @@ pub record PlainState : Type 0 where
   pub delays : PlainDelays
   pub outputs : List (ℕ × Value)
   pub moment : ℕ
+  pub reloads : ℕ
+
+-- the bank of what is kept: the alarms with their areas and priorities, and the last moment
+abbrev pub bank_in : PlainState → PlainBank
+bank_in k = record { sites = k.sites; alarms = k.alarms; moment = k.moment }
+
+-- what is kept of a plant with these cells, alarms and delays after so many reloads, before the next scan: no program is faulted, and the alarms don't follow the cells
+abbrev pub unscanned : PlainPlant → PlainCells → PlainBank → PlainDelays → ℕ → PlainState
+unscanned plant cells bank delays reloads = record {
+  cells = cells;
+  faulted = opening_faulted (programs_of plant);
+  sites = bank.sites;
+  watches = watches_of plant.alarms;
+  follows = false;
+  alarms = bank.alarms;
+  delays = delays;
+  outputs = outputs_from 0 (globals_of plant) (value_at cells);
+  moment = bank.moment;
+  reloads = reloads;
+}
 
 -- of all scans that a system's alarms saw, what tells which conditions count
 abbrev pub delays_in : System → PlainDelays
@@ -48,6 +71,7 @@ pub record IsState (sys : System) (k : PlainState) : Type 0 where
   pub delays_are : k.delays ≡ delays_in sys
   pub outputs_are : k.outputs ≡ outputs_of sys
   pub moment_is : k.moment ≡ sys.moment
+  pub reloads_is : k.reloads ≡ sys.reloads
   pub in_range : k.moment ≤ LAST_MOMENT
 
 -- a report is what an event did: its moment, the faults in program order, the changes in the order of the database, and the outputs that it changed in order of declaration; the plant has each path, each alarm and each global that it names by number

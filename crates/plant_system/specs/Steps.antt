@@ -11,7 +11,7 @@ use Rattle.plant_logic.specs.Ranges.{AllInRange}
 use Rattle.plant_logic.specs.Paths.{paths_of}
 use Rattle.plant_cells.specs.Cells.{PlainCells, value_at, assigned}
 use Rattle.block_frames.specs.Stands.{StandFor}
-use Rattle.plant_config.specs.Plants.{PlainPlant}
+use Rattle.plant_config.specs.Plants.{IsPlant, PlainPlant}
 use Rattle.plant_config.specs.Names.{globals_of, programs_of}
 use Rattle.plant_walk.specs.Sound.{IsSound}
 use Rattle.alarm_bank.specs.Moves.{changes_from}
@@ -20,13 +20,15 @@ use Rattle.event_history.specs.declared.event.Event.TheVariants as event
 use Rattle.plant_system.specs.Reports.{PlainReport}
 use Rattle.scan_logic.specs.Scans.{programs_from}
 use Rattle.scan_logic.specs.Runs.{ProgramsRan}
-use Rattle.plant_system.specs.System.{taken_scan, delays_of, outputs_from, outs_from}
+use Rattle.plant_system.specs.Reloads.{fresh_count, kept_count, kept_numbers}
+use Rattle.plant_system.specs.declared.reloading.ReadyReload.{ReadyReload}
+use Rattle.plant_system.specs.System.{System, after_reload_event, taken_scan, delays_of, outputs_from, outs_from}
 use Rattle.plant_system.specs.Watches.{watches_of}
-use Rattle.plant_system.specs.States.{PlainState, PlainPrepared, PlainPreparedOrder, after_effect}
+use Rattle.plant_system.specs.States.{IsState, PlainState, PlainPrepared, PlainPreparedOrder, after_effect}
 use Rattle.operator_orders.specs.declared.order.Order.{Order}
 use Rattle.alarm_delays.specs.Delays.{after_conditions}
 use Rattle.alarm_watch.specs.Watched.{Follow, alarms_watched, watched_conditions}
-use Rattle.plant_system.specs.Orders.{order_outcome, reply_by}
+use Rattle.plant_system.specs.Orders.{order_outcome, unless_old, reply_by}
 
 -- an output, with the value that it has now
 abbrev pub output_in : (ℕ → ℤ) → ℕ × Value → ℕ × Value
@@ -73,6 +75,7 @@ pub record ScanRan (plant : PlainPlant) (old : PlainState) (image : List (ℕ ×
   pub faults_within : All (λ f. f.0.path < length (paths_of plant.source)) r.faults
   pub sites_are : new.sites ≡ old.sites
   pub watches_are : new.watches ≡ old.watches
+  pub reloads_are : new.reloads ≡ old.reloads
   pub follow : Follow (value_at new.cells) new.watches new.delays new.alarms
   pub alarms_are : new.alarms ≡ alarms_watched (value_at new.cells) t old.watches old.delays old.alarms
   pub delays_are : new.delays ≡ after_conditions (watched_conditions (value_at new.cells) old.watches) t old.delays
@@ -94,5 +97,12 @@ pub record IsPreparedScan (plant : PlainPlant) (old : PlainState) (events : ℕ)
 pub record IsPreparedOrder (plant : PlainPlant) (k : PlainState) (console : ℕ) (order : Order) (p : PlainPreparedOrder) : Type 0 where
   pub console_is : p.console ≡ console
   pub order_is : p.order ≡ order
-  pub done_is : p.done ≡ order_outcome plant k.alarms k.faulted k.moment console order
+  pub done_is : p.done ≡ unless_old k.reloads order (order_outcome plant k.alarms k.faulted k.moment console order)
   pub reply_is : p.reply ≡ reply_by p.done k.alarms
+
+-- a reload made ready from a state: it leaves what each system that has this state has after it; how many alarms go on, and how many begin anew; and the new plant keeps the rules of plants
+pub record IsReadyReload (plant new : PlainPlant) (old : PlainState) (r : ReadyReload) : Type 0 where
+  pub state_is : (sys : System) → sys.plant ≡ plant → IsState sys old → IsState (after_reload_event sys new) r.state
+  pub kept_is : r.kept ≡ kept_count (kept_numbers plant new)
+  pub fresh_is : r.fresh ≡ fresh_count (kept_numbers plant new)
+  pub plant_is : IsPlant new

@@ -1,5 +1,5 @@
 -- The system: it holds its plant, and each event is a step from system to system.
-use Rattle.std.specs.Prelude.{ℕ, ◌+◌, ◌==◌, ℤ, nat_lt, nat_le, Bool, true, false, not, if◌then◌else◌, List, [], ◌∷◌, map, fold, Option, Some, None, Result, Ok, Err, slice_get, slice_index_or}
+use Rattle.std.specs.Prelude.{ℕ, ◌+◌, ◌==◌, ℤ, nat_lt, nat_le, Bool, true, false, not, if◌then◌else◌, List, [], ◌∷◌, map, fold, Option, Some, None, Result, Ok, Err, slice_get}
 use Rattle.std.specs.Ordering.{int_eq}
 use Rattle.plant_types.specs.Pairs.{PlainPair}
 use Rattle.plant_types.specs.Values.{is_true, value_of_kind}
@@ -15,7 +15,7 @@ use Rattle.alarm_machine.specs.declared.states.OrderFault.{OrderFault}
 use Rattle.alarm_machine.specs.Codes.{PlainChange}
 use Rattle.alarm_machine.specs.Alarms.{PlainAlarm, new_alarm}
 use Rattle.std_blocks.specs.Calls.{Call}
-use Rattle.alarm_delays.specs.Delays.{counts, scans_each}
+use Rattle.alarm_delays.specs.Delays.{counts, kept_scans, scans_each}
 use Rattle.alarm_bank.specs.declared.rows.Site.{Site}
 use Rattle.alarm_bank.specs.declared.rows.Counted.{Counted}
 use Rattle.alarm_bank.specs.Banks.{scan_each, counted}
@@ -37,10 +37,10 @@ use Rattle.plant_system.specs.declared.state.Effect.{Effect}
 use Rattle.scan_logic.specs.Scans.{Scanned}
 use Rattle.plant_system.specs.Programs.{opening_faulted, global_in, world_after}
 use Rattle.plant_system.specs.Image.{image_of}
-use Rattle.plant_system.specs.Orders.{order_outcome, alarms_by, faulted_by, reply_by}
+use Rattle.plant_system.specs.Orders.{order_outcome, unless_old, alarms_by, faulted_by, reply_by}
 use Rattle.plant_system.specs.Reloads.{kept_numbers, news_of, numbers_of, same_numbers}
 
--- the whole state: the plant, the variables' values and the calls of standard blocks, for each program whether it is faulted, the alarms, the scans as each alarm saw them, the last scan's moment, and how many events there were
+-- the whole state: the plant, the variables' values and the calls of standard blocks, for each program whether it is faulted, the alarms, the scans as each alarm saw them, the last scan's moment, and how many events and how many reloads there were
 pub record System : Type 0 where
   pub plant : PlainPlant
   pub world : World
@@ -49,6 +49,7 @@ pub record System : Type 0 where
   pub scans : List (List Call)
   pub moment : ℕ
   pub events : ℕ
+  pub reloads : ℕ
 
 -- an alarm before the first event
 abbrev pub opening_alarm : AlarmRow → PlainAlarm
@@ -68,6 +69,7 @@ opening_system plant = record {
   scans = map no_scans plant.alarms;
   moment = 0;
   events = 0;
+  reloads = 0;
 }
 
 -- the conditions of alarms, by the globals' values
@@ -104,18 +106,13 @@ after_scan_event sys image t =
 
 -- what an order does in a state, or why it is refused
 abbrev pub ordered : System → ℕ → Order → Result Effect OrderFault
-ordered sys console order = order_outcome sys.plant sys.alarms sys.faulted sys.moment console order
+ordered sys console order = unless_old sys.reloads order (order_outcome sys.plant sys.alarms sys.faulted sys.moment console order)
 
 -- an order: a refused one is an event too, and changes no alarm and no program
 abbrev pub after_order_event : System → ℕ → Order → System
 after_order_event sys console order =
     let done = ordered sys console order in
     record sys { faulted = faulted_by done sys.faulted; alarms = alarms_by done sys.alarms; events = sys.events + 1 }
-
--- the scans that an alarm of a new plant has seen: those of the old alarm as which it goes on, if there is one; else none
-abbrev pub kept_scans : List (List Call) → Option ℕ → List Call
-kept_scans scans None = []
-kept_scans scans (Some k) = slice_index_or scans k []
 
 -- a reload: the new plant, with what goes over of the variables and the calls of standard blocks, no program faulted, each alarm as it goes on or as before the first event, and the last moment as it is
 abbrev pub after_reload_event : System → PlainPlant → System
@@ -127,6 +124,7 @@ after_reload_event sys new = record {
   scans = map (kept_scans sys.scans) (kept_numbers sys.plant new);
   moment = sys.moment;
   events = sys.events + 1;
+  reloads = sys.reloads + 1;
 }
 
 -- one event is one step, by the plant that the system holds

@@ -10,6 +10,7 @@
 mod event;
 mod image;
 mod orders;
+mod reloading;
 mod reloads;
 mod scan;
 mod state;
@@ -18,6 +19,7 @@ mod steps;
 pub use event::{EngineFault, MOST_EVENTS, Reply, Report};
 pub use image::Input;
 pub use orders::{PreparedOrder, prepared_order};
+pub use reloading::{ReadyReload, ready_reload};
 pub use reloads::{may_reload, news_of};
 pub use scan::{Before, Prepared, ReadyScan, Room, RunRoom, empty_report, prepared_scan};
 pub use state::{Effect, ScanEffect, State, alarm_state, apply, apply_scan, opening_state};

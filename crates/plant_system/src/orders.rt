@@ -104,7 +104,7 @@ fn program_order(
     }
 }
 
-/// What an order does, or why it is refused.
+/// What an order to the present plant does, or why it is refused.
 fn order_outcome(
     plant: &Plant,
     bank: &Bank,
@@ -152,7 +152,11 @@ pub fn prepared_order(plant: &Plant, state: &State, console: u32, order: Order) 
 {
     let alarms = state.bank.alarms();
     let faulted = state.faulted.as_slice();
-    let done = order_outcome(plant, &state.bank, faulted, console, order);
+    let done = if order.plant == state.reloads {
+        order_outcome(plant, &state.bank, faulted, console, order)
+    } else {
+        Err(OrderFault::OldPlant)
+    };
     let reply = reply_by(&done, alarms);
     PreparedOrder {
         console,

@@ -4,7 +4,10 @@ ghost use Rattle.std.specs.Prelude.{◌≡◌, ◌<◌, ◌≤◌, length, map, 
 ghost use Rattle.std.specs.Option.{option_map};
 ghost use Rattle.alarm_machine.specs.declared.limits.TheConstants.{LAST_MOMENT};
 ghost use Rattle.plant_config.specs.Plants.{IsPlant};
-ghost use Rattle.plant_system.specs.States.{IsState, after_effect, delays_in};
+ghost use Rattle.plant_cells.specs.Cells.{value_at};
+ghost use Rattle.plant_config.specs.Names.{globals_of};
+ghost use Rattle.plant_system.specs.Steps.{AreShowable};
+ghost use Rattle.plant_system.specs.States.{IsState, after_effect, delays_in, unscanned};
 ghost use Rattle.plant_system.specs.Orders.{alarms_by, faulted_by};
 ghost use Rattle.plant_system.specs.System.{opening_alarm, opening_system, sites_of};
 ghost use Rattle.plant_system.specs.Watches.{watches_of};
@@ -38,6 +41,8 @@ pub struct State {
     pub follows: bool,
     /// The outputs and their values, in order of declaration.
     pub outputs: Vec<(u32, Value)>,
+    /// How many reloads there were.
+    pub reloads: u32,
 }
 
 impl Model for State {
@@ -45,7 +50,7 @@ impl Model for State {
 
     ghost Value = { PlainState };
 
-    ghost view = { λ s. record { cells = s.cells; faulted = s.faulted.items; sites = s.bank.sites; watches = s.watches; follows = s.follows; alarms = s.bank.alarms; delays = s.delays; outputs = s.outputs.items; moment = s.bank.moment } };
+    ghost view = { λ s. record { cells = s.cells; faulted = s.faulted.items; sites = s.bank.sites; watches = s.watches; follows = s.follows; alarms = s.bank.alarms; delays = s.delays; outputs = s.outputs.items; moment = s.bank.moment; reloads = s.reloads } };
 }
 
 /// What a scan does to a state.
@@ -108,17 +113,19 @@ fn opening_watches(alloc: Global, plant: &Plant) -> Result<Watches, AllocError>
     Watches::new(alloc, watches)
 }
 
-/// The state before the first event: each variable has its initial value, no program is faulted, and each alarm is normal. Fails if
-/// allocation fails.
-pub fn opening_state(alloc: Global, plant: &Plant) -> Result<State, AllocError>
-    ensures state { IfOk result (IsState (opening_system plant.now)) }
-    ensures is_plant { OnOk result (IsPlant plant.now) }
+/// What is kept of a plant with these cells, alarms and delays, after so many reloads, before the next scan. Fails if allocation fails.
+pub fn state_with(
+    alloc: Global,
+    plant: &Plant,
+    cells: Cells,
+    bank: Bank,
+    delays: Delays,
+    reloads: u32,
+) -> Result<State, AllocError>
+    requires { AreShowable (globals_of plant.now) (value_at cells) }
+    ensures { IfOk result (λ state. state ≡ unscanned plant.now cells bank delays reloads) }
 {
-    let logic = plant.logic();
-    let cells = logic.opening(alloc)?;
-    let outputs = outputs(alloc, logic.globals(), &cells)?;
-    let bank = opening_bank(alloc, plant)?;
-    let delays = opening_delays(alloc, plant)?;
+    let outputs = outputs(alloc, plant.globals(), &cells)?;
     let watches = opening_watches(alloc, plant)?;
     let faulted = vec![in alloc; false; plant.programs() as usize]?;
     Ok(State {
@@ -129,7 +136,20 @@ pub fn opening_state(alloc: Global, plant: &Plant) -> Result<State, AllocError>
         watches,
         follows: false,
         outputs,
+        reloads,
     })
+}
+
+/// The state before the first event: each variable has its initial value, no program is faulted, and each alarm is normal. Fails if
+/// allocation fails.
+pub fn opening_state(alloc: Global, plant: &Plant) -> Result<State, AllocError>
+    ensures state { IfOk result (IsState (opening_system plant.now)) }
+    ensures is_plant { OnOk result (IsPlant plant.now) }
+{
+    let cells = plant.logic().opening(alloc)?;
+    let bank = opening_bank(alloc, plant)?;
+    let delays = opening_delays(alloc, plant)?;
+    state_with(alloc, plant, cells, bank, delays, 0)
 }
 
 /// What holds nothing, to be written over.
@@ -179,8 +199,7 @@ pub fn apply_scan(effect: &mut ScanEffect, state: &mut State)
     ensures { state.new ≡ after_effect effect.old state.old }
 {
     let moved = effect.moved.as_slice();
-    state
-        .delays
+    state.delays
         .apply(effect.met.as_slice(), moved, effect.moment);
     state.bank.apply(moved, effect.moment);
     state.follows = true;

@@ -33,6 +33,7 @@ returns-clause-ok g c =
       faults_within = search rules;
       sites_are = search rules;
       watches_are = search rules;
+      reloads_are = search rules;
       follow = rw c.in_ok-step_alarms.ensures.alarms (subst (λ (d : PlainDelays). Follow now old.watches d (alarms_watched now c.args.moment old.watches old.delays old.alarms)) (sym kept) (follow_after now c.args.moment old.watches old.delays old.alarms each delays since));
       alarms_are = search rules;
       delays_are = kept;

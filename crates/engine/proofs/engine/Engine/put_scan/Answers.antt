@@ -1,6 +1,6 @@
 use Rattle.std.proofs.Common.{arith}
 use Rattle.std.proofs.lemmas.Grind.{common_steps}
-use Rattle.engine.proofs.Commits.{scan_state, scan_stays, scan_committed, scan_later, scan_until, scan_in_order, scan_room}
+use Rattle.engine.proofs.Commits.{scan_state, scan_present, scan_past, scan_committed, scan_later, scan_until, scan_in_order, scan_room}
 use Rattle.engine.proofs.Lawful.{lawful_next, lawful_short}
 use Rattle.engine.proofs.engine.Engine.put_scan.Goals as goal
 
@@ -13,8 +13,9 @@ invariant_of-self c =
         state_is = scan_state _ _ k fits c.self.invariant.0.state_is;
         plant_is = c.self.invariant.0.plant_is;
         lawful = lawful_next _ _ _ c.self.invariant.0.lawful fits.taken;
-        stays = scan_stays _ _ fits c.self.invariant.0.stays;
-        journal = scan_committed _ _ c.self.inside.log c.self.invariant.0.stays fits c.self.invariant.0.journal;
+        present = scan_present _ _ c.self.inside.plant fits c.self.invariant.0.present;
+        journal = scan_committed _ _ c.self.inside.log fits c.self.invariant.0.journal;
+        past = scan_past _ _ c.self.inside.plant c.self.inside.past.plants c.self.invariant.0.present c.self.invariant.0.past;
         until = scan_until _ _ k c.self.inside.log fits c.self.invariant.0.state_is c.self.invariant.0.until;
       },
       c.self.invariant.1,
@@ -31,7 +32,7 @@ push_scan-requires-clause-room c =
     fits.row_room
 
 pub push_taken-requires : goal.push_taken-requires
-push_taken-requires c = omega (arith, (lawful_short c.self.inside.plant c.self.inside.history c.self.invariant.0.lawful).0)
+push_taken-requires c = omega (arith, (lawful_short c.self.inside.began c.self.inside.history c.self.invariant.0.lawful).0)
 
 pub returns-clause-row_room : goal.returns-clause-row_room
 returns-clause-row_room c =

@@ -7,7 +7,7 @@ use Rattle.engine.proofs.engine.Engine.state.Goals as goal
 
 pub alarm_state-requires : goal.alarm_state-requires
 alarm_state-requires c =
-    let each = kept_alarms c.self.inside.plant c.self.inside.history c.self.inside.state c.self.invariant.0.state_is in
+    let each = kept_alarms c.self.inside.began c.self.inside.history c.self.inside.state c.self.invariant.0.state_is in
     let there = rw (← c.self.view_is) at c.requires in
     omega (arith, each, there)
 

@@ -1,0 +1,48 @@
+//! A reload that was made ready, and what is told of it.
+
+use plant_config::Plant;
+use plant_system::{EngineFault, ReadyReload};
+use std::marker::Model;
+
+/// A reload that was made ready to be committed.
+pub struct PreparedReload {
+    pub(crate) plant: Plant,
+    pub(crate) ready: ReadyReload,
+}
+
+impl Drop for PreparedReload {
+    fn drop(self) {
+        let PreparedReload { plant: _, ready: _ } = self;
+    }
+}
+
+impl Model for PreparedReload {
+    ghost use Rattle.engine.specs.Engines.{PlainPreparedReload};
+
+    ghost Value = { PlainPreparedReload };
+
+    ghost view = { λ p. record { plant = p.plant; state = p.ready.state; kept = p.ready.kept; fresh = p.ready.fresh } };
+}
+
+/// What a reload did to the alarms of the new plant.
+#[derive(Clone, Copy, Drop)]
+pub struct Reloaded {
+    /// How many kept their states.
+    pub kept: u32,
+    /// How many are new.
+    pub fresh: u32,
+}
+
+/// A reload that was refused.
+pub struct ReloadRefused {
+    /// The plant, which is handed back.
+    pub plant: Plant,
+    /// Why.
+    pub fault: EngineFault,
+}
+
+impl Drop for ReloadRefused {
+    fn drop(self) {
+        let ReloadRefused { plant: _, fault: _ } = self;
+    }
+}
