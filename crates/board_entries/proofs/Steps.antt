@@ -21,7 +21,7 @@ use Rattle.boards.specs.Readers.{published, laid, story_of}
 use Rattle.boards.proofs.Takes.{shown_more}
 use Rattle.board_entries.specs.Entries.{entry_of, entries_from, entries_of, bank_of, panel_of, counted_consoles, picture_of}
 use Rattle.board_entries.specs.Showing.{HasAlarmsOf, HasHistory}
-use Rattle.board_entries.proofs.Orders.{order_takes}
+use Rattle.board_entries.proofs.Orders.{ordered_takes}
 use Rattle.board_entries.proofs.Reloads.{panel_reloaded, reload_allowed}
 use Rattle.board_entries.proofs.Scans.{scan_after}
 
@@ -44,7 +44,7 @@ length_of plant history = length_from (opening_system plant) history
 
 next_allowed : (sys : System) (e : Event) → HasAlarms sys → IsTaken sys e → allows (picture_of sys) (entry_of sys e) ≡ true
 next_allowed sys (event.Scan image t) each h = refl
-next_allowed sys (event.Order console order) each h = (order_takes (bank_of sys) sys.plant sys.faulted console order).may
+next_allowed sys (event.Order console order) each h = (ordered_takes (bank_of sys) sys.plant sys.faulted sys.reloads console order).may
 next_allowed sys (event.Reload new) each h = reload_allowed sys new each.0 h.1
 
 -- other alarms in the places of a board
@@ -53,7 +53,7 @@ placed h = λ i. record { bank = h i; places = 20000 }
 
 panel_after : (sys : System) (e : Event) → HasAlarms sys → IsTaken sys e → panel_after_entry (panel_of sys) (entry_of sys e) ≡ panel_of (after_event sys e)
 panel_after sys (event.Scan image t) each h = placed (scan_after sys image t each (taken_when (globals_of sys.plant) sys.moment sys.events h.0 t t image h.1).in_range)
-panel_after sys (event.Order console order) each h = placed (order_takes (bank_of sys) sys.plant sys.faulted console order).after
+panel_after sys (event.Order console order) each h = placed (ordered_takes (bank_of sys) sys.plant sys.faulted sys.reloads console order).after
 panel_after sys (event.Reload new) each h = panel_reloaded sys new
 
 -- no event changes the consoles
