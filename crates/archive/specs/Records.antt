@@ -2,7 +2,8 @@
 use Rattle.std.specs.Prelude.{◌≡◌, ℕ, ◌≤◌, List, length}
 use Rattle.plant_types.specs.Pairs.{PlainPair}
 use Rattle.plant_system.specs.declared.event.EngineFault.{EngineFault}
-use Rattle.plant_system.specs.System.{scan_event}
+use Rattle.plant_config.specs.Plants.{PlainPlant}
+use Rattle.plant_system.specs.System.{reload_event, scan_event}
 use Rattle.engine.specs.Engines.{PlainEngine, state_of}
 use Rattle.event_history.specs.declared.event.Event.{Event}
 use Rattle.boards.specs.declared.writer.BoardWriter.{BoardWriter}
@@ -14,6 +15,11 @@ use Rattle.archive.specs.Refusals.{IsDueInBoth}
 abbrev pub IsScanDue : Type 0 → EngineFault → PlainEngine → List PlainPair → ℕ → Type 0
 IsScanDue whole e engine pairs t =
     (book : PlainEngine) × (whole → length book.history ≡ length engine.history) × IsDueInBoth e (scan_event (state_of engine) pairs t) (scan_event (state_of book) pairs t)
+
+-- a reload is refused as the engine refuses it, or by the book of the archive, which has as many events if the station has the whole share
+abbrev pub IsReloadDue : Type 0 → EngineFault → PlainEngine → PlainPlant → Type 0
+IsReloadDue whole e engine new =
+    (book : PlainEngine) × (whole → length book.history ≡ length engine.history) × IsDueInBoth e (reload_event (state_of engine) new) (reload_event (state_of book) new)
 
 -- readers take as many entries as the history has events: as what they take is a beginning of what was laid by for it, they take all
 abbrev pub ShowsAll : List Event → BoardWriter → Type 0
