@@ -4,8 +4,8 @@ ghost use Rattle.std.specs.Prelude.{◌≡◌, ◌+◌, ◌<◌, ◌++◌, [], �
 ghost use Rattle.event_history.specs.declared.event.Event.TheVariants as event;
 ghost use Rattle.plant_system.specs.Faults.{IsNoCrews};
 ghost use Rattle.plant_system.specs.Image.{IsDue};
-ghost use Rattle.plant_system.specs.System.{scan_event, order_event, reload_event};
-ghost use Rattle.engine.specs.Engines.{state_of, Fits, FitsOrder, FitsReload};
+ghost use Rattle.plant_system.specs.System.{scan_event, order_event};
+ghost use Rattle.engine.specs.Engines.{state_of, Fits, FitsOrder, FitsReload, IsReloadRefusal};
 ghost use Rattle.engine.specs.Lawful.{IsLawfulHistory};
 ghost use Rattle.engine.specs.Journal.{journal_of};
 ghost use Rattle.archive.specs.Pages.{IsPage};
@@ -165,7 +165,7 @@ impl<L: Ledger> Book<L> {
         ensures plant { self.new.plant ≡ self.old.plant }
         ensures history { self.new.history ≡ self.old.history }
         ensures ok { IfOk result (λ p. FitsReload self.new p × (p.plant ≡ plant)) }
-        ensures err { IfErr result (λ r. (r.plant ≡ plant) × IsDue r.fault (reload_event (state_of self.old) plant)) }
+        ensures err { IfErr result (λ r. IsReloadRefusal (state_of self.old) plant r.fault × (r.plant ≡ plant)) }
     {
         self.engine.prepare_reload(alloc, plant)
     }

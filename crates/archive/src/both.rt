@@ -3,12 +3,10 @@
 ghost use Rattle.std.specs.Prelude.{◌≡◌, ◌+◌, ◌<◌, ◌++◌, [], ◌∷◌, Ok, IfOk, IfErr};
 ghost use Rattle.event_history.specs.declared.event.Event.TheVariants as event;
 ghost use Rattle.plant_system.specs.Faults.{faults_by};
-ghost use Rattle.plant_system.specs.Image.{IsDue};
-ghost use Rattle.plant_system.specs.Reloads.{IsReloaded};
 ghost use Rattle.plant_system.specs.States.{IsReport};
-ghost use Rattle.plant_system.specs.System.{scan_event, order_event, reload_event, reply_to};
-ghost use Rattle.engine.specs.Engines.{state_of, Fits, FitsOrder, FitsReload};
-ghost use Rattle.archive.specs.Refusals.{IsDueInBoth, IsOrderFault};
+ghost use Rattle.plant_system.specs.System.{scan_event, order_event, reply_to};
+ghost use Rattle.engine.specs.Engines.{state_of, Fits, FitsOrder, FitsReload, IsReloadRefusal, TellsReload};
+ghost use Rattle.archive.specs.Refusals.{IsDueInBoth, IsOrderFault, IsReloadRefusedInBoth};
 
 use crate::book::{Book, order_in};
 use engine::{
@@ -145,7 +143,7 @@ fn kept_reload<L: Ledger>(
 ) -> Result<PreparedReload, EngineFault>
     ensures book { (book.new.plant ≡ book.old.plant) × (book.new.history ≡ book.old.history) }
     ensures ok { IfOk result (λ p. FitsReload book.new p × (p.plant ≡ plant.now)) }
-    ensures err { IfErr result (λ e. IsDue e (reload_event (state_of book.old) plant.now)) }
+    ensures err { IfErr result (IsReloadRefusal (state_of book.old) plant.now) }
 {
     let copy = plant.copy(alloc)?;
     match book.prepare_reload(alloc, copy) {
@@ -169,7 +167,7 @@ pub fn ready_reload<L: Ledger>(
     ensures book { (book.new.plant ≡ book.old.plant) × (book.new.history ≡ book.old.history) }
     ensures own { IfOk result (λ r. FitsReload engine.new r.own × (r.own.plant ≡ plant)) }
     ensures kept { IfOk result (λ r. FitsReload book.new r.kept × (r.kept.plant ≡ plant)) }
-    ensures err { IfErr result (λ r. (r.plant ≡ plant) × IsDueInBoth r.fault (reload_event (state_of engine.old) plant) (reload_event (state_of book.old) plant)) }
+    ensures err { IfErr result (λ r. IsReloadRefusedInBoth (state_of engine.old) (state_of book.old) plant r.fault × (r.plant ≡ plant)) }
 {
     let own = engine.prepare_reload(alloc, plant)?;
     match kept_reload(alloc, book, own.plant()) {
@@ -195,7 +193,7 @@ pub fn commit_reload<L: Ledger>(
     ensures engine { engine.new.history ≡ engine.old.history ++ event.Reload ready.own.plant ∷ [] }
     ensures book { book.new.history ≡ book.old.history ++ event.Reload ready.kept.plant ∷ [] }
     ensures share { (share.new.amount ≡ share.old.amount + 1) × (share.new.parts ≡ share.old.parts) }
-    ensures told { IsReloaded (state_of engine.old) ready.own.plant result }
+    ensures told { TellsReload (state_of engine.old) ready.own.plant result.kept result.fresh }
 {
     let ReadyReload { own, kept } = ready;
     book.commit_reload(kept, share);

@@ -2,10 +2,10 @@
 
 ghost use Rattle.std.specs.Prelude.{◌≡◌, ◌↔◌, IsTrue, ◌<◌, ◌≤◌, length, IfOk, IfErr, OnOk, OnErr};
 ghost use Rattle.plant_system.specs.Faults.{faults_by};
-ghost use Rattle.engine.specs.Engines.{TakesReload, TakesScan};
+ghost use Rattle.engine.specs.Engines.{TakesScan};
 ghost use Rattle.boards.specs.Readers.{laid, published, log_kept};
 ghost use Rattle.board_entries.specs.Showing.{HasHistory};
-ghost use Rattle.archive.specs.Records.{IsReloadDue, IsScanDue, ShowsUnlessRefused, ShowsAll};
+ghost use Rattle.archive.specs.Records.{IsReloadDue, IsScanDue, ShowsUnlessRefused, ShowsAll, TakesReload};
 ghost use Rattle.order_taking.specs.Turns.{UnlessRefused};
 
 use crate::both::{

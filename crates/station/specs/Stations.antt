@@ -18,8 +18,9 @@ use Rattle.plant_system.specs.contracts.event.Reply as reply_row
 use Rattle.plant_system.specs.System.{scan_event}
 use Rattle.plant_system.specs.Reports.{PlainReport}
 use Rattle.plant_system.specs.States.{IsReport}
-use Rattle.engine.specs.declared.reloads.Reloaded.{Reloaded}
-use Rattle.engine.specs.Engines.{PlainEngine, TakesReload, engine_code, state_of}
+use Rattle.engine.specs.declared.reload.Reloaded.{Reloaded}
+use Rattle.engine.specs.Engines.{PlainEngine, engine_code, state_of}
+use Rattle.archive.specs.Records.{TakesReload}
 use Rattle.boards.specs.declared.entry.Answer.{Answer as Shown}
 use Rattle.boards.specs.declared.entry.Entry.{Entry}
 use Rattle.boards.specs.Counts.{answers_of as answers_shown}
