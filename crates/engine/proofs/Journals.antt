@@ -320,8 +320,7 @@ pub row_at : (plant : PlainPlant) (history : List Event) (rows : List Row) (past
     → (slice_get (journal_of plant history) k ≡ Some (named_row (plant_at past present (k + 1)) row)) × IsNamed (plant_at past present (k + 1)) row.entry
 row_at plant history rows past present k row held are at =
     let got = get_named (row_plants plant history) rows k row held.named at in
-    let found : plant_at past present (k + 1) ≡ got.0 = are.found k got.0 got.1 in
-    (
+    let found : plant_at past present (k + 1) ≡ got.0 = are.found k got.0 got.1 in (
       ap (λ l. slice_get l k) (sym held.rows_are) ∙ got.2 ∙ ap (λ (p : PlainPlant). Some (named_row p row)) (sym found),
       subst (λ (p : PlainPlant). IsNamed p row.entry) (sym found) got.3,
     )

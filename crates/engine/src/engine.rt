@@ -14,7 +14,7 @@ ghost use Rattle.plant_system.specs.States.{IsReport, delays_in};
 
 use crate::journal::{line_text, push_order, push_scan, row_count};
 use crate::past::PastPlants;
-use crate::reload::{PreparedReload, Reloaded, ReloadRefused};
+use crate::reload::{PreparedReload, ReloadRefused, Reloaded};
 use alarm_bank::Summary;
 use alarm_delays::Delays;
 use alarm_machine::{AlarmState, Verb};

@@ -27,7 +27,7 @@ pub use operator_orders::Order;
 pub use plant_config::{AlarmRow, ConfigFault, Files, Limit, Plant, Variable};
 pub use plant_file::Console;
 pub use plant_system::{EngineFault, Prepared, PreparedOrder, Reply, Report};
-pub use reload::{PreparedReload, Reloaded, ReloadRefused};
 pub use plant_types::{Given, Items, Kind, Pair, Place, Region, Text, Trap, Value};
+pub use reload::{PreparedReload, ReloadRefused, Reloaded};
 pub use slice_store::{Done, Job, Start};
 pub use stamps::Epoch;

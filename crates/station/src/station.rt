@@ -184,7 +184,8 @@ impl<L: Ledger, C: Drop> Station<L, C> {
         ensures err { IfErr result (λ r. (r.plant ≡ plant) × IsReloadDue (self.old.parts ≡ L.parts) r.fault self.old.engine plant) }
         ensures kept { OnErr result (SameButRoom self.old self.new) }
     {
-        self.recorder.reload(rt, alloc, plant)
+        let reloaded = self.recorder.reload(rt, alloc, plant)?;
+        Ok(reloaded)
     }
 
     /// Ends the station, once its consoles have ended: the orders that the history has of a console, followed by those that are left, are all that it
