@@ -29,7 +29,7 @@ const PLACES: usize = 20_000;
 fn opening_panel(alloc: Global, plant: &Plant) -> Result<Annunciator, AllocError>
     ensures { IfOk result (λ panel. panel ≡ panel_of (opening_system plant.now)) }
 {
-    let _rows = plant.alarm_rows();
+    plant.alarms();
     let bank = opening_bank(alloc, plant)?;
     Annunciator::of(alloc, &bank, PLACES)
 }
