@@ -1,10 +1,11 @@
 -- What a reload that is taken found.
 use Rattle.std.proofs.Common.{◌≡◌, ℕ, zero, suc, ◌+◌, ◌<◌, ◌≤◌, ◌≢◌, ◌==◌, Bool, true, false, ◌&&◌, not, if◌then◌else◌, List, [], ◌∷◌, ◌++◌, length, map, drop, refl, ap, sym, ◌∙◌, arith, eqb-true, eq-eqb, ne_eqb, append_assoc, append-nil, Some, Ok, Err}
-use Rattle.std.specs.Prelude.{nat_le, Result, slice_get, slice_index_or}
-use Rattle.std.specs.Option.{option_map}
+use Rattle.std.specs.Prelude.{nat_le, Option, Result, slice_get, slice_index_or}
+use Rattle.std.specs.Option.{option_and_then, option_map}
 use Rattle.std.proofs.lemmas.Option.{same_Some}
 use Rattle.std.proofs.lemmas.List.{drop_more, drop_all}
 use Rattle.std.proofs.lemmas.Bool.Decides.{nat_tests}
+use Rattle.alarm_bank.specs.declared.rows.NewAlarm.{NewAlarm}
 use Rattle.plant_file.specs.declared.console.Console.{Console}
 use Rattle.plant_config.specs.declared.rows.AlarmRow.{AlarmRow}
 use Rattle.plant_config.specs.Plants.{PlainPlant}
@@ -13,7 +14,7 @@ use Rattle.event_history.specs.declared.event.Event.TheVariants as event
 use Rattle.plant_system.specs.declared.event.TheConstants.{MOST_EVENTS}
 use Rattle.plant_system.specs.declared.event.EngineFault.{EngineFault}
 use Rattle.plant_system.specs.declared.event.EngineFault.TheVariants as refusal
-use Rattle.plant_system.specs.Reloads.{numbers_of, same_numbers}
+use Rattle.plant_system.specs.Reloads.{kept_number, new_of, numbers_of, same_numbers}
 use Rattle.plant_system.specs.System.{taken_reload}
 
 head_same : (a b : Bool) → (a && b) ≡ true → a ≡ true
@@ -75,6 +76,13 @@ made_next f rows made n x at = ap (λ l. made ++ l) (made_tail f rows n x at) �
 
 pub made_end : {X : Type 0} (f : AlarmRow → X) (rows : List AlarmRow) (made : List X) (n : ℕ) → length rows ≤ n → made ++ map f (drop n rows) ≡ made
 made_end f rows made n h = ap (λ (l : List AlarmRow). made ++ map f l) (drop_all n rows h) ∙ append-nil made
+
+-- an alarm of a new plant, by its row and its number
+pub new_made : (old : PlainPlant) (rows : List AlarmRow) (n : ℕ) (row : AlarmRow) (kept : Option ℕ) → slice_get rows n ≡ Some row → kept ≡ option_and_then (kept_number old) (slice_get rows n)
+    → option_map (new_of old) (slice_get rows n) ≡ Some (record { site = record { area = row.area; priority = row.priority }; latching = row.latching; max_shelve_ms = row.max_shelve_ms; kept = kept })
+new_made old rows n row kept at is =
+    let made : Option ℕ → NewAlarm = λ k. record { site = record { area = row.area; priority = row.priority }; latching = row.latching; max_shelve_ms = row.max_shelve_ms; kept = k } in
+    ap (option_map (new_of old)) at ∙ ap (λ (k : Option ℕ). Some (made k)) (sym (is ∙ ap (option_and_then (kept_number old)) at))
 
 -- what a reload that is taken found: room in the history, and the consoles' numbers and the epoch as they were
 pub record FoundReload (plant new : PlainPlant) (events : ℕ) : Type 0 where
