@@ -16,12 +16,12 @@ use Rattle.archive.specs.Records.{ShowsAll}
 -- of an engine with the same plant and the same history, where the same was laid by
 pub has_same : (plant now : PlainPlant) (history events : List Event) (old new : BoardWriter) → laid new ≡ laid old → now ≡ plant → events ≡ history → HasHistory plant history old → HasHistory now events new
 has_same plant now history events old new same p h has =
-    let kept : HasHistory plant history new = record { laid_is = same ∙ has.laid_is; alarms = has.alarms; stays = has.stays } in
+    let kept : HasHistory plant history new = record { laid_is = same ∙ has.laid_is; alarms = has.alarms } in
     subst (λ (q : PlainPlant). HasHistory q events new) (sym p) (subst (λ (es : List Event). HasHistory plant es new) (sym h) kept)
 
 -- where readers take all that was laid by for a history, they take an entry for each event
 pub shows_all : (plant : PlainPlant) (history : List Event) (board : BoardWriter) → HasHistory plant history board → published board ≡ laid board → ShowsAll history board
-shows_all plant history board has is = ap (λ (s : Story Picture Entry). length s.1) (is ∙ has.laid_is) ∙ length_of plant history has.stays
+shows_all plant history board has is = ap (λ (s : Story Picture Entry). length s.1) (is ∙ has.laid_is) ∙ length_of plant history
 
 -- one refusal more was counted
 pub refused_more : (all all' : Type 0) (old new : List Refusal) (one : Refusal) → new ≡ old ++ one ∷ [] → UnlessRefused all all' (length old) (length new) true

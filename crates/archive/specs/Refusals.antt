@@ -3,7 +3,10 @@ use Rattle.std.specs.Prelude.{◌⊎◌, Result, IsOk}
 use Rattle.event_history.specs.declared.event.Event.{Event}
 use Rattle.plant_system.specs.declared.event.EngineFault.{EngineFault}
 use Rattle.plant_system.specs.declared.event.EngineFault.TheVariants as refusal
+use Rattle.plant_config.specs.Plants.{PlainPlant}
 use Rattle.plant_system.specs.Image.{IsDue}
+use Rattle.plant_system.specs.System.{System, reload_event}
+use Rattle.engine.specs.Engines.{IsReloadRefusal}
 
 -- why an order is no event: memory was refused, or the history is full
 abbrev pub IsOrderFault : EngineFault → Type 0
@@ -20,3 +23,7 @@ IsOrderFault refusal.ReloadEpoch = ⊥
 -- a refusal is due where the engine is asked for the event; or the engine takes it, and the refusal is due where the book is asked
 abbrev pub IsDueInBoth : EngineFault → Result Event EngineFault → Result Event EngineFault → Type 0
 IsDueInBoth e own kept = IsDue e own ⊎ (IsOk own × IsDue e kept)
+
+-- a reload is refused where the engine refuses it; or the engine takes it, and the book refuses it
+abbrev pub IsReloadRefusedInBoth : System → System → PlainPlant → EngineFault → Type 0
+IsReloadRefusedInBoth own kept new fault = IsReloadRefusal own new fault ⊎ (IsOk (reload_event own new) × IsReloadRefusal kept new fault)

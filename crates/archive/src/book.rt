@@ -5,14 +5,17 @@ ghost use Rattle.event_history.specs.declared.event.Event.TheVariants as event;
 ghost use Rattle.plant_system.specs.Faults.{IsNoCrews};
 ghost use Rattle.plant_system.specs.Image.{IsDue};
 ghost use Rattle.plant_system.specs.System.{scan_event, order_event};
-ghost use Rattle.engine.specs.Engines.{state_of, Fits, FitsOrder};
+ghost use Rattle.engine.specs.Engines.{state_of, Fits, FitsOrder, FitsReload, IsReloadRefusal};
 ghost use Rattle.engine.specs.Lawful.{IsLawfulHistory};
 ghost use Rattle.engine.specs.Journal.{journal_of};
 ghost use Rattle.archive.specs.Pages.{IsPage};
 ghost use Rattle.archive.specs.Refusals.{IsOrderFault};
 
 use crate::page::page_of;
-use engine::{Alone, Engine, EngineFault, Order, Pair, Plant, Prepared, PreparedOrder};
+use engine::{
+    Alone, Engine, EngineFault, Order, Pair, Plant, Prepared, PreparedOrder, PreparedReload,
+    ReloadRefused,
+};
 use std::alloc::{AllocError, Global};
 use std::marker::Model;
 use std::sync::ledger::{Book as Tally, Ledger, Share};
@@ -151,6 +154,34 @@ impl<L: Ledger> Book<L> {
         let Book { engine, tally } = self;
         tally.add(share, 1);
         engine.commit_order(prepared);
+    }
+
+    /// Makes a reload ready, as `Engine::prepare_reload`: a refusal hands the plant back.
+    pub fn prepare_reload(
+        &mut self,
+        alloc: Global,
+        plant: Plant,
+    ) -> Result<PreparedReload, ReloadRefused>
+        ensures plant { self.new.plant ≡ self.old.plant }
+        ensures history { self.new.history ≡ self.old.history }
+        ensures ok { IfOk result (λ p. FitsReload self.new p × (p.plant ≡ plant)) }
+        ensures err { IfErr result (λ r. IsReloadRefusal (state_of self.old) plant r.fault × (r.plant ≡ plant)) }
+    {
+        self.engine.prepare_reload(alloc, plant)
+    }
+
+    /// Adds a reload that was made ready and does it, and adds one to the share. It allocates nothing and can't fail.
+    pub fn commit_reload(&mut self, prepared: PreparedReload, share: &mut Share<L>)
+        requires fits { FitsReload self.old prepared }
+        requires part { 0 < share.old.parts }
+        ensures plant { self.new.plant ≡ self.old.plant }
+        ensures history { self.new.history ≡ self.old.history ++ event.Reload prepared.plant ∷ [] }
+        ensures amount { share.new.amount ≡ share.old.amount + 1 }
+        ensures parts { share.new.parts ≡ share.old.parts }
+    {
+        let Book { engine, tally } = self;
+        tally.add(share, 1);
+        engine.commit_reload(prepared);
     }
 
     /// Holds a share against the tally: if it is the whole one, it is as great as the number of events. It does nothing when it runs.

@@ -5,13 +5,13 @@ ghost use Rattle.event_history.specs.declared.event.Event.TheVariants as event;
 ghost use Rattle.plant_system.specs.Faults.{faults_by};
 ghost use Rattle.plant_system.specs.States.{IsReport};
 ghost use Rattle.plant_system.specs.System.{scan_event, order_event, reply_to};
-ghost use Rattle.engine.specs.Engines.{state_of, Fits, FitsOrder};
-ghost use Rattle.archive.specs.Refusals.{IsDueInBoth, IsOrderFault};
+ghost use Rattle.engine.specs.Engines.{state_of, Fits, FitsOrder, FitsReload, IsReloadRefusal, TellsReload};
+ghost use Rattle.archive.specs.Refusals.{IsDueInBoth, IsOrderFault, IsReloadRefusedInBoth};
 
 use crate::book::{Book, order_in};
 use engine::{
-    Crew, Done, Engine, EngineFault, Job, Order, Pair, Prepared, PreparedOrder, Reply, Report,
-    Start,
+    Crew, Done, Engine, EngineFault, Job, Order, Pair, Plant, Prepared, PreparedOrder,
+    PreparedReload, ReloadRefused, Reloaded, Reply, Report, Start,
 };
 use std::alloc::Global;
 use std::sync::ledger::{Ledger, Share};
@@ -32,6 +32,15 @@ pub struct ReadyOrder {
     pub own: PreparedOrder,
     /// In the book.
     pub kept: PreparedOrder,
+}
+
+/// A reload that was made ready in an engine and in a book.
+#[derive(Drop)]
+pub struct ReadyReload {
+    /// In the engine.
+    pub own: PreparedReload,
+    /// In the book, of a copy of the plant.
+    pub kept: PreparedReload,
 }
 
 /// Makes a scan ready in both: in the engine with this crew, in the book by the caller alone. A refusal, of the one or the other, changes neither but for
@@ -124,4 +133,69 @@ pub fn commit_order<L: Ledger>(
     let ReadyOrder { own, kept } = ready;
     book.commit_order(kept, share);
     engine.commit_order(own)
+}
+
+/// A copy of a plant that was made ready, made ready in a book. Fails as the book refuses it.
+fn kept_reload<L: Ledger>(
+    alloc: Global,
+    book: &mut Book<L>,
+    plant: &Plant,
+) -> Result<PreparedReload, EngineFault>
+    ensures book { (book.new.plant ≡ book.old.plant) × (book.new.history ≡ book.old.history) }
+    ensures ok { IfOk result (λ p. FitsReload book.new p × (p.plant ≡ plant.now)) }
+    ensures err { IfErr result (IsReloadRefusal (state_of book.old) plant.now) }
+{
+    let copy = plant.copy(alloc)?;
+    match book.prepare_reload(alloc, copy) {
+        Ok(kept) => Ok(kept),
+        Err(refused) => {
+            let ReloadRefused { plant, fault } = refused;
+            drop(plant);
+            Err(fault)
+        }
+    }
+}
+
+/// Makes a reload ready in both, in the book by a copy of the plant. A refusal, of the one or the other, changes neither but for room, and hands the plant back.
+pub fn ready_reload<L: Ledger>(
+    alloc: Global,
+    engine: &mut Engine,
+    book: &mut Book<L>,
+    plant: Plant,
+) -> Result<ReadyReload, ReloadRefused>
+    ensures engine { (engine.new.plant ≡ engine.old.plant) × (engine.new.history ≡ engine.old.history) }
+    ensures book { (book.new.plant ≡ book.old.plant) × (book.new.history ≡ book.old.history) }
+    ensures own { IfOk result (λ r. FitsReload engine.new r.own × (r.own.plant ≡ plant)) }
+    ensures kept { IfOk result (λ r. FitsReload book.new r.kept × (r.kept.plant ≡ plant)) }
+    ensures err { IfErr result (λ r. IsReloadRefusedInBoth (state_of engine.old) (state_of book.old) plant r.fault × (r.plant ≡ plant)) }
+{
+    let own = engine.prepare_reload(alloc, plant)?;
+    match kept_reload(alloc, book, own.plant()) {
+        Ok(kept) => Ok(ReadyReload { own, kept }),
+        Err(fault) => Err(ReloadRefused {
+            plant: own.into_plant(),
+            fault,
+        }),
+    }
+}
+
+/// Commits a reload that was made ready in both, adds one to the share, and returns what the reload did in the engine. It allocates nothing and can't fail.
+pub fn commit_reload<L: Ledger>(
+    engine: &mut Engine,
+    book: &mut Book<L>,
+    share: &mut Share<L>,
+    ready: ReadyReload,
+) -> Reloaded
+    requires own { FitsReload engine.old ready.own }
+    requires kept { FitsReload book.old ready.kept }
+    requires part { 0 < share.old.parts }
+    ensures plants { (engine.new.plant ≡ engine.old.plant) × (book.new.plant ≡ book.old.plant) }
+    ensures engine { engine.new.history ≡ engine.old.history ++ event.Reload ready.own.plant ∷ [] }
+    ensures book { book.new.history ≡ book.old.history ++ event.Reload ready.kept.plant ∷ [] }
+    ensures share { (share.new.amount ≡ share.old.amount + 1) × (share.new.parts ≡ share.old.parts) }
+    ensures told { TellsReload (state_of engine.old) ready.own.plant result.kept result.fresh }
+{
+    let ReadyReload { own, kept } = ready;
+    book.commit_reload(kept, share);
+    engine.commit_reload(own)
 }

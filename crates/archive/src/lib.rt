@@ -1,7 +1,7 @@
 //! The archive of a station: a second engine under a lock, which other threads may read; and its recorder, where each event goes into both.
 //!
-//! Contracts see a book as its engine. Its type keeps that a ledger's total is the engine's number of events, and only `Book::commit` and
-//! `Book::commit_order` raise that total: each raises a share of the ledger with it. So whoever keeps a share that is as great as its own number of
+//! Contracts see a book as its engine. Its type keeps that a ledger's total is the engine's number of events, and only `Book::commit`,
+//! `Book::commit_order` and `Book::commit_reload` raise that total: each raises a share of the ledger with it. So whoever keeps a share that is as great as its own number of
 //! events has put each of them into the book.
 //!
 //! An event is first made ready in both engines, which may be refused and changes neither of them but for room, and then committed in both, which
@@ -19,6 +19,9 @@ mod page;
 mod recorder;
 
 pub use book::Book;
-pub use both::{ReadyOrder, ReadyScan, commit_order, commit_scan, ready_order, ready_scan};
+pub use both::{
+    ReadyOrder, ReadyReload, ReadyScan, commit_order, commit_reload, commit_scan, ready_order,
+    ready_reload, ready_scan,
+};
 pub use lock::Archive;
 pub use recorder::{Recorder, Refusal};

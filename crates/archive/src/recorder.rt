@@ -5,14 +5,19 @@ ghost use Rattle.plant_system.specs.Faults.{faults_by};
 ghost use Rattle.engine.specs.Engines.{TakesScan};
 ghost use Rattle.boards.specs.Readers.{laid, published, log_kept};
 ghost use Rattle.board_entries.specs.Showing.{HasHistory};
-ghost use Rattle.archive.specs.Records.{IsScanDue, ShowsUnlessRefused, ShowsAll};
+ghost use Rattle.archive.specs.Records.{IsReloadDue, IsScanDue, ShowsUnlessRefused, ShowsAll, TakesReload};
 ghost use Rattle.order_taking.specs.Turns.{UnlessRefused};
 
-use crate::both::{commit_order, commit_scan, ready_order, ready_scan};
+use crate::both::{
+    ReadyReload, commit_order, commit_reload, commit_scan, ready_order, ready_reload, ready_scan,
+};
 use crate::lock::Archive;
-use board_entries::{lay_order, lay_scan};
+use board_entries::{lay_order, lay_reload, lay_scan};
 use boards::BoardWriter;
-use engine::{Crew, Done, Engine, EngineFault, Job, Order, Pair, Reply, Report, Start};
+use engine::{
+    Crew, Done, Engine, EngineFault, Job, Order, Pair, Plant, ReloadRefused, Reloaded, Reply,
+    Report, Start,
+};
 use order_taking::{NotTaken, Recording};
 use std::alloc::Global;
 use std::sync::ledger::{Ledger, Share};
@@ -105,6 +110,56 @@ impl<L: Ledger> Recorder<L> {
         drop(book);
         show(rt, board, refusals);
         Ok(report)
+    }
+
+    /// A reload: it is made ready in both engines, in the archive's by a copy of the plant, and its entry laid by for the board; then it is committed in both,
+    /// under the archive's lock, and shown, or the board is late. One that is refused changes neither the history nor what the board shows, isn't counted,
+    /// and hands the plant back.
+    pub fn reload<H: Wait>(
+        &mut self,
+        rt: &H,
+        alloc: Global,
+        plant: Plant,
+    ) -> Result<Reloaded, ReloadRefused>
+        ensures plant { self.new.engine.plant ≡ self.old.engine.plant }
+        ensures ok { IfOk result (λ r. TakesReload self.old.engine self.new.engine plant r) }
+        ensures err { IfErr result (λ r. (r.plant ≡ plant) × IsReloadDue (self.old.share.parts ≡ L.parts) r.fault self.old.engine plant) }
+        ensures kept { OnErr result (self.new.engine.history ≡ self.old.engine.history) }
+        ensures unshown { OnErr result ((published self.new.board ≡ published self.old.board) × (self.new.refusals ≡ self.old.refusals)) }
+        ensures share { self.new.share.parts ≡ self.old.share.parts }
+        ensures log { log_kept self.new.board ≡ log_kept self.old.board }
+        ensures counted { length self.old.refusals ≤ length self.new.refusals }
+        ensures shown { OnOk result (length self.new.refusals ≡ length self.old.refusals → ShowsAll self.new.engine.history self.new.board) }
+    {
+        let Recorder {
+            engine,
+            share,
+            archive,
+            board,
+            refusals,
+        } = self;
+        let mut book = archive.lock(rt);
+        book.audit(share);
+        let ready = match ready_reload(alloc, engine, &mut *book, plant) {
+            Ok(ready) => ready,
+            Err(refused) => {
+                drop(book);
+                return Err(refused);
+            }
+        };
+        let Ok(()) = lay_reload(alloc, board, engine, ready.own.plant()) else {
+            drop(book);
+            let ReadyReload { own, kept } = ready;
+            drop(kept);
+            return Err(ReloadRefused {
+                plant: own.into_plant(),
+                fault: EngineFault::Memory,
+            });
+        };
+        let reloaded = commit_reload(engine, &mut *book, share, ready);
+        drop(book);
+        show(rt, board, refusals);
+        Ok(reloaded)
     }
 }
 

@@ -19,7 +19,7 @@ use Rattle.plant_config.specs.Orderers.{has_area}
 use Rattle.operator_orders.specs.declared.order.Order.{Order}
 use Rattle.plant_system.specs.declared.state.Effect.{Effect}
 use Rattle.plant_system.specs.declared.state.Effect.TheVariants as effect
-use Rattle.plant_system.specs.Orders.{is_console, alarm_effect, order_at, order_outcome, alarms_by, reply_by}
+use Rattle.plant_system.specs.Orders.{is_console, alarm_effect, order_at, order_outcome, unless_old, alarms_by, reply_by}
 use Rattle.boards.specs.declared.entry.Answer.{Answer}
 use Rattle.boards.specs.Replies.{fault_number, same_change, same_reply, is_restart, is_outside, after_answer, may_answer}
 use Rattle.board_entries.specs.Entries.{board_reply}
@@ -51,6 +51,9 @@ fault_itself e = eq-eqb (fault_number e) (fault_number e) refl
 -- an order that is refused before any alarm is asked
 outside_area : (b : PlainBank) (order : Order) → Takes b order (Err fault.NotYourArea)
 outside_area b order = record { may = or_second (is_restart order.verb) true refl; after = refl }
+
+outside_old : (b : PlainBank) (order : Order) → Takes b order (Err fault.OldPlant)
+outside_old b order = record { may = or_second (is_restart order.verb) true refl; after = refl }
 
 outside_target : (b : PlainBank) (order : Order) → Takes b order (Err fault.UnknownTarget)
 outside_target b order = record { may = or_second (is_restart order.verb) true refl; after = refl }
@@ -132,3 +135,11 @@ module _ (m : ℕ) where
 
 pub order_takes : (b : PlainBank) (plant : PlainPlant) (faulted : List Bool) (console : ℕ) (order : Order) → Takes b order (order_outcome plant b.alarms faulted b.moment console order)
 order_takes b plant faulted console order = by_target order.plant b plant faulted console order.verb order.target
+
+-- and so of one that is refused where its maker knew another number of reloads
+unless_refused : (b : PlainBank) (order : Order) (present : Bool) (done : Result Effect OrderFault) → Takes b order done → Takes b order (if present then done else Err fault.OldPlant)
+unless_refused b order true done takes = takes
+unless_refused b order false done takes = outside_old b order
+
+pub ordered_takes : (b : PlainBank) (plant : PlainPlant) (faulted : List Bool) (reloads console : ℕ) (order : Order) → Takes b order (unless_old reloads order (order_outcome plant b.alarms faulted b.moment console order))
+ordered_takes b plant faulted reloads console order = unless_refused b order (order.plant == reloads) (order_outcome plant b.alarms faulted b.moment console order) (order_takes b plant faulted console order)

@@ -1,90 +1,85 @@
 -- A board goes on with a history: the next entry may come, and after it the board's alarms are the system's.
-use Rattle.std.proofs.Common.{◌≡◌, suc, true, List, [], ◌∷◌, ◌++◌, length, fold, Ok, Err, IfOk, refl, ap, sym, ◌∙◌, append_assoc, append-nil}
+use Rattle.std.proofs.Common.{◌≡◌, suc, true, List, [], ◌∷◌, ◌++◌, length, fold, Ok, Err, IfOk, refl, ap, sym, ◌∙◌}
 use Rattle.std.specs.declared.result.Result.{Result}
 use Rattle.event_history.specs.declared.event.Event.{Event}
 use Rattle.event_history.specs.declared.event.Event.TheVariants as event
-use Rattle.event_history.specs.Reloads.{NoReload}
 use Rattle.plant_config.specs.Plants.{PlainPlant}
 use Rattle.plant_config.specs.Names.{globals_of}
 use Rattle.plant_system.specs.System.{System, system, opening_system, after_event}
+use Rattle.alarm_bank.specs.Banks.{PlainBank}
 use Rattle.plant_system.proofs.Images.{taken_when}
-use Rattle.plant_system.proofs.Systems.{HasAlarms, alarms_there, event_keeps_plant, system_next, system_none}
+use Rattle.plant_system.proofs.Reloading.{reload_found}
+use Rattle.plant_system.proofs.Systems.{HasAlarms, alarms_there, system_next, system_none}
 use Rattle.engine.specs.Lawful.{IsTaken}
 use Rattle.boards.specs.declared.entry.Entry.{Entry}
 use Rattle.boards.specs.declared.picture.Picture.{Picture}
 use Rattle.boards.specs.declared.writer.BoardWriter.{BoardWriter}
 use Rattle.boards.specs.Stories.{shown}
-use Rattle.boards.specs.Replies.{after, allows, bank_after_entry}
+use Rattle.boards.specs.Replies.{after, allows, panel_after_entry}
 use Rattle.boards.specs.declared.board.Board.{Board}
 use Rattle.boards.specs.Readers.{published, laid, story_of}
 use Rattle.boards.proofs.Takes.{shown_more}
-use Rattle.board_entries.specs.Entries.{entries_in, entries_from, entries_of, bank_of, counted_consoles, picture_of}
+use Rattle.board_entries.specs.Entries.{entry_of, entries_from, entries_of, bank_of, panel_of, counted_consoles, picture_of}
 use Rattle.board_entries.specs.Showing.{HasAlarmsOf, HasHistory}
-use Rattle.board_entries.proofs.Orders.{order_takes}
+use Rattle.board_entries.proofs.Orders.{ordered_takes}
+use Rattle.board_entries.proofs.Reloads.{panel_reloaded, reload_allowed}
 use Rattle.board_entries.proofs.Scans.{scan_after}
 
-entries_more : (s : System) (es : List Event) (e : Event) → entries_from s (es ++ e ∷ []) ≡ entries_from s es ++ entries_in (fold after_event s es) e
-entries_more s [] e = append-nil (entries_in s e)
-entries_more s (x ∷ es) e =
-    let next = after_event s x in
-    ap (λ (l : List Entry). entries_in s x ++ l) (entries_more next es e) ∙ sym (append_assoc (entries_in s x) (entries_from next es) (entries_in (fold after_event next es) e))
+entries_more : (s : System) (es : List Event) (e : Event) → entries_from s (es ++ e ∷ []) ≡ entries_from s es ++ entry_of (fold after_event s es) e ∷ []
+entries_more s [] e = refl
+entries_more s (x ∷ es) e = ap (λ (l : List Entry). entry_of s x ∷ l) (entries_more (after_event s x) es e)
 
-pub history_more : (plant : PlainPlant) (history : List Event) (e : Event) → entries_of plant (history ++ e ∷ []) ≡ entries_of plant history ++ entries_in (system plant history) e
+pub history_more : (plant : PlainPlant) (history : List Event) (e : Event) → entries_of plant (history ++ e ∷ []) ≡ entries_of plant history ++ entry_of (system plant history) e ∷ []
 unfolding entries_of system
 history_more plant history e = entries_more (opening_system plant) history e
 
-length_from : (s : System) (es : List Event) → NoReload es → length (entries_from s es) ≡ length es
-length_from s [] stays = refl
-length_from s (event.Scan image t ∷ es) stays = ap suc (length_from (after_event s (event.Scan image t)) es stays)
-length_from s (event.Order console order ∷ es) stays = ap suc (length_from (after_event s (event.Order console order)) es stays)
-length_from s (event.Reload new ∷ es) stays = absurd stays
+length_from : (s : System) (es : List Event) → length (entries_from s es) ≡ length es
+length_from s [] = refl
+length_from s (e ∷ es) = ap suc (length_from (after_event s e) es)
 
--- an entry for each event, where none is a reload
-pub length_of : (plant : PlainPlant) (history : List Event) → NoReload history → length (entries_of plant history) ≡ length history
+-- an entry for each event
+pub length_of : (plant : PlainPlant) (history : List Event) → length (entries_of plant history) ≡ length history
 unfolding entries_of
-length_of plant history stays = length_from (opening_system plant) history stays
+length_of plant history = length_from (opening_system plant) history
 
--- an event that has an entry is no reload
-pub entry_stays : (sys : System) (e : Event) (x : Entry) → entries_in sys e ≡ x ∷ [] → NoReload (e ∷ [])
-entry_stays sys (event.Scan image t) x is = tt
-entry_stays sys (event.Order console order) x is = tt
-entry_stays sys (event.Reload new) x is = absurd (cc)
+next_allowed : (sys : System) (e : Event) → HasAlarms sys → IsTaken sys e → allows (picture_of sys) (entry_of sys e) ≡ true
+next_allowed sys (event.Scan image t) each h = refl
+next_allowed sys (event.Order console order) each h = (ordered_takes (bank_of sys) sys.plant sys.faulted sys.reloads console order).may
+next_allowed sys (event.Reload new) each h = reload_allowed sys new each.0 h.1
 
--- what the entry of an event is, by the event
-abbrev head_or : Entry → List Entry → Entry
-head_or d [] = d
-head_or d (y ∷ ys) = y
+-- other alarms in the places of a board
+placed : {b c : PlainBank} → b ≡ c → record { bank = b; places = 20000 } ≡ record { bank = c; places = 20000 }
+placed h = λ i. record { bank = h i; places = 20000 }
 
-next_allowed : (sys : System) (e : Event) (x : Entry) → entries_in sys e ≡ x ∷ [] → allows (picture_of sys) x ≡ true
-next_allowed sys (event.Scan image t) x is = sym (ap (λ (l : List Entry). allows (picture_of sys) (head_or x l)) is)
-next_allowed sys (event.Order console order) x is = sym (ap (λ (l : List Entry). allows (picture_of sys) (head_or x l)) is) ∙ (order_takes (bank_of sys) sys.plant sys.faulted console order).may
-next_allowed sys (event.Reload new) x is = absurd (cc)
+panel_after : (sys : System) (e : Event) → HasAlarms sys → IsTaken sys e → panel_after_entry (panel_of sys) (entry_of sys e) ≡ panel_of (after_event sys e)
+panel_after sys (event.Scan image t) each h = placed (scan_after sys image t each (taken_when (globals_of sys.plant) sys.moment sys.events h.0 t t image h.1).in_range)
+panel_after sys (event.Order console order) each h = placed (ordered_takes (bank_of sys) sys.plant sys.faulted sys.reloads console order).after
+panel_after sys (event.Reload new) each h = panel_reloaded sys new
 
-bank_after : (sys : System) (e : Event) (x : Entry) → HasAlarms sys → IsTaken sys e → entries_in sys e ≡ x ∷ [] → bank_after_entry (bank_of sys) x ≡ bank_of (after_event sys e)
-bank_after sys (event.Scan image t) x each h is =
-    sym (ap (λ (l : List Entry). bank_after_entry (bank_of sys) (head_or x l)) is) ∙ scan_after sys image t each (taken_when (globals_of sys.plant) sys.moment sys.events h.0 t t image h.1).in_range
-bank_after sys (event.Order console order) x each h is =
-    sym (ap (λ (l : List Entry). bank_after_entry (bank_of sys) (head_or x l)) is) ∙ (order_takes (bank_of sys) sys.plant sys.faulted console order).after
-bank_after sys (event.Reload new) x each h is = absurd (cc)
+-- no event changes the consoles
+same_consoles : (sys : System) (e : Event) → IsTaken sys e → counted_consoles (after_event sys e).plant.consoles ≡ counted_consoles sys.plant.consoles
+same_consoles sys (event.Scan image t) h = refl
+same_consoles sys (event.Order console order) h = refl
+same_consoles sys (event.Reload new) h = (reload_found sys.plant sys.events new h.0).numbers
 
-next_after : (sys : System) (e : Event) (x : Entry) → HasAlarms sys → IsTaken sys e → entries_in sys e ≡ x ∷ [] → after (picture_of sys) x ≡ picture_of (after_event sys e)
-next_after sys e x each h is =
-    let same = event_keeps_plant sys e (entry_stays sys e x is) in
-    λ i. record { bank = bank_after sys e x each h is i; consoles = counted_consoles ((sym same i).consoles) }
+next_after : (sys : System) (e : Event) → HasAlarms sys → IsTaken sys e → after (picture_of sys) (entry_of sys e) ≡ picture_of (after_event sys e)
+next_after sys e each h = λ i. record { panel = panel_after sys e each h i; consoles = sym (same_consoles sys e h) i }
 
 -- the entry of an event may come after the history before it
-pub next_may : (plant : PlainPlant) (history : List Event) (e : Event) (x : Entry) → HasAlarmsOf plant history → entries_in (system plant history) e ≡ x ∷ []
+pub next_may : (plant : PlainPlant) (history : List Event) (e : Event) (x : Entry) → IsTaken (system plant history) e → HasAlarmsOf plant history → x ≡ entry_of (system plant history) e
     → allows (shown after (picture_of (opening_system plant)) (entries_of plant history)) x ≡ true
-next_may plant history e x alarms is = ap (λ (p : Picture). allows p x) alarms ∙ next_allowed (system plant history) e x is
+next_may plant history e x taken alarms is =
+    ap (λ (p : Picture). allows p x) alarms ∙ (ap (λ (y : Entry). allows (picture_of (system plant history)) y) is ∙ next_allowed (system plant history) e (alarms_there plant history) taken)
 
 -- and after it the alarms are the system's
-pub alarms_next : (plant : PlainPlant) (history : List Event) (e : Event) (x : Entry) → IsTaken (system plant history) e → entries_in (system plant history) e ≡ x ∷ [] → HasAlarmsOf plant history → HasAlarmsOf plant (history ++ e ∷ [])
-alarms_next plant history e x taken is alarms =
+pub alarms_next : (plant : PlainPlant) (history : List Event) (e : Event) → IsTaken (system plant history) e → HasAlarmsOf plant history → HasAlarmsOf plant (history ++ e ∷ [])
+alarms_next plant history e taken alarms =
     let sys = system plant history in
     let opening = picture_of (opening_system plant) in
     let es = entries_of plant history in
-    ap (λ (l : List Entry). shown after opening l) (history_more plant history e ∙ ap (λ (l : List Entry). es ++ l) is)
-    ∙ (shown_more after opening es x ∙ (ap (λ (p : Picture). after p x) alarms ∙ (next_after sys e x (alarms_there plant history) taken is ∙ ap picture_of (sym (system_next plant history e)))))
+    let x = entry_of sys e in
+    ap (λ (l : List Entry). shown after opening l) (history_more plant history e)
+    ∙ (shown_more after opening es x ∙ (ap (λ (p : Picture). after p x) alarms ∙ (next_after sys e (alarms_there plant history) taken ∙ ap picture_of (sym (system_next plant history e)))))
 
 -- before the first event there is none
 pub no_entries : (plant : PlainPlant) → entries_of plant [] ≡ []
@@ -98,6 +93,5 @@ all_open (Ok w) plant first picture none h =
     let opening = picture_of (opening_system plant) in record {
       laid_is = h.1 ∙ ((λ i. (picture i, none i)) ∙ ap (λ (l : List Entry). (opening, l)) (sym (no_entries plant)));
       alarms = ap (λ (l : List Entry). shown after opening l) (no_entries plant) ∙ ap picture_of (sym (system_none plant));
-      stays = tt;
     }
 all_open (Err e) plant first picture none h = tt

@@ -1,7 +1,6 @@
 -- When a board has a history.
 use Rattle.std.specs.Prelude.{◌≡◌, List}
 use Rattle.event_history.specs.declared.event.Event.{Event}
-use Rattle.event_history.specs.Reloads.{NoReload}
 use Rattle.plant_config.specs.Plants.{PlainPlant}
 use Rattle.plant_system.specs.System.{system, opening_system}
 use Rattle.boards.specs.declared.writer.BoardWriter.{BoardWriter}
@@ -14,8 +13,7 @@ use Rattle.board_entries.specs.Entries.{picture_of, entries_of, history_story}
 abbrev pub HasAlarmsOf : PlainPlant → List Event → Type 0
 HasAlarmsOf plant history = shown after (picture_of (opening_system plant)) (entries_of plant history) ≡ picture_of (system plant history)
 
--- all that was laid by for the board is this history, which has no reload, and its alarms are the system's. What readers take is a beginning of that
+-- all that was laid by for the board is this history, and its alarms are the system's. What readers take is a beginning of that
 pub record HasHistory (plant : PlainPlant) (history : List Event) (board : BoardWriter) : Type 0 where
   pub laid_is : laid board ≡ history_story plant history
   pub alarms : HasAlarmsOf plant history
-  pub stays : NoReload history

@@ -2,13 +2,14 @@
 
 ghost use Rattle.std.specs.Prelude.{◌≡◌, [], ◌∷◌, ◌++◌, length, map, IfOk, MatchResult};
 ghost use Rattle.alarm_bank.specs.declared.event.BankEvent.TheVariants.{Scan};
-ghost use Rattle.event_history.specs.declared.event.Event.TheVariants.{Order};
+ghost use Rattle.event_history.specs.declared.event.Event.TheVariants.{Order, Reload};
 ghost use Rattle.alarm_delays.specs.Delays.{delayed_each};
 ghost use Rattle.plant_cells.specs.Cells.{value_at};
 ghost use Rattle.plant_types.specs.Values.{is_true};
 ghost use Rattle.alarm_watch.specs.Watched.{suppression};
 ghost use Rattle.plant_system.specs.System.{conditions, suppressions};
-ghost use Rattle.engine.specs.Engines.{Fits, FitsOrder};
+ghost use Rattle.engine.specs.Engines.{Fits, FitsOrder, state_of};
+ghost use Rattle.engine.specs.Lawful.{IsTaken};
 ghost use Rattle.boards.specs.Readers.{published, log_kept};
 ghost use Rattle.board_entries.specs.Entries.{board_reply};
 ghost use Rattle.board_entries.specs.Showing.{HasHistory};
@@ -19,8 +20,8 @@ use alarm_watch::value_at;
 use boards::{Answer, BoardWriter, Entry};
 use engine::{Engine, Prepared, PreparedOrder};
 use plant_cells::Cells;
-use plant_config::AlarmRow;
-use plant_system::Reply;
+use plant_config::{AlarmRow, Plant};
+use plant_system::{Reply, news_of};
 use plant_types::Items;
 use std::alloc::{AllocError, Global};
 
@@ -131,4 +132,20 @@ pub fn lay_order(
         reply: board_reply(prepared.reply),
     };
     board.lay(Entry::Order(prepared.console, answer))
+}
+
+/// Lays the entry by of a reload that the engine would take. Fails if memory was refused, or where the board takes no entry more; then nothing is laid by.
+pub fn lay_reload(
+    alloc: Global,
+    board: &mut BoardWriter,
+    engine: &Engine,
+    new: &Plant,
+) -> Result<(), AllocError>
+    requires has { HasHistory engine.now.plant engine.now.history board.old }
+    requires taken { IsTaken (state_of engine.now) (Reload new.now) }
+    ensures same { (published board.new ≡ published board.old) × (log_kept board.new ≡ log_kept board.old) }
+    ensures laid { MatchResult result (λ _. HasHistory engine.now.plant (engine.now.history ++ Reload new.now ∷ []) board.new) (λ _. HasHistory engine.now.plant engine.now.history board.new) }
+{
+    let news = news_of(alloc, engine.plant(), new)?;
+    board.lay(Entry::Reload(Items::from_vec(news)))
 }

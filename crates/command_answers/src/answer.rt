@@ -15,9 +15,7 @@ use command_text::{
     AlarmFront, Command, OutFront, Pool, push_alarm, push_done, push_fault, push_out, push_refused,
     push_reply, put_alarm, put_out, read_command,
 };
-use engine::{
-    Crew, Done, Engine, EngineFault, Job, Order, Reply, Report, Start,
-};
+use engine::{Crew, Done, Engine, EngineFault, Job, Order, Reply, Report, Start};
 use itoa::Buffer;
 use plant_config::Plant;
 use plant_types::{Pair, Place, Trap, Value};
@@ -266,14 +264,15 @@ fn answer_order(
     word: &[u8],
 ) -> Result<(), AllocError>
     ensures plant { engine.new.plant ≡ engine.old.plant }
-    ensures history { OnOk result (engine.new.history ≡ engine.old.history ++ event_added (order_event (state_of engine.old) console (order_for (state_of engine.old).plant verb word.now))) }
-    ensures text { OnOk result (text.new.items ≡ text.old.items ++ order_answer (state_of engine.old) console (order_for (state_of engine.old).plant verb word.now)) }
+    ensures history { OnOk result (engine.new.history ≡ engine.old.history ++ event_added (order_event (state_of engine.old) console (order_for (state_of engine.old) verb word.now))) }
+    ensures text { OnOk result (text.new.items ≡ text.old.items ++ order_answer (state_of engine.old) console (order_for (state_of engine.old) verb word.now)) }
     ensures err { OnErr result ((engine.new.history ≡ engine.old.history)
-        ⊎ (engine.new.history ≡ engine.old.history ++ event_added (order_event (state_of engine.old) console (order_for (state_of engine.old).plant verb word.now)))) }
+        ⊎ (engine.new.history ≡ engine.old.history ++ event_added (order_event (state_of engine.old) console (order_for (state_of engine.old) verb word.now)))) }
 {
     engine.keeps_its_plant();
     let last = engine.moment();
-    let order = Order::of(verb, target_of(engine.plant(), verb, word), 0);
+    let target = target_of(engine.plant(), verb, word);
+    let order = Order::of(verb, target, engine.reloads());
     match engine.order(alloc, console, order) {
         Ok(reply) => {
             engine.keeps_its_plant();

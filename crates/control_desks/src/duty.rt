@@ -31,6 +31,7 @@ pub fn look(console: &mut Console, post: &mut Post) -> bool
     };
     show(&view, post.lamps.as_mut_slice());
     let events = view.events();
+    post.plant = view.reloads();
     drop(view);
     post.look(events);
     true
@@ -81,7 +82,7 @@ fn acknowledge(console: &mut Console, post: &mut Post)
         let order = Order {
             verb,
             target: Some(alarm),
-            plant: 0,
+            plant: post.plant,
         };
         if console.submit(order).is_err() {
             return;

@@ -31,6 +31,8 @@ pub struct Post {
     pub number: u32,
     pub lamps: Vec<Lamp>,
     pub notes: Vec<Note>,
+    /// How often the plant had been replaced by what the console saw last: its orders are for that plant.
+    pub plant: u32,
     /// How many orders of the drill were submitted.
     drilled: usize,
     /// How many of the notes say what the board showed after them.
@@ -64,6 +66,7 @@ impl Post {
             number,
             lamps,
             notes: Vec::new(alloc),
+            plant: 0,
             drilled: 0,
             looked: 0,
             is_short: false,
@@ -113,7 +116,7 @@ impl Post {
         Some(Order {
             verb,
             target: self.own_alarm(place),
-            plant: 0,
+            plant: self.plant,
         })
     }
 

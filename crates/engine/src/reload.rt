@@ -1,5 +1,7 @@
 //! A reload that was made ready, and what is told of it.
 
+ghost use Rattle.std.specs.Prelude.{◌≡◌};
+
 use plant_config::Plant;
 use plant_system::{EngineFault, ReadyReload};
 use std::marker::Model;
@@ -22,6 +24,24 @@ impl Model for PreparedReload {
     ghost Value = { PlainPreparedReload };
 
     ghost view = { λ p. record { plant = p.plant; state = p.ready.state; kept = p.ready.kept; fresh = p.ready.fresh } };
+}
+
+impl PreparedReload {
+    /// The plant.
+    pub fn plant(&self) -> &Plant
+        ensures { result.now ≡ self.now.plant }
+    {
+        &self.plant
+    }
+
+    /// The plant alone: the reload isn't made.
+    pub fn into_plant(self) -> Plant
+        ensures { result ≡ self.plant }
+    {
+        let PreparedReload { plant, ready } = self;
+        drop(ready);
+        plant
+    }
 }
 
 /// What a reload did to the alarms of the new plant.

@@ -7,7 +7,6 @@ use mathlib.Core.List.{IsPrefix}
 use Rattle.console_link.specs.declared.console.Finished.{Finished}
 use Rattle.console_link.specs.declared.lane.Lane.{Lane}
 use Rattle.event_history.specs.declared.event.Event.{Event}
-use Rattle.event_history.specs.Reloads.{NoReload}
 use Rattle.operator_orders.specs.declared.order.Order.{Order}
 use Rattle.plant_config.specs.Plants.{PlainPlant}
 use Rattle.plant_system.specs.declared.event.Reply.{Reply}
@@ -67,12 +66,12 @@ few : (a b : ℕ) → nat_le a b ≡ true → a ≤ b
 few a b h = grind (arith, nat_tests)
 
 -- what a console saw that saw no more events than there are begins their entries
-pub is_beginning : (plant : PlainPlant) (history : List Event) (fs : List F) (n : ℕ) (f : F) (within : Bool) → NoReload history → AreBeginnings (entries_of plant history) fs → ended_of n fs ≡ Some f
+pub is_beginning : (plant : PlainPlant) (history : List Event) (fs : List F) (n : ℕ) (f : F) (within : Bool) → AreBeginnings (entries_of plant history) fs → ended_of n fs ≡ Some f
     → within ≡ has_seen_within (length history) (finished_of n (links_in fs)) → within ≡ true → IsPrefix f.mark.entries (entries_of plant history)
-is_beginning plant history fs n f within stays all found exact is =
+is_beginning plant history fs n f within all found exact is =
     let theirs = found_ended (λ (g : F). IsPrefix g.mark.entries all.one) n fs f all.theirs found in
     let le : nat_le f.link.seen (length history) ≡ true = sym (ap (λ (o : Option (Finished Order Reply)). has_seen_within (length history) o) (links_found n fs f found)) ∙ (sym exact ∙ is) in
-    let not_longer : length f.mark.entries ≤ length (entries_of plant history) = omega (arith, f.counted, few f.link.seen (length history) le, length_of plant history stays) in
+    let not_longer : length f.mark.entries ≤ length (entries_of plant history) = omega (arith, f.counted, few f.link.seen (length history) le, length_of plant history) in
     prefix_of_both f.mark.entries (entries_of plant history) all.one theirs all.own not_longer
 
 none_begins : (xs ys : List Entry) → Begins xs ys → ys ≡ [] → xs ≡ []

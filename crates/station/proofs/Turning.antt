@@ -36,6 +36,10 @@ station_opened p h log ls none numbers once few unused marked =
       marked = marked;
     }
 
+-- an event that is no order, and nothing else
+pub station_told : (p : PlainPlant) (h : List Event) (log : Book) (e : Event) (ls : List L) → order_of_event e ≡ None → IsStation p h log ls → IsStation p (h ++ e ∷ []) log ls
+station_told p h log e ls none s = record { listed = s.listed; once = s.once; few = s.few; agree = agree_scans p h e ls none s.agree; marked = s.marked }
+
 -- an event that is no order, and then the parts of all consoles
 pub station_turned : (p : PlainPlant) (h new : List Event) (log : Book) (e : Event) (ds bs : List L) (taken : ℕ) (stopped : Bool) → order_of_event e ≡ None → TookParts p ds bs (h ++ e ∷ []) new taken stopped
     → IsStation p h log ds → IsStation p new log bs

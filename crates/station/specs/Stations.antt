@@ -18,7 +18,9 @@ use Rattle.plant_system.specs.contracts.event.Reply as reply_row
 use Rattle.plant_system.specs.System.{scan_event}
 use Rattle.plant_system.specs.Reports.{PlainReport}
 use Rattle.plant_system.specs.States.{IsReport}
+use Rattle.engine.specs.declared.reload.Reloaded.{Reloaded}
 use Rattle.engine.specs.Engines.{PlainEngine, engine_code, state_of}
+use Rattle.archive.specs.Records.{TakesReload}
 use Rattle.boards.specs.declared.entry.Answer.{Answer as Shown}
 use Rattle.boards.specs.declared.entry.Entry.{Entry}
 use Rattle.boards.specs.Counts.{answers_of as answers_shown}
@@ -83,6 +85,15 @@ module _ {C : Type 0} where
   -- and unless one refusal more was counted, a turn wasn't stopped, and the board shows all events
   abbrev pub IsWhole : PlainStation C → PlainStation C → Bool → Type 0
   IsWhole old new stopped = (old.refusals ≤ new.refusals) × (new.refusals ≡ old.refusals → (stopped ≡ false) × (new.shown ≡ length new.engine.history))
+
+  -- a reload: it is the next event of the history, no order is taken, and unless one refusal more was counted, the board shows all events
+  pub record IsReload (old new : PlainStation C) (plant : PlainPlant) (r : Reloaded) : Type 0 where
+    pub reload : TakesReload old.engine new.engine plant r
+    pub lanes : new.lanes ≡ old.lanes
+    pub crew : new.crew ≡ old.crew
+    pub parts : new.parts ≡ old.parts
+    pub counted : old.refusals ≤ new.refusals
+    pub shown : new.refusals ≡ old.refusals → new.shown ≡ length new.engine.history
 
   -- a refused turn changes neither the history, nor a lane, nor what the board shows, and no refusal of an order is counted
   pub record SameButRoom (old new : PlainStation C) : Type 0 where

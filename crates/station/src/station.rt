@@ -3,9 +3,9 @@
 ghost use Rattle.std.specs.Prelude.{◌≡◌, ◌≢◌, ◌<◌, ◌↔◌, IsTrue, ℕ, [], true, length, map, All, Some, IfOk, IfErr, OnErr};
 ghost use Rattle.plant_system.specs.Faults.{faults_by};
 ghost use Rattle.order_taking.specs.Parts.{answers_of};
-ghost use Rattle.archive.specs.Records.{IsScanDue};
+ghost use Rattle.archive.specs.Records.{IsReloadDue, IsScanDue};
 ghost use Rattle.station.specs.Lanes.{numbers_of, numbers_in, links_of, links_in, left_in, finished_of, ended_of, is_within, has_seen_within, IsConsoleIn, IsEndIn, IsFresh, HasNotLooked, KeepsConsoles};
-ghost use Rattle.station.specs.Stations.{IsTurn, IsWhole, IsClosed, SameButRoom, AreBeginnings};
+ghost use Rattle.station.specs.Stations.{IsReload, IsTurn, IsWhole, IsClosed, SameButRoom, AreBeginnings};
 ghost use mathlib.Core.List.{IsPrefix};
 ghost use Rattle.operator_orders.specs.declared.order.Order.{Order};
 ghost use Rattle.plant_system.specs.declared.event.Reply.{Reply};
@@ -17,7 +17,10 @@ use crate::opening::StationFault;
 use crate::recording::open_consoles;
 use archive::{Archive, Recorder};
 use console_link::Lane;
-use engine::{Crew, Done, Engine, EngineFault, Job, Order, Pair, Plant, Reply, Report, Start};
+use engine::{
+    Crew, Done, Engine, EngineFault, Job, Order, Pair, Plant, ReloadRefused, Reloaded, Reply,
+    Report, Start,
+};
 use operator_console::{Console, Finished};
 use order_taking::take_parts;
 use std::alloc::Global;
@@ -166,6 +169,23 @@ impl<L: Ledger, C: Drop> Station<L, C> {
             stopped: part.stopped,
             late,
         })
+    }
+
+    /// Replaces the plant while it runs, as `Engine::reload`, and takes no order: the reload is the next event of the history, of the board and of the archive,
+    /// which has a copy of the plant. An order that was submitted before, and is taken after it, is for an older plant, and is refused as that. A reload is
+    /// refused as the engine refuses it, or where the archive refuses it; then nothing changes, and the plant comes back.
+    pub fn reload<H: Wait>(
+        &mut self,
+        rt: &H,
+        alloc: Global,
+        plant: Plant,
+    ) -> Result<Reloaded, ReloadRefused>
+        ensures ok { IfOk result (λ r. IsReload self.old self.new plant r) }
+        ensures err { IfErr result (λ r. (r.plant ≡ plant) × IsReloadDue (self.old.parts ≡ L.parts) r.fault self.old.engine plant) }
+        ensures kept { OnErr result (SameButRoom self.old self.new) }
+    {
+        let reloaded = self.recorder.reload(rt, alloc, plant)?;
+        Ok(reloaded)
     }
 
     /// Ends the station, once its consoles have ended: the orders that the history has of a console, followed by those that are left, are all that it

@@ -76,6 +76,6 @@ returns-clause-begins g c =
     let long : length lanes ≡ s.lanes.len = omega (arith, c.end_lanes.auto.lanes, c.as_mut_slice.ensures.len) in
     let e = s.recorder.engine in
     let goes : (m : ℕ) (g : Ended Order Reply) → ended_of m fs ≡ Some g → is_within m (length e.history) lanes ≡ true → IsPrefix g.mark.entries (entries_of e.plant e.history) =
-    λ m g found is. is_beginning e.plant e.history fs m g (is_within m (length e.history) lanes) s.recorder.has.stays all found
+    λ m g found is. is_beginning e.plant e.history fs m g (is_within m (length e.history) lanes) all found
     (closed_within e.plant e.history (links_in fs) s.lanes.items lanes m (length e.history) c.self.invariant.agree (links_all s.lanes.items fs ends) ended) is in
     rw (with_items_is s.lanes lanes long, ← c.self.view_is) goes
