@@ -16,13 +16,13 @@ ghost use Rattle.block_frames.specs.Stands.{StandFor};
 ghost use Rattle.program_codes.specs.Codes.{AreCodes};
 ghost use Rattle.plant_walk.specs.Framed.{HasStart, IsLaid, all_standards};
 ghost use Rattle.plant_walk.specs.Kept.{IsKept};
-ghost use Rattle.plant_walk.specs.Headings.{heading_of, view_heading};
+ghost use Rattle.plant_walk.specs.Headings.{heading_of, view_heading, AreOthers};
 ghost use Rattle.plant_walk.specs.Sound.{IsSound};
 ghost use Rattle.plant_logic.specs.Seats.{program_values_base};
 ghost use Rattle.plant_walk.specs.Bases.{AreBases, program_paths_base};
 ghost use Rattle.plant_walk.specs.Runs.{Agree, HasCells, IsProgramCode, IsWithin, TakesInstructions, paths_in, ran, walked_by};
 
-use crate::headings::{Heading, copy_headings, copy_variables, headings_of};
+use crate::headings::{Heading, copy_headings, copy_rows, copy_variables, headings_of};
 use crate::names::global_names;
 use crate::opening::start_programs;
 use crate::paths::{path_bases, program_of};
@@ -36,7 +36,7 @@ use block_frames::{
 use block_walk::{Frame, start_frame};
 use plant_cells::{Cells, Standard, Stop};
 use plant_limits::{LimitFault, block_type_counts, limits};
-use plant_logic::{Logic, Variable, logic_of, order_is_of_source};
+use plant_logic::{Logic, Row, Variable, logic_of, order_is_of_source};
 use plant_types::Place;
 use program_codes::{Stack, codes_of, copy_codes, run_code_counted};
 use seat_tables::SeatTable;
@@ -47,8 +47,8 @@ use trace::Shown;
 use word_index::Names;
 
 /// The source of well-formed units that keeps the limits, made ready to run: the code of each program, the cells before the first scan, the
-/// names and kinds of globals and programs, and what the paths of traps need. Contracts see the source; its statements take no memory any
-/// more.
+/// declarations of globals, programs and block types, and what the paths of traps need. Contracts see the source; its statements take no
+/// memory any more.
 pub struct Framed {
     logic: Shown<Logic>,
     order: Shown<Vec<usize>>,
@@ -58,7 +58,9 @@ pub struct Framed {
     /// The number of the first program's frame.
     first: usize,
     globals: Vec<Variable>,
+    rows: Vec<Row>,
     programs: Vec<Heading>,
+    blocks: Vec<Heading>,
     names: Names,
     cells: Cells,
     /// How many cells the globals have: the number of the first program's first value.
@@ -77,7 +79,9 @@ impl Drop for Framed {
             frames: _,
             first: _,
             globals: _,
+            rows: _,
             programs: _,
+            blocks: _,
             names: _,
             cells: _,
             begin: _,
@@ -97,10 +101,11 @@ impl Model for Framed {
 
     ghost use Rattle.plant_walk.specs.Framed.{IsFramed};
     ghost use Rattle.plant_walk.specs.Kept.{IsKept};
+    ghost use Rattle.plant_walk.specs.Headings.{AreOthers};
 
     ghost view = { λ framed. source_of framed.logic };
 
-    ghost invariant = { λ framed. IsFramed (source_of framed.logic) framed.order.items framed.frames framed.names framed.values.items framed.clocks.items framed.paths.items framed.codes.items × IsKept (source_of framed.logic) framed.order.items framed.first framed.globals.items framed.programs.items framed.cells framed.begin };
+    ghost invariant = { λ framed. IsFramed (source_of framed.logic) framed.order.items framed.frames framed.names framed.values.items framed.clocks.items framed.paths.items framed.codes.items × IsKept (source_of framed.logic) framed.order.items framed.first framed.globals.items framed.programs.items framed.cells framed.begin × AreOthers (source_of framed.logic) framed.rows.items framed.blocks.items };
 }
 
 /// What is made of a source, so that its programs can get their codes.
@@ -119,7 +124,9 @@ struct Made {
 struct Laid {
     seats: SeatTable,
     globals: Vec<Variable>,
+    rows: Vec<Row>,
     programs: Vec<Heading>,
+    blocks: Vec<Heading>,
     names: Names,
     cells: Cells,
     values: Vec<usize>,
@@ -208,9 +215,12 @@ fn laid_of(alloc: Global, logic: &Logic, order: &[usize]) -> Result<(Laid, Vec<F
     ensures seats { IfOk result (λ m. m.0.seats ≡ m.1.items) }
     ensures laid { IfOk result (λ m. IsLaid (source_of logic.now) order.now m.1.items m.0.names m.0.values.items m.0.clocks.items m.0.paths.items) }
     ensures kept { IfOk result (λ m. IsKept (source_of logic.now) order.now (length order.now) m.0.globals.items m.0.programs.items m.0.cells (global_cells (source_of logic.now))) }
+    ensures others { IfOk result (λ m. AreOthers (source_of logic.now) m.0.rows.items m.0.blocks.items) }
 {
     let globals = copy_variables(alloc, &logic.globals)?;
+    let rows = copy_rows(alloc, &logic.rows)?;
     let programs = headings_of(alloc, &logic.programs)?;
+    let blocks = headings_of(alloc, &logic.blocks)?;
     let made = made_of(alloc, logic, order)?;
     let cells = opened(alloc, logic, order, &made)?;
     let seats = SeatTable::of(alloc, &made.frames)?;
@@ -225,7 +235,9 @@ fn laid_of(alloc: Global, logic: &Logic, order: &[usize]) -> Result<(Laid, Vec<F
     let laid = Laid {
         seats,
         globals,
+        rows,
         programs,
+        blocks,
         names,
         cells,
         values,
@@ -283,6 +295,7 @@ fn framed_by(
     requires seats { laid.seats ≡ frames.items }
     requires laid { IsLaid (source_of logic) order.now.items frames.items laid.names laid.values.items laid.clocks.items laid.paths.items }
     requires kept { IsKept (source_of logic) order.now.items (length order.now.items) laid.globals.items laid.programs.items laid.cells (global_cells (source_of logic)) }
+    requires others { AreOthers (source_of logic) laid.rows.items laid.blocks.items }
     requires costs { costs.now ≡ program_costs (source_of logic) }
     ensures { IfOk result (λ framed. framed ≡ source_of logic) }
 {
@@ -291,7 +304,9 @@ fn framed_by(
     let Laid {
         seats,
         globals,
+        rows,
         programs,
+        blocks,
         names,
         cells,
         values,
@@ -306,7 +321,9 @@ fn framed_by(
         frames: seats,
         first: order.len(),
         globals,
+        rows,
         programs,
+        blocks,
         names,
         cells,
         begin,
@@ -388,7 +405,9 @@ impl Framed {
         Ok(Framed {
             frames: self.frames.copy(alloc)?,
             globals: copy_variables(alloc, &self.globals)?,
+            rows: copy_rows(alloc, &self.rows)?,
             programs: copy_headings(alloc, &self.programs)?,
+            blocks: copy_headings(alloc, &self.blocks)?,
             names: self.names.copy()?,
             cells: self.cells.copy(alloc)?,
             paths: Vec::from_slice(alloc, &self.paths)?,
@@ -417,13 +436,27 @@ impl Framed {
         self.begin
     }
 
-    /// The programs in order of text, numbered from 0, with their names as declared, their variables and their instances.
+    /// The global arrays in order of declaration, with their names as declared.
+    pub fn rows(&self) -> &[Row]
+        ensures { result.now ≡ self.now.rows }
+    {
+        self.rows.as_slice()
+    }
+
+    /// The programs in order of text, numbered from 0, with their names as declared, their variables, their arrays and their instances.
     pub fn programs(&self) -> &[Heading]
         ensures programs { map view_heading result.now ≡ map heading_of self.now.programs }
         ensures count { length result.now ≡ length self.now.programs }
         ensures sound { IsSound self.now }
     {
         self.programs.as_slice()
+    }
+
+    /// The block types by their numbers, with their names as declared, their variables, their arrays and their instances.
+    pub fn blocks(&self) -> &[Heading]
+        ensures { map view_heading result.now ≡ map heading_of self.now.blocks }
+    {
+        self.blocks.as_slice()
     }
 
     /// The number of the global of a name, letter case ignored; `None` if there is none. It takes no memory.

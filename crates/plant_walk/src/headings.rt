@@ -1,17 +1,19 @@
-//! Programs as the sources declare them, without their statements.
+//! Programs and block types as the sources declare them, without their statements.
 
 ghost use Rattle.std.specs.Prelude.{◌≡◌, IfOk, map};
 ghost use Rattle.plant_logic.specs.Source.{view_routine};
 ghost use Rattle.plant_walk.specs.Headings.{heading_of, view_heading};
 
-use plant_logic::{Instance, Local, Routine, Variable};
+use plant_logic::{Instance, Local, Routine, Row, Variable};
 use plant_types::Text;
 use std::alloc::{AllocError, Global};
 
-/// A program without its statements: its name as declared, its own variables and its instances, both in order of declaration.
+/// A program or a block type without its statements: its name as declared, its own variables, its own arrays and its instances, each in
+/// order of declaration.
 pub struct Heading {
     pub name: Text,
     pub locals: Vec<Local>,
+    pub rows: Vec<Row>,
     pub instances: Vec<Instance>,
 }
 
@@ -20,12 +22,13 @@ impl Drop for Heading {
         let Heading {
             name: _,
             locals: _,
+            rows: _,
             instances: _,
         } = self;
     }
 }
 
-/// The same variables of a program in the same order. Fails if memory was refused.
+/// The same variables of a routine in the same order. Fails if memory was refused.
 fn copy_locals(alloc: Global, locals: &[Local]) -> Result<Vec<Local>, AllocError>
     ensures { IfOk result (λ copies. copies.items ≡ locals.now) }
 {
@@ -34,6 +37,21 @@ fn copy_locals(alloc: Global, locals: &[Local]) -> Result<Vec<Local>, AllocError
         copies.push(Local {
             name: local.name.copy(alloc)?,
             kind: local.kind,
+        })?;
+    }
+    Ok(copies)
+}
+
+/// The same arrays in the same order. Fails if memory was refused.
+pub fn copy_rows(alloc: Global, rows: &[Row]) -> Result<Vec<Row>, AllocError>
+    ensures { IfOk result (λ copies. copies.items ≡ rows.now) }
+{
+    let mut copies = Vec::with_capacity(alloc, rows.len())?;
+    for row in rows {
+        copies.push(Row {
+            name: row.name.copy(alloc)?,
+            kind: row.kind,
+            bounds: row.bounds,
         })?;
     }
     Ok(copies)
@@ -53,24 +71,25 @@ fn copy_instances(alloc: Global, instances: &[Instance]) -> Result<Vec<Instance>
     Ok(copies)
 }
 
-/// The heading of a program. Fails if memory was refused.
-fn heading_of(alloc: Global, program: &Routine) -> Result<Heading, AllocError>
-    ensures { IfOk result (λ heading. view_heading heading ≡ heading_of (view_routine program.now)) }
+/// The heading of a routine. Fails if memory was refused.
+fn heading_of(alloc: Global, routine: &Routine) -> Result<Heading, AllocError>
+    ensures { IfOk result (λ heading. view_heading heading ≡ heading_of (view_routine routine.now)) }
 {
     Ok(Heading {
-        name: program.name.copy(alloc)?,
-        locals: copy_locals(alloc, &program.locals)?,
-        instances: copy_instances(alloc, &program.instances)?,
+        name: routine.name.copy(alloc)?,
+        locals: copy_locals(alloc, &routine.locals)?,
+        rows: copy_rows(alloc, &routine.rows)?,
+        instances: copy_instances(alloc, &routine.instances)?,
     })
 }
 
-/// The headings of programs, in order. Fails if memory was refused.
-pub fn headings_of(alloc: Global, programs: &[Routine]) -> Result<Vec<Heading>, AllocError>
-    ensures { IfOk result (λ headings. map view_heading headings.items ≡ map heading_of (map view_routine programs.now)) }
+/// The headings of routines, in order. Fails if memory was refused.
+pub fn headings_of(alloc: Global, routines: &[Routine]) -> Result<Vec<Heading>, AllocError>
+    ensures { IfOk result (λ headings. map view_heading headings.items ≡ map heading_of (map view_routine routines.now)) }
 {
-    let mut headings = Vec::with_capacity(alloc, programs.len())?;
-    for program in programs {
-        headings.push(heading_of(alloc, program)?)?;
+    let mut headings = Vec::with_capacity(alloc, routines.len())?;
+    for routine in routines {
+        headings.push(heading_of(alloc, routine)?)?;
     }
     Ok(headings)
 }
@@ -82,6 +101,7 @@ fn copy_heading(alloc: Global, heading: &Heading) -> Result<Heading, AllocError>
     Ok(Heading {
         name: heading.name.copy(alloc)?,
         locals: copy_locals(alloc, &heading.locals)?,
+        rows: copy_rows(alloc, &heading.rows)?,
         instances: copy_instances(alloc, &heading.instances)?,
     })
 }

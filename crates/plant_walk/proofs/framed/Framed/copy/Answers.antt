@@ -1,7 +1,7 @@
 use Rattle.std.proofs.Common.{rules, ◌≡◌, ap, map}
 use Rattle.plant_logic.specs.Source.{source_of}
 use Rattle.plant_walk.specs.Headings.{view_heading}
-use Rattle.plant_walk.proofs.Copied.{framed_same, kept_same}
+use Rattle.plant_walk.proofs.Copied.{framed_same, kept_same, others_same}
 use Rattle.plant_walk.proofs.framed.Framed.copy.Goals as goal
 
 pub invariant_of-result : goal.invariant_of-result
@@ -15,9 +15,12 @@ invariant_of-result c =
     let same_names : c.in_ok-copy-2.field-0 ≡ own.names = search rules in
     let same_cells : c.in_ok-copy-3.field-0 ≡ own.cells = search rules in
     let same_globals : c.in_ok-copy_variables.field-0.items ≡ own.globals.items = search rules in
+    let same_rows : c.in_ok-copy_rows.field-0.items ≡ own.rows.items = search rules in
     let same_programs : map view_heading c.in_ok-copy_headings.field-0.items ≡ map view_heading own.programs.items = search rules in
+    let same_blocks : map view_heading c.in_ok-copy_headings-2.field-0.items ≡ map view_heading own.blocks.items = search rules in
     let same_paths : c.in_ok-from_slice.field-0.items ≡ own.paths.items = search rules in
     let same_codes : c.in_ok-copy_codes.field-0.items ≡ own.codes.items = search rules in (
       framed_same _ _ _ _ _ _ _ _ _ _ _ _ _ _ _ _ same_source same_order same_frames same_names same_values same_clocks same_paths same_codes c.self.invariant.0,
       kept_same _ _ _ _ _ _ _ _ _ _ _ _ same_source same_order same_globals same_programs same_cells c.self.invariant.1,
+      others_same _ _ _ _ _ _ same_source same_rows same_blocks c.self.invariant.2,
     )
