@@ -9,7 +9,7 @@ use Rattle.block_frames.specs.Stands.{StandFor}
 use Rattle.acc_vm.specs.Codes.{PlainCode}
 use Rattle.plant_walk.specs.declared.headings.Heading.{Heading}
 use Rattle.plant_logic.specs.declared.logic.Row.{Row}
-use Rattle.plant_walk.specs.Headings.{view_heading, AreOthers}
+use Rattle.plant_walk.specs.Headings.{view_heading, AreDeclared}
 use Rattle.plant_walk.specs.Framed.{IsFramed}
 use Rattle.plant_walk.specs.Kept.{IsKept}
 
@@ -36,5 +36,5 @@ kept_same source made order o first globals g programs h cells k begin e1 e2 e3 
     (record { first_is = kept.first_is; globals_are = e3 ∙ kept.globals_are; programs_are = e4 ∙ kept.programs_are; opens = subst (λ x. StandFor source x (opening source)) (sym e5) kept.opens; begins = kept.begins }))
 
 -- the same of the other declarations
-pub others_same : (source made : Source) (rows r : List Row) (blocks b : List Heading) → made ≡ source → r ≡ rows → map view_heading b ≡ map view_heading blocks → AreOthers source rows blocks → AreOthers made r b
-others_same source made rows r blocks b e1 e2 e3 are = subst (λ x. AreOthers x r b) (sym e1) (record { rows_are = e2 ∙ are.rows_are; blocks_are = e3 ∙ are.blocks_are })
+pub declared_same : (source made : Source) (rows r : List Row) (blocks b : List Heading) → made ≡ source → r ≡ rows → map view_heading b ≡ map view_heading blocks → AreDeclared source rows blocks → AreDeclared made r b
+declared_same source made rows r blocks b e1 e2 e3 are = subst (λ x. AreDeclared x r b) (sym e1) (record { rows_are = e2 ∙ are.rows_are; blocks_are = e3 ∙ are.blocks_are })

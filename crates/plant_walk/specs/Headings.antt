@@ -21,7 +21,7 @@ heading_of r = record { name = r.name; locals = r.locals; rows = r.rows; instanc
 abbrev pub view_heading : Heading → PlainHeading
 view_heading h = record { name = h.name; locals = h.locals.items; rows = h.rows.items; instances = h.instances.items }
 
--- these are the global arrays of a source, and the headings of its block types by their numbers
-pub record AreOthers (source : Source) (rows : List Row) (blocks : List Heading) : Type 0 where
+-- these are the global arrays that a source declares, and the headings of its block types by their numbers
+pub record AreDeclared (source : Source) (rows : List Row) (blocks : List Heading) : Type 0 where
   pub rows_are : rows ≡ source.rows
   pub blocks_are : map view_heading blocks ≡ map heading_of source.blocks

@@ -16,7 +16,7 @@ ghost use Rattle.block_frames.specs.Stands.{StandFor};
 ghost use Rattle.program_codes.specs.Codes.{AreCodes};
 ghost use Rattle.plant_walk.specs.Framed.{HasStart, IsLaid, all_standards};
 ghost use Rattle.plant_walk.specs.Kept.{IsKept};
-ghost use Rattle.plant_walk.specs.Headings.{heading_of, view_heading, AreOthers};
+ghost use Rattle.plant_walk.specs.Headings.{heading_of, view_heading, AreDeclared};
 ghost use Rattle.plant_walk.specs.Sound.{IsSound};
 ghost use Rattle.plant_logic.specs.Seats.{program_values_base};
 ghost use Rattle.plant_walk.specs.Bases.{AreBases, program_paths_base};
@@ -101,11 +101,11 @@ impl Model for Framed {
 
     ghost use Rattle.plant_walk.specs.Framed.{IsFramed};
     ghost use Rattle.plant_walk.specs.Kept.{IsKept};
-    ghost use Rattle.plant_walk.specs.Headings.{AreOthers};
+    ghost use Rattle.plant_walk.specs.Headings.{AreDeclared};
 
     ghost view = { λ framed. source_of framed.logic };
 
-    ghost invariant = { λ framed. IsFramed (source_of framed.logic) framed.order.items framed.frames framed.names framed.values.items framed.clocks.items framed.paths.items framed.codes.items × IsKept (source_of framed.logic) framed.order.items framed.first framed.globals.items framed.programs.items framed.cells framed.begin × AreOthers (source_of framed.logic) framed.rows.items framed.blocks.items };
+    ghost invariant = { λ framed. IsFramed (source_of framed.logic) framed.order.items framed.frames framed.names framed.values.items framed.clocks.items framed.paths.items framed.codes.items × IsKept (source_of framed.logic) framed.order.items framed.first framed.globals.items framed.programs.items framed.cells framed.begin × AreDeclared (source_of framed.logic) framed.rows.items framed.blocks.items };
 }
 
 /// What is made of a source, so that its programs can get their codes.
@@ -215,7 +215,7 @@ fn laid_of(alloc: Global, logic: &Logic, order: &[usize]) -> Result<(Laid, Vec<F
     ensures seats { IfOk result (λ m. m.0.seats ≡ m.1.items) }
     ensures laid { IfOk result (λ m. IsLaid (source_of logic.now) order.now m.1.items m.0.names m.0.values.items m.0.clocks.items m.0.paths.items) }
     ensures kept { IfOk result (λ m. IsKept (source_of logic.now) order.now (length order.now) m.0.globals.items m.0.programs.items m.0.cells (global_cells (source_of logic.now))) }
-    ensures others { IfOk result (λ m. AreOthers (source_of logic.now) m.0.rows.items m.0.blocks.items) }
+    ensures declared { IfOk result (λ m. AreDeclared (source_of logic.now) m.0.rows.items m.0.blocks.items) }
 {
     let globals = copy_variables(alloc, &logic.globals)?;
     let rows = copy_rows(alloc, &logic.rows)?;
@@ -276,7 +276,7 @@ fn codes_in(
 }
 
 /// How many cells the globals of a source have, by where the values of its programs begin.
-fn begin_of(logic: &Shown<Logic>, values: &Vec<usize>) -> usize
+fn global_cells(logic: &Shown<Logic>, values: &Vec<usize>) -> usize
     requires { AreBases (program_values_base (source_of logic.now)) (length (source_of logic.now).programs) values.now.items }
     ensures { result ≡ global_cells (source_of logic.now) }
 {
@@ -295,11 +295,11 @@ fn framed_by(
     requires seats { laid.seats ≡ frames.items }
     requires laid { IsLaid (source_of logic) order.now.items frames.items laid.names laid.values.items laid.clocks.items laid.paths.items }
     requires kept { IsKept (source_of logic) order.now.items (length order.now.items) laid.globals.items laid.programs.items laid.cells (global_cells (source_of logic)) }
-    requires others { AreOthers (source_of logic) laid.rows.items laid.blocks.items }
+    requires declared { AreDeclared (source_of logic) laid.rows.items laid.blocks.items }
     requires costs { costs.now ≡ program_costs (source_of logic) }
     ensures { IfOk result (λ framed. framed ≡ source_of logic) }
 {
-    let begin = begin_of(&logic, &laid.values);
+    let begin = global_cells(&logic, &laid.values);
     let codes = codes_in(alloc, &logic, order, &laid, frames, costs)?;
     let Laid {
         seats,

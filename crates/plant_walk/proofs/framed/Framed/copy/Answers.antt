@@ -1,7 +1,7 @@
 use Rattle.std.proofs.Common.{rules, ◌≡◌, ap, map}
 use Rattle.plant_logic.specs.Source.{source_of}
 use Rattle.plant_walk.specs.Headings.{view_heading}
-use Rattle.plant_walk.proofs.Copied.{framed_same, kept_same, others_same}
+use Rattle.plant_walk.proofs.Copied.{framed_same, kept_same, declared_same}
 use Rattle.plant_walk.proofs.framed.Framed.copy.Goals as goal
 
 pub invariant_of-result : goal.invariant_of-result
@@ -22,5 +22,5 @@ invariant_of-result c =
     let same_codes : c.in_ok-copy_codes.field-0.items ≡ own.codes.items = search rules in (
       framed_same _ _ _ _ _ _ _ _ _ _ _ _ _ _ _ _ same_source same_order same_frames same_names same_values same_clocks same_paths same_codes c.self.invariant.0,
       kept_same _ _ _ _ _ _ _ _ _ _ _ _ same_source same_order same_globals same_programs same_cells c.self.invariant.1,
-      others_same _ _ _ _ _ _ same_source same_rows same_blocks c.self.invariant.2,
+      declared_same _ _ _ _ _ _ same_source same_rows same_blocks c.self.invariant.2,
     )

@@ -2,7 +2,7 @@ use Rattle.std.proofs.Common.{◌≡◌, ◌∙◌, arith}
 use Rattle.std.proofs.lemmas.List.{get_or_default}
 use Rattle.plant_logic.specs.Source.{source_of, global_cells}
 use Rattle.plant_walk.proofs.Bases.{values_begin}
-use Rattle.plant_walk.proofs.framed.begin_of.Goals as goal
+use Rattle.plant_walk.proofs.framed.global_cells.Goals as goal
 
 pub returns : goal.returns
 returns c =
