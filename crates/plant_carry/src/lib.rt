@@ -1,7 +1,7 @@
 //! The cells of a plant that was changed while it ran, by those of the old one.
 #![tactic(auto)]
 
-mod carry;
+mod carrying;
 mod shapes;
 
-pub use carry::carry;
+pub use carrying::carry;

@@ -28,11 +28,7 @@ fn shape_of(alloc: Global, names: &mut Names, heading: &Heading) -> Result<Shape
 }
 
 /// The shapes of block types, by their headings. Fails if allocation fails.
-fn shapes_of(
-    alloc: Global,
-    names: &mut Names,
-    blocks: &[Heading],
-) -> Result<Vec<Shape>, AllocError>
+fn shapes_of(alloc: Global, names: &mut Names, blocks: &[Heading]) -> Result<Vec<Shape>, AllocError>
     ensures shapes { IfOk result (λ shapes. (rs : List PlainRoutine) → map view_heading blocks.now ≡ map heading_of rs → AreShapes (find_name names.new) shapes.items rs) }
     ensures grows { OnOk result (Grows (find_name names.old) (find_name names.new)) }
 {

@@ -1,6 +1,6 @@
 use Rattle.std.proofs.Common.{◌≡◌, ◌∙◌, ap, sym}
 use Rattle.plant_cells.specs.Cells.{PlainCells}
-use Rattle.plant_carry.proofs.carry.carry.Goals as goal
+use Rattle.plant_carry.proofs.carrying.carry.Goals as goal
 
 pub returns : goal.returns
 returns c = λ w stands.

@@ -1,7 +1,7 @@
 use Rattle.std.proofs.Common.{◌≡◌, List, ℕ}
 use Rattle.word_index.specs.Names.{find_name}
 use Rattle.carried_cells.proofs.Shaping.{source_later}
-use Rattle.plant_carry.proofs.carry.pair_of.Goals as goal
+use Rattle.plant_carry.proofs.carrying.pair_of.Goals as goal
 
 pub returns : goal.returns
 returns c =
