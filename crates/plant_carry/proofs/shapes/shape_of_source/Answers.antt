@@ -22,7 +22,7 @@ returns-clause-shape c =
       globals = own_later a e (grows_on a b e c.in_ok-rows.ensures.grows later) c.in_ok-globals.globals.items (map as_local source.globals) globals;
       rows = rows_later b e later c.in_ok-rows.rows.items source.rows rows;
       programs = programs_later d e c.in_ok-table.ensures.grows c.in_ok-programs.programs.items source.programs (c.in_ok-programs.ensures.programs source.programs c.programs.ensures.programs);
-      table = c.in_ok-table.ensures.table source.blocks c.blocks.ensures;
+      table = c.in_ok-table.ensures.table source.blocks c.blocks-2.ensures;
     }
 
 pub returns-clause-grows : goal.returns-clause-grows

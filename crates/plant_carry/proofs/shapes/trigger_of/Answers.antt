@@ -9,5 +9,5 @@ pub returns-clause-trigger : goal.returns-clause-trigger
 returns-clause-trigger c =
     let a = find_name c.word_number.new.names in
     let input : Own = record { word = c.in_ok-input.input; kind = kind.Bool } in
-    let items = c.in_ok-push.ensures.items ∙ ap (λ (xs : List Own). xs ++ input ∷ []) c.new.ensures.items in
+    let items = c.in_ok-push.ensures.items ∙ ap (λ (xs : List Own). xs ++ input ∷ []) c.new-own.ensures.items in
     subst (λ (xs : List Own). AreOwn a xs trigger_inputs) (sym items) (c.in_ok-input.ensures.number, refl, tt)
