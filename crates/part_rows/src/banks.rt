@@ -1,8 +1,8 @@
-//! The alarms of a bank (`alarm_bank`): what an order would be answered, which events it takes, and when the next shelf ends.
+//! The alarms of a bank (`alarm_bank`): what an order would be answered, which events it takes, when the next shelf ends, and which reloads an annunciator takes.
 
 use crate::alarms::verb_of;
 use crate::printing::{number_of, parts_of};
-use alarm_bank::{Bank, BankEvent, Site};
+use alarm_bank::{Annunciator, Bank, BankEvent, NewAlarm, Site};
 use alarm_machine::{Alarm, Change, OrderFault, Verb};
 use plant_types::Items;
 use row_text::Page;
@@ -51,8 +51,29 @@ fn order_of(word: &str) -> BankEvent {
     }
 }
 
+/// New alarms as a word spells them, parted by points: each keeps the state of the old alarm of its number, or none for `-`. None latches, and each may be
+/// shelved for 5000 ms.
+fn reload_of(alloc: Global, word: &str) -> Result<BankEvent, AllocError> {
+    let mut news = Vec::new(alloc);
+    for part in word.split(".") {
+        news.push(NewAlarm {
+            site: Site {
+                area: 0,
+                priority: 2,
+            },
+            latching: false,
+            max_shelve_ms: 5000,
+            kept: part.parse::<u32>().ok(),
+        })?;
+    }
+    Ok(BankEvent::Reload(Items::from_vec(news)))
+}
+
 /// The event of a word.
 fn event_of(alloc: Global, word: &str) -> Result<BankEvent, AllocError> {
+    if let Some(reload) = word.strip_prefix("reload/") {
+        return reload_of(alloc, reload);
+    }
     match word.strip_prefix("scan/") {
         Some(scan) => scan_of(alloc, scan),
         None => Ok(order_of(word)),
@@ -121,5 +142,36 @@ pub fn push_bank(alloc: Global, page: &mut Page, words: &str) {
             drop(bank);
         }
         Err(_) => page.refuse(),
+    }
+}
+
+/// The alarms of that bank, and a place more. Fails if allocation fails.
+fn panel(alloc: Global) -> Result<Annunciator, AllocError> {
+    let bank = bank(alloc)?;
+    let places = bank.alarms().len() + 1;
+    Annunciator::of(alloc, &bank, places)
+}
+
+/// Adds an annunciator's moment and the states of its alarms.
+fn push_states(page: &mut Page, panel: &Annunciator) {
+    page.add("\n");
+    page.number(i128::from(panel.moment()));
+    for alarm in panel.alarms() {
+        page.word(alarm.state().code().text());
+    }
+}
+
+/// Shows the bank's alarms in four places at first and after each event of the words.
+pub fn push_panel(alloc: Global, page: &mut Page, words: &str) {
+    let Ok(mut panel) = panel(alloc) else {
+        return page.refuse();
+    };
+    push_states(page, &panel);
+    for word in words.split(" ") {
+        match event_of(alloc, word) {
+            Ok(event) => panel.advance(&event),
+            Err(_) => page.refuse(),
+        }
+        push_states(page, &panel);
     }
 }

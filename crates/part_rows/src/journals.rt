@@ -42,6 +42,7 @@ fn entry_of(number: u64) -> Option<(Entry, &'static str)> {
         )),
         2 => Some((Entry::Fault(place, Trap::DivZero), "p")),
         3 => Some((restart, "p")),
+        5 => Some((Entry::Reload { kept: 3, fresh: 1 }, "?")),
         _ => Some((shelve, "?")),
     }
 }

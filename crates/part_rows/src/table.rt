@@ -1,7 +1,7 @@
 //! The rows of the table: the first word of each says what is asked.
 
 use crate::alarms::{push_alarm, push_changes, push_ends, push_held, push_texts};
-use crate::banks::push_bank;
+use crate::banks::{push_bank, push_panel};
 use crate::blocks::{push_edges, push_off_delay, push_on_delay};
 use crate::choices::{push_chosen, push_statuses};
 use crate::codes::{push_cells, push_counts};
@@ -32,6 +32,7 @@ fn push_answer(alloc: Global, page: &mut Page, word: &str, rest: &str) {
         "texts" => push_texts(page, rest),
         "changes" => push_changes(page),
         "bank" => push_bank(alloc, page, rest),
+        "panel" => push_panel(alloc, page, rest),
         "on_delay" => push_on_delay(page, rest),
         "off_delay" => push_off_delay(page, rest),
         "edges" => push_edges(page, rest),
