@@ -20,7 +20,10 @@ pub enum Entry {
         refused: Option<OrderFault>,
     },
     /// The plant was replaced while it ran: so many alarms kept their states, and so many are new.
-    Reload { kept: u32, fresh: u32 },
+    Reload {
+        kept: u32,
+        fresh: u32,
+    },
 }
 
 /// One row of a journal.

@@ -179,7 +179,8 @@ pub fn apply_scan(effect: &mut ScanEffect, state: &mut State)
     ensures { state.new ≡ after_effect effect.old state.old }
 {
     let moved = effect.moved.as_slice();
-    state.delays
+    state
+        .delays
         .apply(effect.met.as_slice(), moved, effect.moment);
     state.bank.apply(moved, effect.moment);
     state.follows = true;

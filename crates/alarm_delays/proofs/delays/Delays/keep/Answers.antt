@@ -37,6 +37,6 @@ invariant_of-self-2 c =
     (put_delays d.delays.items d.since.items d.last d.due d.is_plain c.args.at c.args.since c.due_at.result c.self.invariant within
     (λ r e. let p = c.requires.past r e in omega (arith, last, p))
     (λ wait r there e early.
-        let same : delay ≡ wait = same_Some delay wait (sym at ∙ there) in
-        let soon : d.last - r < delay = omega (arith, early, same) in
-        let key = c.due_at.ensures r e soon in omega (arith, key, same)))
+    let same : delay ≡ wait = same_Some delay wait (sym at ∙ there) in
+    let soon : d.last - r < delay = omega (arith, early, same) in
+    let key = c.due_at.ensures r e soon in omega (arith, key, same)))
