@@ -55,9 +55,9 @@ pub order_entry : (e : PlainEngine) (p : PlainPreparedOrder) → FitsOrder e p �
 order_entry e p fits = ap (λ (r : Reply). entry.Order p.console (record { order = p.order; reply = board_reply r })) fits.reply_is
 
 -- the entry of the next event may be laid by
-pub may_come : (plant : PlainPlant) (history : List Event) (e : Event) (board : BoardWriter) (x : Entry) → HasHistory plant history board → x ≡ entry_of (system plant history) e
+pub may_come : (plant : PlainPlant) (history : List Event) (e : Event) (board : BoardWriter) (x : Entry) → IsTaken (system plant history) e → HasHistory plant history board → x ≡ entry_of (system plant history) e
     → allows (shown after (laid board).0 (laid board).1) x ≡ true
-may_come plant history e board x has is = ap (λ (s : Story Picture Entry). allows (shown after s.0 s.1) x) has.laid_is ∙ next_may plant history e x has.alarms is
+may_come plant history e board x taken has is = ap (λ (s : Story Picture Entry). allows (shown after s.0 s.1) x) has.laid_is ∙ next_may plant history e x taken has.alarms is
 
 has_next : (plant : PlainPlant) (history : List Event) (e : Event) (old new : BoardWriter) (x : Entry) → HasHistory plant history old → IsTaken (system plant history) e
     → x ≡ entry_of (system plant history) e → laid new ≡ ((laid old).0, (laid old).1 ++ x ∷ []) → HasHistory plant (history ++ e ∷ []) new

@@ -6,6 +6,7 @@ use Rattle.event_history.specs.declared.event.Event.TheVariants as event
 use Rattle.plant_config.specs.Plants.{PlainPlant}
 use Rattle.plant_config.specs.Names.{globals_of}
 use Rattle.plant_system.specs.System.{System, system, opening_system, after_event}
+use Rattle.alarm_bank.specs.Banks.{PlainBank}
 use Rattle.plant_system.proofs.Images.{taken_when}
 use Rattle.plant_system.proofs.Systems.{HasAlarms, alarms_there, system_next, system_none}
 use Rattle.engine.specs.Lawful.{IsTaken}
@@ -13,11 +14,11 @@ use Rattle.boards.specs.declared.entry.Entry.{Entry}
 use Rattle.boards.specs.declared.picture.Picture.{Picture}
 use Rattle.boards.specs.declared.writer.BoardWriter.{BoardWriter}
 use Rattle.boards.specs.Stories.{shown}
-use Rattle.boards.specs.Replies.{after, allows, bank_after_entry}
+use Rattle.boards.specs.Replies.{after, allows, panel_after_entry}
 use Rattle.boards.specs.declared.board.Board.{Board}
 use Rattle.boards.specs.Readers.{published, laid, story_of}
 use Rattle.boards.proofs.Takes.{shown_more}
-use Rattle.board_entries.specs.Entries.{entry_of, entries_from, entries_of, bank_of, counted_consoles, picture_of}
+use Rattle.board_entries.specs.Entries.{entry_of, entries_from, entries_of, bank_of, panel_of, counted_consoles, picture_of}
 use Rattle.board_entries.specs.Showing.{HasAlarmsOf, HasHistory}
 use Rattle.board_entries.proofs.Orders.{order_takes}
 use Rattle.board_entries.proofs.Scans.{scan_after}
@@ -39,27 +40,31 @@ pub length_of : (plant : PlainPlant) (history : List Event) → length (entries_
 unfolding entries_of
 length_of plant history = length_from (opening_system plant) history
 
-next_allowed : (sys : System) (e : Event) → allows (picture_of sys) (entry_of sys e) ≡ true
-next_allowed sys (event.Scan image t) = refl
-next_allowed sys (event.Order console order) = (order_takes (bank_of sys) sys.plant sys.faulted console order).may
+next_allowed : (sys : System) (e : Event) → HasAlarms sys → IsTaken sys e → allows (picture_of sys) (entry_of sys e) ≡ true
+next_allowed sys (event.Scan image t) each h = refl
+next_allowed sys (event.Order console order) each h = (order_takes (bank_of sys) sys.plant sys.faulted console order).may
 
-bank_after : (sys : System) (e : Event) → HasAlarms sys → IsTaken sys e → bank_after_entry (bank_of sys) (entry_of sys e) ≡ bank_of (after_event sys e)
-bank_after sys (event.Scan image t) each h = scan_after sys image t each (taken_when (globals_of sys.plant) sys.moment sys.events h.0 t t image h.1).in_range
-bank_after sys (event.Order console order) each h = (order_takes (bank_of sys) sys.plant sys.faulted console order).after
+-- other alarms in the places of a board
+placed : {b c : PlainBank} → b ≡ c → record { bank = b; places = 20000 } ≡ record { bank = c; places = 20000 }
+placed h = λ i. record { bank = h i; places = 20000 }
 
--- no event changes the plant
-same_plant : (sys : System) (e : Event) → (after_event sys e).plant ≡ sys.plant
-same_plant sys (event.Scan image t) = refl
-same_plant sys (event.Order console order) = refl
+panel_after : (sys : System) (e : Event) → HasAlarms sys → IsTaken sys e → panel_after_entry (panel_of sys) (entry_of sys e) ≡ panel_of (after_event sys e)
+panel_after sys (event.Scan image t) each h = placed (scan_after sys image t each (taken_when (globals_of sys.plant) sys.moment sys.events h.0 t t image h.1).in_range)
+panel_after sys (event.Order console order) each h = placed (order_takes (bank_of sys) sys.plant sys.faulted console order).after
+
+-- no event changes the consoles
+same_consoles : (sys : System) (e : Event) → counted_consoles (after_event sys e).plant.consoles ≡ counted_consoles sys.plant.consoles
+same_consoles sys (event.Scan image t) = refl
+same_consoles sys (event.Order console order) = refl
 
 next_after : (sys : System) (e : Event) → HasAlarms sys → IsTaken sys e → after (picture_of sys) (entry_of sys e) ≡ picture_of (after_event sys e)
-next_after sys e each h = λ i. record { bank = bank_after sys e each h i; consoles = counted_consoles ((sym (same_plant sys e) i).consoles) }
+next_after sys e each h = λ i. record { panel = panel_after sys e each h i; consoles = sym (same_consoles sys e) i }
 
 -- the entry of an event may come after the history before it
-pub next_may : (plant : PlainPlant) (history : List Event) (e : Event) (x : Entry) → HasAlarmsOf plant history → x ≡ entry_of (system plant history) e
+pub next_may : (plant : PlainPlant) (history : List Event) (e : Event) (x : Entry) → IsTaken (system plant history) e → HasAlarmsOf plant history → x ≡ entry_of (system plant history) e
     → allows (shown after (picture_of (opening_system plant)) (entries_of plant history)) x ≡ true
-next_may plant history e x alarms is =
-    ap (λ (p : Picture). allows p x) alarms ∙ (ap (λ (y : Entry). allows (picture_of (system plant history)) y) is ∙ next_allowed (system plant history) e)
+next_may plant history e x taken alarms is =
+    ap (λ (p : Picture). allows p x) alarms ∙ (ap (λ (y : Entry). allows (picture_of (system plant history)) y) is ∙ next_allowed (system plant history) e (alarms_there plant history) taken)
 
 -- and after it the alarms are the system's
 pub alarms_next : (plant : PlainPlant) (history : List Event) (e : Event) → IsTaken (system plant history) e → HasAlarmsOf plant history → HasAlarmsOf plant (history ++ e ∷ [])

@@ -4,6 +4,7 @@ use Rattle.plant_types.specs.declared.values.Value.{Value}
 use Rattle.alarm_machine.specs.declared.states.OrderFault.{OrderFault}
 use Rattle.alarm_machine.specs.Codes.{PlainChange}
 use Rattle.alarm_bank.specs.Banks.{PlainBank}
+use Rattle.alarm_bank.specs.Reloads.{PlainAnnunciator}
 use Rattle.alarm_bank.specs.declared.event.BankEvent.{BankEvent}
 use Rattle.alarm_bank.specs.declared.event.BankEvent.TheVariants as bank_event
 use Rattle.alarm_delays.specs.Delays.{counts}
@@ -46,17 +47,21 @@ entries_from sys (e ∷ events) = entry_of sys e ∷ entries_from (after_event s
 unfoldable pub entries_of : PlainPlant → List Event → List Entry
 entries_of plant history = entries_from (opening_system plant) history
 
--- the alarms of a system, as a board has them
+-- the alarms of a system, as a bank has them
 abbrev pub bank_of : System → PlainBank
 bank_of sys = record { sites = sites_of sys.plant.alarms; alarms = sys.alarms; moment = sys.moment }
+
+-- the alarms of a system in a board's places: there are as many as a plant may have alarms
+abbrev pub panel_of : System → PlainAnnunciator
+panel_of sys = record { bank = bank_of sys; places = 20000 }
 
 -- the consoles whose orders the board of a plant counts: all that the plant lists
 abbrev pub counted_consoles : List Console → List ℕ
 counted_consoles consoles = map (λ (console : Console). console.number) consoles
 
--- what the board of a system shows: its alarms, and the numbers of the consoles whose orders it counts
+-- what the board of a system shows: its alarms with their places, and the numbers of the consoles whose orders it counts
 abbrev pub picture_of : System → Picture
-picture_of sys = record { bank = bank_of sys; consoles = counted_consoles sys.plant.consoles }
+picture_of sys = record { panel = panel_of sys; consoles = counted_consoles sys.plant.consoles }
 
 -- what a board shows of a history: the picture as the plant opens, and its entries
 abbrev pub history_story : PlainPlant → List Event → Story Picture Entry

@@ -3,10 +3,10 @@
 ghost use Rattle.std.specs.Prelude.{◌≡◌, [], IfOk, All};
 ghost use Rattle.plant_system.specs.System.{opening_system};
 ghost use Rattle.boards.specs.Counts.{consoles_in};
-ghost use Rattle.board_entries.specs.Entries.{bank_of, counted_consoles, picture_of};
+ghost use Rattle.board_entries.specs.Entries.{bank_of, counted_consoles, panel_of, picture_of};
 ghost use Rattle.board_entries.specs.Showing.{HasHistory};
 
-use alarm_bank::Bank;
+use alarm_bank::{Annunciator, Bank};
 use boards::{Board, BoardWriter, Tally};
 use plant_config::Plant;
 use plant_file::Console;
@@ -20,6 +20,18 @@ fn opening_bank(alloc: Global, plant: &Plant) -> Result<Bank, AllocError>
 {
     let state = opening_state(alloc, plant)?;
     Ok(state.bank)
+}
+
+/// For how many alarms a board has places: as many as a plant may have.
+const PLACES: usize = 20_000;
+
+/// The alarms of a plant before the first event in the places of a board. Fails if memory was refused.
+fn opening_panel(alloc: Global, plant: &Plant) -> Result<Annunciator, AllocError>
+    ensures { IfOk result (λ panel. panel ≡ panel_of (opening_system plant.now)) }
+{
+    plant.alarms();
+    let bank = opening_bank(alloc, plant)?;
+    Annunciator::of(alloc, &bank, PLACES)
 }
 
 /// A tally for each console, with no order yet. Fails if memory was refused.
@@ -41,9 +53,9 @@ fn tallies_of(alloc: Global, consoles: &[Console]) -> Result<Vec<Tally>, AllocEr
 fn opening_board(alloc: Global, plant: &Plant) -> Result<Board, AllocError>
     ensures { IfOk result (λ board. (board.opening.value ≡ picture_of (opening_system plant.now)) × (board.list ≡ [])) }
 {
-    let bank = opening_bank(alloc, plant)?;
+    let panel = opening_panel(alloc, plant)?;
     let tallies = tallies_of(alloc, plant.consoles())?;
-    Ok(Board::new(bank, tallies))
+    Ok(Board::new(panel, tallies))
 }
 
 /// The writer of a board of a plant before the first event, with a place for a reader for each console of the plant. Fails if memory was refused.

@@ -17,7 +17,7 @@ lay-requires c =
     let made : entry.Order k.console (record { order = k.order; reply = c.board_reply.result }) ≡ entry_of (state_of e) (event.Order p.console p.order) =
     ap (λ (r : Result (Option PlainChange) OrderFault). entry.Order k.console (record { order = k.order; reply = r })) c.board_reply.ensures
     ∙ (ap (λ (q : PlainPreparedOrder). entry.Order q.console (record { order = q.order; reply = board_reply q.reply })) c.prepared.view_is ∙ order_entry e p c.requires.fits) in
-    record { may_come = may_come e.plant e.history (event.Order p.console p.order) c.args.board.now (entry.Order k.console (record { order = k.order; reply = c.board_reply.result })) c.requires.has made }
+    record { may_come = may_come e.plant e.history (event.Order p.console p.order) c.args.board.now (entry.Order k.console (record { order = k.order; reply = c.board_reply.result })) c.requires.fits.taken c.requires.has made }
 
 pub returns-clause-laid : goal.returns-clause-laid
 returns-clause-laid c =

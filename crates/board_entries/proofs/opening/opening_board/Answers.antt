@@ -6,7 +6,7 @@ use Rattle.board_entries.proofs.opening.opening_board.Goals as goal
 pub returns : goal.returns
 returns c = (
   λ i. record {
-    bank = (c.new.ensures.alarms ∙ c.in_ok-bank.ensures) i;
+    panel = (c.new.ensures.alarms ∙ c.in_ok-panel.ensures) i;
     consoles = (c.new.ensures.consoles ∙ (c.in_ok-tallies.ensures.all ∙ ap (λ (cs : List Console). counted_consoles cs) c.consoles.ensures.consoles)) i;
   },
   c.new.ensures.none,
