@@ -43,9 +43,9 @@ tag_of_alarm plant (Some alarm) = tag_of plant alarm
 abbrev pub tag_for : PlainPlant → OrderMade → List ℕ
 tag_for plant order = if is_restart order.verb then [] else tag_of_alarm plant order.target
 
--- the order for what a word names
-abbrev pub order_for : PlainPlant → Verb → List ℕ → OrderMade
-order_for plant verb word = order_with verb (target_of plant verb word) 0
+-- the order for what a word names in the plant of a state
+abbrev pub order_for : System → Verb → List ℕ → OrderMade
+order_for sys verb word = order_with verb (target_of sys.plant verb word) sys.reloads
 
 -- ---- the answers to a scan and to an order
 
@@ -106,7 +106,7 @@ abbrev pub command_events : System → PlainCommand → List Event
 command_events sys Nothing = []
 command_events sys Unknown = []
 command_events sys (Scan moment pairs) = event_added (scan_event sys pairs moment)
-command_events sys (Order verb console word) = event_added (order_event sys console (order_for sys.plant verb word))
+command_events sys (Order verb console word) = event_added (order_event sys console (order_for sys verb word))
 command_events sys Listing = []
 command_events sys Journal = []
 
@@ -115,7 +115,7 @@ abbrev pub command_answer : PlainPlant → List Event → System → PlainComman
 command_answer plant history sys Nothing = []
 command_answer plant history sys Unknown = refused_line (codes "L1")
 command_answer plant history sys (Scan moment pairs) = event_text (scan_event sys pairs moment) (scan_text sys)
-command_answer plant history sys (Order verb console word) = order_answer sys console (order_for sys.plant verb word)
+command_answer plant history sys (Order verb console word) = order_answer sys console (order_for sys verb word)
 command_answer plant history sys Listing = list_text sys
 command_answer plant history sys Journal = journal_text plant history
 

@@ -88,7 +88,7 @@ unfolding journal_text
 answer_alike plant h k Nothing alike = refl
 answer_alike plant h k Unknown alike = refl
 answer_alike plant h k (Scan moment pairs) alike = ap (λ (s : System). event_text (scan_event s pairs moment) (scan_text s)) alike.state_is
-answer_alike plant h k (Order verb console word) alike = ap (λ (s : System). order_answer s console (order_for s.plant verb word)) alike.state_is
+answer_alike plant h k (Order verb console word) alike = ap (λ (s : System). order_answer s console (order_for s verb word)) alike.state_is
 answer_alike plant h k Listing alike = ap list_text alike.state_is
 answer_alike plant h k Journal alike = ap (λ (rows : List NamedRow). with_end (map (named_line plant.epoch) rows)) alike.journal_is
 
