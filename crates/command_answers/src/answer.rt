@@ -19,9 +19,7 @@ use command_text::{
     AlarmFront, Command, OutFront, Pool, push_alarm, push_done, push_fault, push_out, push_refused,
     push_reply, put_alarm, put_out, read_command,
 };
-use engine::{
-    Crew, Done, Engine, EngineFault, Job, Order, Reply, Report, Start,
-};
+use engine::{Crew, Done, Engine, EngineFault, Job, Order, Reply, Report, Start};
 use itoa::Buffer;
 use plant_config::Plant;
 use plant_types::{Pair, Place, Trap, Value};

@@ -7,7 +7,7 @@
 //! These functions do nothing: each has laws as its contract.
 #![tactic(auto)]
 
-ghost use Rattle.std.specs.Prelude.{◌≡◌, ℕ, true, false, List, [], ◌∷◌, ◌++◌, length, Some, slice_get};
+ghost use Rattle.std.specs.Prelude.{◌≡◌, ℕ, true, false, List, [], ◌∷◌, ◌++◌, length, Some, None, slice_get};
 ghost use Rattle.alarm_machine.specs.declared.states.Code.TheVariants.{Norm};
 ghost use Rattle.alarm_machine.specs.Codes.{PlainChange, code_of};
 ghost use Rattle.alarm_machine.specs.Alarms.{PlainAlarm};
@@ -18,12 +18,11 @@ ghost use Rattle.plant_config.specs.Names.{tag_of};
 ghost use Rattle.plant_system.specs.System.{system};
 ghost use Rattle.engine.specs.Journal.{NamedRow, ChangeOf, journal_of};
 ghost use Rattle.command_answers.specs.Listings.{state_lines, list_text};
-ghost use Rattle.serving.specs.Bodies.{body_size};
-ghost use Rattle.serving.specs.Requests.{Request, asked_by, has_lf, without_cr, begun_request, requests_of};
-ghost use Rattle.serving.specs.Answers.{after_requests, answers};
-ghost use Rattle.serving.specs.Session.{out_text};
+ghost use Rattle.command_text.specs.Reloads.{reload_sizes, reload_size};
+ghost use Rattle.requests.specs.Requests.{Request, has_lf, without_cr, begun_request};
+ghost use Rattle.serving.specs.Answers.{asked_by};
 ghost use Rattle.history_laws.specs.Told.{code_in, told_code, rows_since, told_lines, told_list};
-ghost use Rattle.history_laws.specs.Records.{ends_at_line, has_no_body, IsPlayed, GoesOn, LeaveAlike, IsPlayedAlike, AddsNothing, AddsNothingAfter, only_asks, request_of, CanBeLeftOut};
+ghost use Rattle.history_laws.specs.Records.{ends_at_line, has_no_body, IsPlayed, GoesOn, LeaveAlike, IsPlayedAlike, AddsNothing, AddsNothingAfter, only_asks, request_with, CanBeLeftOut};
 
 /// The rows that later events add to a journal tell the code of each alarm, where none of these events is a reload: it is the one to which the last
 /// change of its tag among these rows leads, and where they have no change of it the one that it had before them. And each change goes from the code
@@ -58,17 +57,14 @@ pub fn input_leaves_one_history()
 /// record leaves, which with the rest leaves the history of both. States and journal are those of a history, and a record leaves one history
 /// (`input_leaves_one_history`), so who plays a record again has the states in which it ended, and goes on as if there had been no end.
 pub fn record_plays_again()
-    ensures start { (plant : PlainPlant) (past more : List ℕ) → begun_request past ≡ []
-        → out_text plant (past ++ more) ≡ out_text plant past ++ answers plant (after_requests plant [] (requests_of past)) (requests_of more) }
-    ensures anywhere { (plant : PlainPlant) (history : List Event) (past more : List ℕ) → begun_request past ≡ []
+    ensures { (plant : PlainPlant) (history : List Event) (past more : List ℕ) → begun_request past ≡ []
         → (after : List Event) (text : List ℕ) → GoesOn plant history past more after text }
 {}
 
-/// A record that ends at the end of a line, and of which no line tells of bytes after it, ends at the end of a request. No command tells of
-/// any, so every record that ends at the end of a line does.
+/// A record that ends at the end of a line, and of which no line tells of bytes after it, ends at the end of a request: so does every record without a
+/// `reload`.
 pub fn lines_end_requests()
-    ensures ends { (past : List ℕ) → ends_at_line past ≡ true → has_no_body past ≡ true → begun_request past ≡ [] }
-    ensures none { (past : List ℕ) → has_no_body past ≡ true }
+    ensures { (past : List ℕ) → ends_at_line past ≡ true → has_no_body past ≡ true → begun_request past ≡ [] }
 {}
 
 /// What comes of an input depends on the state and the journal alone: where two histories leave a plant alike, every input may be answered after
@@ -79,11 +75,11 @@ pub fn state_decides_answers()
 {}
 
 /// A line of a record that added no event may be left out of it, with the bytes that it tells of: all other requests are answered as with it, and
-/// leave the same history. Lines that only ask, as `list` does, never add one.
+/// leave the same history. Lines that only ask, as `list` does, never add one; a `reload` may.
 pub fn lines_without_event_can_be_left_out()
-    ensures left_out { (plant : PlainPlant) (history : List Event) (past line body more : List ℕ) → begun_request past ≡ [] → has_lf line ≡ false → length body ≡ body_size (without_cr line)
-        → AddsNothingAfter plant history past (request_of line body)
+    ensures left_out { (plant : PlainPlant) (history : List Event) (past line body more : List ℕ) → begun_request past ≡ [] → has_lf line ≡ false → length body ≡ reload_size (without_cr line)
+        → AddsNothingAfter plant history past (request_with line body)
         → (after : List Event) (text : List ℕ) → IsPlayed plant history (past ++ (line ++ 10 ∷ (body ++ more))) after text
-        → CanBeLeftOut plant history past (request_of line body) more after text }
-    ensures asks { (plant : PlainPlant) (history : List Event) (request : Request) → only_asks (asked_by request) ≡ true → AddsNothing plant history request }
+        → CanBeLeftOut plant history past (request_with line body) more after text }
+    ensures asks { (plant : PlainPlant) (history : List Event) (request : Request) → reload_sizes request.line ≡ None → only_asks (asked_by request) ≡ true → AddsNothing plant history request }
 {}
