@@ -1,6 +1,6 @@
 -- In a plant two alarms have different tags, so a tag tells which alarm it is.
-use Rattle.std.proofs.Common.{◌≡◌, ◌∙◌, ℕ, zero, suc, ◌<◌, Bool, true, false, true≢false, List, [], ◌∷◌, length, inl, inr, ap, sym, refl, eqb, map, get_or, Option, Some, arith}
-use Rattle.std.specs.Prelude.{slice_get, slice_index_or}
+use Rattle.std.proofs.Common.{◌≡◌, ◌∙◌, ℕ, zero, suc, ◌<◌, Bool, true, false, true≢false, List, [], ◌∷◌, length, inl, inr, ap, sym, refl, eqb, cond, map, get_or, Option, Some, None, arith}
+use Rattle.std.specs.Prelude.{slice_get, slice_index_or, nat_lt}
 use Rattle.std.specs.Option.{option_map_or}
 use Rattle.std.specs.List.{position_or_len}
 use Rattle.std.specs.Str.{bytes_eq}
@@ -54,7 +54,8 @@ tags_apart plant is i j h k = apart_by plant i j (eqb i j) is refl h k
 
 -- the number of a tag is that of its alarm
 tags_at : (rows : List AlarmRow) (i : ℕ) → get_or (map (λ (row : AlarmRow). row.tag) rows) i [] ≡ option_map_or (λ (row : AlarmRow). row.tag) (slice_get rows i) []
-tags_at [] i = refl
+tags_at [] zero = refl
+tags_at [] (suc i) = refl
 tags_at (row ∷ rows) zero = refl
 tags_at (row ∷ rows) (suc i) = tags_at rows i
 
@@ -66,7 +67,8 @@ number_of_tag plant n apart there =
     let test : (k : ℕ) → k < length plant.alarms → bytes_eq tag (get_or tags k []) ≡ eqb n k = λ k h. ap (bytes_eq tag) (tags_at plant.alarms k) ∙ apart n k there h in
     let first : position_or_len (bytes_eq tag) tags ≡ n =
     position_or_len_is (bytes_eq tag) tags n [] (omega (arith, many, there)) (λ k h. test k (omega (arith, h, there)) ∙ other n k h) (λ h. test n there ∙ eq-eqb n n refl) in
-    rw (first, lt-ltb n (length tags) (omega (arith, many, there))) refl
+    let found : Bool → ℕ → Option ℕ = λ v k. cond v (Some k) None in
+    ap (λ (k : ℕ). found (nat_lt k (length tags)) k) first ∙ ap (λ (v : Bool). found v n) (lt-ltb n (length tags) (omega (arith, many, there)))
   where
     other : (n k : ℕ) → k < n → eqb n k ≡ false
     other n k h = grind (arith, nat_tests)

@@ -10,6 +10,8 @@ use Rattle.plant_config.proofs.Decided.{accepted_or_refused}
 use Rattle.plant_folder.specs.Verdicts.{refusal_line, IsVerdict}
 use Rattle.plant_system.specs.System.{System, system, reload_event}
 use Rattle.command_text.specs.Reloads.{PlainSizes, total_size, reload_sizes}
+use Rattle.std.specs.Prelude.{codes}
+use Rattle.command_text.specs.Lines.{refused_line}
 use Rattle.command_answers.specs.Answers.{after_command, answer_after, event_added}
 use Rattle.requests.specs.Requests.{Request, requests_of}
 use Rattle.serving.specs.Reloads.{handed_texts, reload_answer, IsFollowed, IsReloaded, IsReloadAnswer}
@@ -77,7 +79,7 @@ answer_alike : (o : Option PlainSizes) (plant : PlainPlant) (h a b : List Event)
     → (a ≡ b) × ((s ≡ t) ⊎ AreRefusals s t)
 answer_alike None plant h a b request s t p q = (p.0 ∙ sym q.0, inl (p.1 ∙ sym q.1))
 answer_alike (Some sizes) plant h a b request s t p q =
-    let both = reloaded_alike (ltb (length request.body) (total_size sizes)) (system plant h) (handed_texts sizes request.body) _ p.events q.events s t p.answer q.answer in
+    let both = reloaded_alike (ltb (length request.body) (total_size sizes)) (system plant h) (handed_texts sizes request.body) (refused_line (codes "L2")) p.events q.events s t p.answer q.answer in
     (p.after_is ∙ ap (λ (es : List Event). h ++ es) both.0 ∙ sym q.after_is, both.1)
 
 -- what requests leave is one history, and what they are answered is the same but for that
@@ -103,7 +105,7 @@ answer_in-there false sys texts refused = reloaded-there sys texts
 answer-there : (o : Option PlainSizes) (plant : PlainPlant) (h : List Event) (request : Request) → (a : List Event) × (s : List ℕ) × IsAnswerBy o plant h request a s
 answer-there None plant h request = (after_command plant h (asked_by request), answer_after plant h (asked_by request), (refl, refl))
 answer-there (Some sizes) plant h request =
-    let there = answer_in-there (ltb (length request.body) (total_size sizes)) (system plant h) (handed_texts sizes request.body) _ in
+    let there = answer_in-there (ltb (length request.body) (total_size sizes)) (system plant h) (handed_texts sizes request.body) (refused_line (codes "L2")) in
     (h ++ there.0, there.1, record { events = there.0; after_is = refl; answer = there.2 })
 
 pub answers-there : AnswersAreThere

@@ -146,7 +146,8 @@ impl Kept {
     {
         let mut rest = piece;
         while !rest.is_empty() {
-            let Taken { ended, rest: after } = self.splitter.take(rest)?;
+            let taken = self.splitter.take(rest)?;
+            let Taken { ended, rest: after } = taken;
             self.answer_ended(rt, engine, crew, sink, ended)?;
             rest = after;
         }
