@@ -36,6 +36,18 @@ const HINTS: &[(&str, &str)] = &[
         "E6: the history is full: end this run, and begin another (docs/OPERATION.md, \"A million events, then a new record\")\n",
     ),
     (
+        "REFUSED E7",
+        "E7: the numbers of the consoles, in their order, aren't those of the plant that runs\n",
+    ),
+    (
+        "REFUSED E8",
+        "E8: the epoch isn't that of the plant that runs\n",
+    ),
+    (
+        "REFUSED L2",
+        "L2: the input ended before all bytes of the plant were there\n",
+    ),
+    (
         "REPLY O1",
         "O1: the plant has no alarm of this tag, in which letter case counts, or no program of this name\n",
     ),
@@ -77,19 +89,22 @@ fn warning(events: u32) -> &'static str {
     }
 }
 
-/// Whether a whole answer tells of an event, by its first line: that of a scan begins with FAULT, ALARM, OUT or DONE, that of an order with REPLY.
+/// Whether a whole answer tells of an event, by its first line: that of a scan begins with FAULT, ALARM, OUT or DONE, that of an order with REPLY, and that
+/// of a reload with RELOADED.
 fn tells_of_event(answer: &[u8]) -> bool {
     match answer.first() {
         Some(b'F' | b'A' | b'O' | b'D') => true,
-        Some(b'R') => answer.starts_with(b"REP"),
+        Some(b'R') => answer.starts_with(b"REP") || answer.starts_with(b"REL"),
         _ => false,
     }
 }
 
-/// Whether a line tells of an event, by its beginning: each answer of an event has one line DONE or REPLY. And what is said of a line to whoever looks on;
+/// Whether a line tells of an event, by its beginning: each answer of an event has one line DONE, REPLY or RELOADED. And what is said of a line to whoever looks on;
 /// empty where nobody does.
 fn judged(head: &[u8], is_watched: bool) -> (bool, &'static str) {
-    let is_event = head.starts_with(b"DONE ") || head.starts_with(b"REPLY ");
+    let is_event = head.starts_with(b"DONE ")
+        || head.starts_with(b"REPLY ")
+        || head.starts_with(b"RELOADED ");
     if is_watched {
         (is_event, hint(head.get(..HEAD).unwrap_or(head)))
     } else {

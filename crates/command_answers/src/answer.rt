@@ -1,5 +1,9 @@
-ghost use Rattle.std.specs.Prelude.{◌≡◌, ◌++◌, ◌⊎◌, ◌<◌, ◌^◌, ◌+◌, ℕ, OnOk, OnErr, IfOk, IfSome, All, length, false, string_bytes, decimal};
+ghost use Rattle.std.specs.Prelude.{◌≡◌, ◌++◌, ◌∷◌, [], List, ◌⊎◌, ◌<◌, ◌^◌, ◌+◌, ℕ, OnOk, OnErr, IfOk, IfSome, All, length, false, string_bytes, decimal};
 ghost use Rattle.engine.specs.Engines.{state_of};
+ghost use Rattle.event_history.specs.declared.event.Event.{Event};
+ghost use Rattle.event_history.specs.declared.event.Event.TheVariants as event;
+ghost use Rattle.operator_orders.specs.declared.order.Order.{Order as OrderMade};
+ghost use Rattle.plant_config.specs.Plants.{PlainPlant};
 ghost use Rattle.plant_config.specs.Names.{tag_of, globals_of, global_of, body_paths};
 ghost use Rattle.plant_logic.specs.Paths.{path_text};
 ghost use Rattle.plant_walk.specs.Runs.{place_spot};
@@ -253,6 +257,12 @@ fn push_order(text: &mut Vec<u8>, moment: u64, tag: &str, reply: Reply) -> Resul
     }
 }
 
+/// A law, which does nothing: an order leaves the plant as it is.
+fn order_keeps_plant()
+    ensures { (plant : PlainPlant) (history : List Event) (console : ℕ) (order : OrderMade)
+        → (system plant (history ++ event.Order console order ∷ [])).plant ≡ (system plant history).plant }
+{}
+
 /// Does an order for what a word names, and appends its answer. It fails where an allocation failed: before the order took effect or
 /// after it.
 fn answer_order(
@@ -269,15 +279,12 @@ fn answer_order(
     ensures err { OnErr result ((engine.new.history ≡ engine.old.history)
         ⊎ (engine.new.history ≡ engine.old.history ++ event_added (order_event (state_of engine.old) console (order_for (state_of engine.old) verb word.now)))) }
 {
-    engine.keeps_its_plant();
+    order_keeps_plant();
     let last = engine.moment();
     let target = target_of(engine.plant(), verb, word);
     let order = Order::of(verb, target, engine.reloads());
     match engine.order(alloc, console, order) {
-        Ok(reply) => {
-            engine.keeps_its_plant();
-            push_order(text, last, tag_for(engine.plant(), order), reply)
-        }
+        Ok(reply) => push_order(text, last, tag_for(engine.plant(), order), reply),
         // An order asks no crew.
         Err(EngineFault::Memory | EngineFault::Crew(_)) => Err(AllocError),
         Err(fault) => push_refused(text, fault.text()),

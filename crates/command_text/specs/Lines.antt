@@ -58,6 +58,10 @@ reply_line refused = line_of (codes "REPLY") (reply_text refused ∷ [])
 unfoldable pub refused_line : List ℕ → List ℕ
 refused_line number = line_of (codes "REFUSED") (number ∷ [])
 
+-- the line of a reload: how many alarms of the new plant keep their states, and how many are new
+unfoldable pub reloaded_line : ℕ → ℕ → List ℕ
+reloaded_line kept fresh = line_of (codes "RELOADED") (codes "KEPT" ∷ decimal kept ∷ codes "NEW" ∷ decimal fresh ∷ [])
+
 -- the line of an alarm that isn't normal: its tag, its code, its priority
 unfoldable pub state_line : List ℕ → Code → ℕ → List ℕ
 state_line tag code priority = line_of (codes "STATE") (tag ∷ code_text code ∷ decimal priority ∷ [])

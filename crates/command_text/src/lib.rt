@@ -19,8 +19,8 @@ mod words;
 pub use command::Command;
 pub use laws::printed_words_are_commands;
 pub use lines::{
-    push_alarm, push_count, push_done, push_end, push_fault, push_out, push_refused, push_reply,
-    push_row, push_state,
+    push_alarm, push_count, push_done, push_end, push_fault, push_out, push_refused, push_reloaded,
+    push_reply, push_row, push_state,
 };
 pub use outputs::{OutFront, put_out};
 pub use parse::read_command;

@@ -1,5 +1,5 @@
 ghost use Rattle.std.specs.Prelude.{◌≡◌, ◌≤◌, ◌++◌, ℕ, OnOk, OnErr, length, map, take, ◌∷◌, [], codes, decimal};
-ghost use Rattle.command_text.specs.Lines.{line_of, fault_line, alarm_line, out_line, done_line, reply_line, refused_line, state_line, count_line, row_line, end_line};
+ghost use Rattle.command_text.specs.Lines.{line_of, fault_line, alarm_line, out_line, done_line, reply_line, refused_line, reloaded_line, state_line, count_line, row_line, end_line};
 
 use crate::faults::{place_path, place_stop};
 use crate::outputs::place_out;
@@ -270,6 +270,18 @@ pub fn push_count(
         code.text(),
         number.format(count),
     )
+}
+
+/// Appends `RELOADED KEPT k NEW n`: how many alarms of a new plant keep their states, and how many are new. Where memory is refused the text is unchanged.
+#[tactic(auto, unfolding(crate::specs::Lines::reloaded_line))]
+pub fn push_reloaded(out: &mut Vec<u8>, kept: u32, fresh: u32) -> Result<(), AllocError>
+    ensures ok { OnOk result (out.new.items ≡ out.old.items ++ reloaded_line kept fresh) }
+    ensures err { OnErr result (out.new.items ≡ out.old.items) }
+{
+    let mut digits = Buffer::new();
+    let kept = digits.format(kept);
+    let mut number = Buffer::new();
+    push_four(out, "RELOADED", "KEPT", kept, "NEW", number.format(fresh))
 }
 
 /// Appends a row of the journal, of which this is the text, and LF. Where memory is refused the text is unchanged.

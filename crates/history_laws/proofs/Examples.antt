@@ -4,10 +4,10 @@ use Rattle.std.specs.Prelude.{codes}
 use Rattle.alarm_machine.specs.declared.states.Code.TheVariants.{Norm, Unack, Acked, Oos}
 use Rattle.alarm_machine.specs.declared.states.Verb.TheVariants as verb
 use Rattle.engine.specs.Journal.{NamedRow, ChangeOf, OrderBy, rows_from}
-use Rattle.serving.proofs.BodyLaws.{no_body}
-use Rattle.serving.specs.Requests.{Request, requests_of}
-use Rattle.serving.proofs.Beginnings.{requests_end}
-use Rattle.history_laws.specs.Told.{last_code}
+use Rattle.command_text.specs.Reloads.{reload_size, reload_sizes, sizes_after}
+use Rattle.requests.specs.Requests.{Request, requests_of}
+use Rattle.requests.proofs.Beginnings.{requests_end}
+use Rattle.history_laws.specs.Told.{code_after}
 use Rattle.history_laws.specs.Records.{ends_at_line}
 
 -- T1 comes, an order acknowledges it, and T2 is taken out of service
@@ -20,7 +20,7 @@ rows =
     ∷ ChangeOf (codes "T2") (record { from = Norm; to = Oos })
     ∷ [])
 
-codes_of_rows : map (λ tag. last_code tag rows) (codes "T1" ∷ codes "T2" ∷ codes "T3" ∷ []) ≡ Acked ∷ Oos ∷ Norm ∷ []
+codes_of_rows : map (λ tag. code_after tag Norm rows) (codes "T1" ∷ codes "T2" ∷ codes "T3" ∷ []) ≡ Acked ∷ Oos ∷ Norm ∷ []
 codes_of_rows = refl
 
 -- a line with its LF ends there, one without doesn't
@@ -34,8 +34,13 @@ torn = refl
 abbrev lines : List Request → List (List ℕ)
 lines requests = map (λ (r : Request). r.line) requests
 
+-- no bytes come after it
+no_body : reload_size (codes "list") ≡ 0
+unfolding reload_size reload_sizes sizes_after
+no_body = refl
+
 cut_at_line : lines (requests_of ((codes "list" ++ 10 ∷ []) ++ codes "ack")) ≡ codes "list" ∷ codes "ack" ∷ []
-cut_at_line = ap lines (requests_end (codes "list") [] (codes "ack") refl (sym (no_body (codes "list"))))
+cut_at_line = ap lines (requests_end (codes "list") [] (codes "ack") refl (sym no_body))
 
 cut_within : lines (requests_of (codes "li" ++ (codes "st" ++ 10 ∷ []))) ≡ codes "list" ∷ []
-cut_within = ap lines (requests_end (codes "list") [] [] refl (sym (no_body (codes "list"))))
+cut_within = ap lines (requests_end (codes "list") [] [] refl (sym no_body))

@@ -2,17 +2,16 @@
 use Rattle.std.proofs.Common.{◌≡◌, ℕ, zero, suc, ◌<◌, Bool, true, false, ◌&&◌, cond, List, [], ◌∷◌, ◌++◌, length, refl, ap, sym, ◌∙◌, subst, arith, eqb}
 use Rattle.std.specs.List.{list_all}
 use Rattle.std.proofs.lemmas.Bool.Decides.{nat_tests}
-use Rattle.serving.specs.Bodies.{body_size}
-use Rattle.serving.proofs.BodyLaws.{no_body}
-use Rattle.serving.specs.Requests.{Request, is_lf, has_lf, line_in, without_cr, is_whole, request_in, last_request, ended_from, begun_from, begun_request, requests_of}
-use Rattle.serving.proofs.RequestLaws.{line_in-none, line_in-more}
-use Rattle.serving.proofs.Beginnings.{no_lf, not_whole, lf_there, lf_stays, lf_whole}
-use Rattle.serving.proofs.HeldLaws.{last_body}
+use Rattle.command_text.specs.Reloads.{reload_size}
+use Rattle.requests.specs.Requests.{Request, is_lf, has_lf, line_in, without_cr, is_whole, request_in, last_request, ended_from, begun_from, begun_request, requests_of}
+use Rattle.requests.proofs.RequestLaws.{line_in-none, line_in-more}
+use Rattle.requests.proofs.Beginnings.{no_lf, not_whole, lf_there, lf_stays, lf_whole}
+use Rattle.requests.proofs.HeldLaws.{last_body}
 use Rattle.history_laws.specs.Records.{ends_at_line, has_no_body}
 
 -- a request without a body
 abbrev bare : Request → Bool
-bare request = eqb (body_size request.line) 0
+bare request = eqb (reload_size request.line) 0
 
 -- what a byte leaves begun, and all requests then, by whether it ended one
 abbrev left : Bool → List ℕ → List ℕ → List ℕ
@@ -36,37 +35,37 @@ is_ten : (b : ℕ) → is_lf b ≡ true → b ≡ 10
 is_ten b e = grind (arith, nat_tests)
 
 -- a request with a body is not bare
-first : (request : Request) (others : List Request) → 0 < body_size request.line → list_all bare (request ∷ others) ≡ true → ⊥
-first request others some all = some_zero (body_size request.line) some (and_left (bare request) (list_all bare others) all)
+first : (request : Request) (others : List Request) → 0 < reload_size request.line → list_all bare (request ∷ others) ≡ true → ⊥
+first request others some all = some_zero (reload_size request.line) some (and_left (bare request) (list_all bare others) all)
 
 -- a line that tells of bytes after it is among the requests, wherever they end
-module _ (next bs : List ℕ) (some : 0 < body_size (without_cr (line_in next))) where
+module _ (next bs : List ℕ) (some : 0 < reload_size (without_cr (line_in next))) where
   either_way : (v : Bool) → (list_all bare (ended_from next bs ++ last_request (begun_from next bs)) ≡ true → ⊥) → list_all bare (all_by v next bs) ≡ true → ⊥
   either_way true later all = first (request_in next) (ended_from [] bs ++ last_request (begun_from [] bs)) some all
   either_way false later all = later all
 
-with_body : (begun bs : List ℕ) → has_lf begun ≡ true → 0 < body_size (without_cr (line_in begun)) → list_all bare (ended_from begun bs ++ last_request (begun_from begun bs)) ≡ true → ⊥
+with_body : (begun bs : List ℕ) → has_lf begun ≡ true → 0 < reload_size (without_cr (line_in begun)) → list_all bare (ended_from begun bs ++ last_request (begun_from begun bs)) ≡ true → ⊥
 with_body begun [] p some all = first (request_in begun) [] some (subst (λ (rs : List Request). list_all bare rs ≡ true) (sym (last_body begun p)) all)
 with_body begun (b ∷ bs) p some all =
     let next : List ℕ = begun ++ b ∷ [] in
     let same : line_in next ≡ line_in begun = line_in-more begun (b ∷ []) p in
-    let more : 0 < body_size (without_cr (line_in next)) = subst (λ (line : List ℕ). 0 < body_size (without_cr line)) (sym same) some in
+    let more : 0 < reload_size (without_cr (line_in next)) = subst (λ (line : List ℕ). 0 < reload_size (without_cr line)) (sym same) some in
     either_way next bs more (is_whole next) (with_body next bs (lf_stays begun (b ∷ []) p) more) all
 
 -- an LF where no other one was
 at_lf : (begun bs : List ℕ) → has_lf begun ≡ false → (list_all bare (ended_from [] bs ++ last_request (begun_from [] bs)) ≡ true → begun_from [] bs ≡ [])
     → list_all bare (all_by (is_whole (begun ++ 10 ∷ [])) (begun ++ 10 ∷ []) bs) ≡ true → left (is_whole (begun ++ 10 ∷ [])) (begun ++ 10 ∷ []) bs ≡ []
-at_lf begun bs p later all = by_size (body_size (without_cr begun)) refl
+at_lf begun bs p later all = by_size (reload_size (without_cr begun)) refl
   where
-    by_size : (n : ℕ) → body_size (without_cr begun) ≡ n → left (is_whole (begun ++ 10 ∷ [])) (begun ++ 10 ∷ []) bs ≡ []
+    by_size : (n : ℕ) → reload_size (without_cr begun) ≡ n → left (is_whole (begun ++ 10 ∷ [])) (begun ++ 10 ∷ []) bs ≡ []
     by_size zero e =
         let whole = lf_whole begun p e in
         let now : list_all bare (all_by true (begun ++ 10 ∷ []) bs) ≡ true = subst (λ (v : Bool). list_all bare (all_by v (begun ++ 10 ∷ []) bs) ≡ true) whole all in
         ap (λ (v : Bool). left v (begun ++ 10 ∷ []) bs) whole
         ∙ later (and_right (bare (request_in (begun ++ 10 ∷ []))) (list_all bare (ended_from [] bs ++ last_request (begun_from [] bs))) now)
     by_size (suc n) e =
-        let same : body_size (without_cr (line_in (begun ++ 10 ∷ []))) ≡ body_size (without_cr begun) = ap (λ (line : List ℕ). body_size (without_cr line)) (line_in-none begun [] p) in
-        let some : 0 < body_size (without_cr (line_in (begun ++ 10 ∷ []))) = omega (arith, same, e) in
+        let same : reload_size (without_cr (line_in (begun ++ 10 ∷ []))) ≡ reload_size (without_cr begun) = ap (λ (line : List ℕ). reload_size (without_cr line)) (line_in-none begun [] p) in
+        let some : 0 < reload_size (without_cr (line_in (begun ++ 10 ∷ []))) = omega (arith, same, e) in
         absurd (either_way (begun ++ 10 ∷ []) bs some (is_whole (begun ++ 10 ∷ [])) (with_body (begun ++ 10 ∷ []) bs (lf_there begun []) some) all)
 
 -- any byte
@@ -90,11 +89,3 @@ none_begun begun b (c ∷ bs) p e all = at_byte begun b (c ∷ bs) p (λ bares. 
 pub lines_end : (past : List ℕ) → ends_at_line past ≡ true → has_no_body past ≡ true → begun_request past ≡ []
 lines_end [] e none = refl
 lines_end (b ∷ bs) e none = none_begun [] b bs refl e none
-
--- no line of today tells of bytes after it
-all_bare : (requests : List Request) → list_all bare requests ≡ true
-all_bare [] = refl
-all_bare (request ∷ others) = ap (λ (n : ℕ). eqb n 0 && list_all bare others) (no_body request.line) ∙ all_bare others
-
-pub none_has_body : (input : List ℕ) → has_no_body input ≡ true
-none_has_body input = all_bare (requests_of input)

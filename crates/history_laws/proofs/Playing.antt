@@ -1,5 +1,5 @@
 -- Records that are played again, and gone on from.
-use Rattle.std.proofs.Common.{◌≡◌, ℕ, true, false, List, [], ◌∷◌, ◌++◌, length, refl, ap, sym, ◌∙◌, subst, append_assoc, append-nil, ◌+◌, map}
+use Rattle.std.proofs.Common.{◌≡◌, ℕ, true, false, List, [], ◌∷◌, ◌++◌, length, refl, ap, sym, ◌∙◌, subst, append_assoc, append-nil, ◌+◌, map, Option, None, Some}
 use Rattle.event_history.specs.declared.event.Event.{Event}
 use Rattle.plant_config.specs.Plants.{PlainPlant}
 use Rattle.plant_system.specs.System.{System, system, after_event, scan_event}
@@ -7,32 +7,21 @@ use Rattle.plant_system.proofs.Systems.{system_next}
 use Rattle.engine.specs.Journal.{NamedRow, added_rows}
 use Rattle.history_laws.proofs.Journals.{journal_next}
 use Rattle.command_text.specs.Commands.{PlainCommand, Nothing, Unknown, Scan, Order, Listing, Journal}
-use Rattle.serving.specs.Bodies.{body_size}
+use Rattle.command_text.specs.Reloads.{PlainSizes, reload_sizes, reload_size}
 use Rattle.command_answers.specs.Listings.{list_text, journal_text, named_line, with_end}
 use Rattle.command_answers.specs.Answers.{after_command, answer_after, command_answer, command_events, event_text, scan_text, order_answer, order_for}
-use Rattle.serving.specs.Requests.{Request, has_lf, without_cr, asked_by, begun_request, requests_of}
-use Rattle.serving.specs.Answers.{IsAnswered, AreAnswered, after_requests, answers}
-use Rattle.serving.specs.Session.{out_text}
-use Rattle.serving.proofs.AnswerLaws.{together, apart, answers-one, answers-there}
-use Rattle.serving.proofs.RequestLaws.{cut}
-use Rattle.serving.proofs.Beginnings.{requests_end}
-use Rattle.history_laws.specs.Records.{IsPlayed, GoesOn, LeaveAlike, IsPlayedAlike, only_asks, request_of, AddsNothing, AddsNothingAfter, CanBeLeftOut}
+use Rattle.requests.specs.Requests.{Request, has_lf, without_cr, begun_request, requests_of}
+use Rattle.requests.proofs.RequestLaws.{cut}
+use Rattle.requests.proofs.Beginnings.{requests_end}
+use Rattle.serving.specs.Reloads.{IsReloadAnswer}
+use Rattle.serving.specs.Answers.{asked_by, IsReload, IsAnswerBy, IsAnswered, AreAnswered}
+use Rattle.serving.proofs.AnswerLaws.{together, apart, answers-one}
+use Rattle.history_laws.specs.Records.{IsPlayed, GoesOn, LeaveAlike, IsPlayedAlike, only_asks, request_with, AddsNothing, AddsNothingAfter, CanBeLeftOut}
 
 -- ---- requests one after another
 
--- a request leaves one history, whatever it is answered
-leaves_one : (plant : PlainPlant) (h a b : List Event) (request : Request) (s t : List ℕ) → IsAnswered plant h request a s → IsAnswered plant h request b t → a ≡ b
-leaves_one plant h a b request s t p q = p.0 ∙ sym q.0
-
--- and so do requests one after another
-leave_one : (plant : PlainPlant) (h a b : List Event) (requests : List Request) (s t : List ℕ) → AreAnswered plant h requests a s → AreAnswered plant h requests b t → a ≡ b
-leave_one plant h a b [] s t p q = p.0 ∙ sym q.0
-leave_one plant h a b (request ∷ requests) s t p q =
-    let same = leaves_one plant h p.0 q.0 request p.1 q.1 p.3 q.3 in
-    leave_one plant q.0 a b requests p.2 q.2 (subst (λ (m : List Event). AreAnswered plant m requests a p.2) same p.4) q.4
-
 pub one_history : (plant : PlainPlant) (history a b : List Event) (input s t : List ℕ) → IsPlayed plant history input a s → IsPlayed plant history input b t → a ≡ b
-one_history plant history a b input s t p q = leave_one plant history a b (requests_of input) s t p q
+one_history plant history a b input s t p q = (answers-one plant history (requests_of input) a b s t p q).0
 
 -- an input and more after it
 pub goes_on : (plant : PlainPlant) (history : List Event) (past more : List ℕ) → begun_request past ≡ [] → (after : List Event) (text : List ℕ) → GoesOn plant history past more after text
@@ -47,17 +36,6 @@ goes_on plant history past more e after text =
           (subst (λ (t : List ℕ). AreAnswered plant history (requests_of past ++ requests_of more) after t) (sym p.text_is)
           (together plant history p.middle after (requests_of past) (requests_of more) p.first p.rest p.past_is p.more_is));
     }
-
--- the text of both, where no event came before them
-pub starts : (plant : PlainPlant) (past more : List ℕ) → begun_request past ≡ []
-    → out_text plant (past ++ more) ≡ out_text plant past ++ answers plant (after_requests plant [] (requests_of past)) (requests_of more)
-starts plant past more e =
-    let xs = requests_of past in
-    let ys = requests_of more in
-    let both = apart plant [] (after_requests plant [] (xs ++ ys)) xs ys (answers plant [] (xs ++ ys)) (answers-there plant [] (xs ++ ys)) in
-    let front = answers-one plant [] xs both.middle both.first both.front in
-    let back = answers-one plant both.middle ys (after_requests plant [] (xs ++ ys)) both.rest both.back in
-    ap (answers plant []) (cut past more e) ∙ both.text_is ∙ (λ i. front.1 i ++ back.1 i) ∙ ap (λ (h : List Event). answers plant [] xs ++ answers plant h ys) front.0
 
 -- ---- histories that leave a plant alike
 
@@ -93,22 +71,30 @@ answer_alike plant h k Listing alike = ap list_text alike.state_is
 answer_alike plant h k Journal alike = ap (λ (rows : List NamedRow). with_end (map (named_line plant.epoch) rows)) alike.journal_is
 
 -- a request, by what it may be answered after the other history
-request_alike : (plant : PlainPlant) (h k after : List Event) (request : Request) (text : List ℕ) → LeaveAlike plant h k → IsAnswered plant h request after text
-    → IsAnswered plant k request (after_command plant k (asked_by request)) text × LeaveAlike plant after (after_command plant k (asked_by request))
+AnsweredAlike : Option PlainSizes → (plant : PlainPlant) (k after : List Event) (request : Request) (text : List ℕ) → Type 0
+AnsweredAlike sizes plant k after request text = (end : List Event) × IsAnswerBy sizes plant k request end text × LeaveAlike plant after end
+
+request_alike : (sizes : Option PlainSizes) (plant : PlainPlant) (h k after : List Event) (request : Request) (text : List ℕ) → LeaveAlike plant h k → IsAnswerBy sizes plant h request after text
+    → AnsweredAlike sizes plant k after request text
 unfolding answer_after
-request_alike plant h k after request text alike p =
+request_alike None plant h k after request text alike p =
     let command = asked_by request in
     let next = after_command plant k command in
-    ((refl, p.1 ∙ answer_alike plant h k command alike), subst (λ (e : List Event). LeaveAlike plant e next) (sym p.0) (alike_command plant h k command alike))
+    (next, (refl, p.1 ∙ answer_alike plant h k command alike), subst (λ (e : List Event). LeaveAlike plant e next) (sym p.0) (alike_command plant h k command alike))
+request_alike (Some sizes) plant h k after request text alike p =
+    let next = k ++ p.events in (
+      next,
+      record { events = p.events; after_is = refl; answer = subst (λ (s : System). IsReloadAnswer s sizes request.body p.events text) alike.state_is p.answer },
+      subst (λ (e : List Event). LeaveAlike plant e next) (sym p.after_is) (alike_more plant h k p.events alike),
+    )
 
 requests_alike : (plant : PlainPlant) (h k after : List Event) (requests : List Request) (text : List ℕ) → LeaveAlike plant h k → AreAnswered plant h requests after text
     → (end : List Event) × AreAnswered plant k requests end text × LeaveAlike plant after end
 requests_alike plant h k after [] text alike p = (k, (refl, p.1), subst (λ (e : List Event). LeaveAlike plant e k) (sym p.0) alike)
 requests_alike plant h k after (request ∷ requests) text alike p =
-    let next = after_command plant k (asked_by request) in
-    let first = request_alike plant h k p.0 request p.1 alike p.3 in
-    let others = requests_alike plant p.0 next after requests p.2 first.1 p.4 in
-    (others.0, (next, p.1, p.2, first.0, others.1, p.5), others.2)
+    let first = request_alike (reload_sizes request.line) plant h k p.0 request p.1 alike p.3 in
+    let others = requests_alike plant p.0 first.0 after requests p.2 first.2 p.4 in
+    (others.0, (first.0, p.1, p.2, first.1, others.1, p.5), others.2)
 
 pub played_alike : (plant : PlainPlant) (h k : List Event) → LeaveAlike plant h k → (input : List ℕ) (after : List Event) (text : List ℕ) → IsPlayed plant h input after text → IsPlayedAlike plant k input after text
 played_alike plant h k alike input after text p =
@@ -126,14 +112,16 @@ asking_adds plant history (Order verb console word) e = cc
 asking_adds plant history Listing e = append-nil history
 asking_adds plant history Journal e = append-nil history
 
-pub asking_adds_nothing : (plant : PlainPlant) (history : List Event) (request : Request) → only_asks (asked_by request) ≡ true → AddsNothing plant history request
-asking_adds_nothing plant history request e = λ after text p. p.0 ∙ asking_adds plant history (asked_by request) e
+pub asking_adds_nothing : (plant : PlainPlant) (history : List Event) (request : Request) → reload_sizes request.line ≡ None → only_asks (asked_by request) ≡ true → AddsNothing plant history request
+asking_adds_nothing plant history request none e = λ after text p.
+    let asked : IsAnswerBy None plant history request after text = subst (λ (o : Option PlainSizes). IsAnswerBy o plant history request after text) none p in
+    asked.0 ∙ asking_adds plant history (asked_by request) e
 
-pub line_left_out : (plant : PlainPlant) (history : List Event) (past line body more : List ℕ) → begun_request past ≡ [] → has_lf line ≡ false → length body ≡ body_size (without_cr line)
-    → AddsNothingAfter plant history past (request_of line body) → (after : List Event) (text : List ℕ) → IsPlayed plant history (past ++ (line ++ 10 ∷ (body ++ more))) after text
-    → CanBeLeftOut plant history past (request_of line body) more after text
+pub line_left_out : (plant : PlainPlant) (history : List Event) (past line body more : List ℕ) → begun_request past ≡ [] → has_lf line ≡ false → length body ≡ reload_size (without_cr line)
+    → AddsNothingAfter plant history past (request_with line body) → (after : List Event) (text : List ℕ) → IsPlayed plant history (past ++ (line ++ 10 ∷ (body ++ more))) after text
+    → CanBeLeftOut plant history past (request_with line body) more after text
 line_left_out plant history past line body more e n size none after text p =
-    let request = request_of line body in
+    let request = request_with line body in
     let played = (goes_on plant history past (line ++ 10 ∷ (body ++ more)) e after text).apart p in
     let asked : AreAnswered plant played.middle (request ∷ requests_of more) after played.rest =
     subst (λ (rs : List Request). AreAnswered plant played.middle rs after played.rest) (requests_end line body more n size) played.more_is in

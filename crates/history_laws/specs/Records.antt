@@ -6,8 +6,8 @@ use Rattle.plant_config.specs.Plants.{PlainPlant}
 use Rattle.plant_system.specs.System.{system}
 use Rattle.engine.specs.Journal.{journal_of}
 use Rattle.command_text.specs.Commands.{PlainCommand, Nothing, Unknown, Listing, Journal}
-use Rattle.serving.specs.Bodies.{body_size}
-use Rattle.serving.specs.Requests.{Request, is_lf, without_cr, requests_of}
+use Rattle.command_text.specs.Reloads.{reload_size}
+use Rattle.requests.specs.Requests.{Request, is_lf, without_cr, requests_of}
 use Rattle.serving.specs.Answers.{IsAnswered, AreAnswered}
 
 -- whether bytes end where a line does: there are none, or the last one is LF
@@ -18,7 +18,7 @@ ends_at_line (b ∷ c ∷ bs) = ends_at_line (c ∷ bs)
 
 -- whether no line of an input tells of bytes after it
 abbrev pub has_no_body : List ℕ → Bool
-has_no_body input = list_all (λ request. body_size request.line == 0) (requests_of input)
+has_no_body input = list_all (λ request. reload_size request.line == 0) (requests_of input)
 
 -- an input may be answered a text after a history, and leave another history then
 abbrev pub IsPlayed : PlainPlant → List Event → List ℕ → List Event → List ℕ → Type 0
@@ -49,7 +49,7 @@ pub record IsPlayedAlike (plant : PlainPlant) (history : List Event) (input : Li
   pub played : IsPlayed plant history input end text
   pub alike : LeaveAlike plant after end
 
--- whether a command only asks: it adds no event in any state
+-- whether a command only asks: it adds no event in any state (a reload is none)
 abbrev pub only_asks : PlainCommand → Bool
 only_asks Nothing = true
 only_asks Unknown = true
@@ -58,8 +58,8 @@ only_asks Journal = true
 only_asks _ = false
 
 -- the request of a line and of the bytes after its LF
-abbrev pub request_of : (line body : List ℕ) → Request
-request_of line body = record { line = without_cr line; body = body }
+abbrev pub request_with : (line body : List ℕ) → Request
+request_with line body = record { line = without_cr line; body = body }
 
 -- a request adds no event after a history, whatever it is answered
 abbrev pub AddsNothing : PlainPlant → List Event → Request → Type 0

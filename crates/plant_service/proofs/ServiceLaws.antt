@@ -7,7 +7,7 @@ use Rattle.plant_config.specs.Plants.{PlainPlant}
 use Rattle.serve_faults.specs.declared.fault.ServeFault.{ServeFault}
 use Rattle.serve_faults.specs.declared.fault.ServeFault.TheVariants as fault
 use Rattle.plant_service.specs.declared.service.RunEnd.TheVariants as run_end
-use Rattle.serving.specs.Requests.{ended_requests}
+use Rattle.requests.specs.Requests.{ended_requests}
 use Rattle.serving.specs.Session.{Answered, StoppedBy}
 use Rattle.plant_service.specs.Admits.{IsTold}
 use Rattle.plant_service.proofs.AdmitLaws.{IsQuiet}

@@ -21,6 +21,6 @@ pub use plant_folder::{
 };
 pub use serve_faults::{ServeFault, put_all};
 pub use service::{Ends, RunEnd, run, run_from};
-pub use serving::{Session, Step, out_text_is_one, requests_end_in_lf, serve};
+pub use serving::{Session, Step, out_text_is_one, requests_end, serve};
 pub use tables::listing;
 pub use verdict::{admit, admit_from, check_from};

@@ -34,7 +34,7 @@ pub struct Ends<F, S, L> {
 }
 
 /// Serves a plant from its first event to the end of the input.
-fn serve_plant<H: Wait, C: Crew<Job, Start, Done, H>, F: Feed, S: Sink, L>(
+fn serve_plant<H: Threads + Wait + Sync, C: Crew<Job, Start, Done, H>, F: Feed, S: Sink, L>(
     rt: &H,
     alloc: Global,
     crew: &mut C,

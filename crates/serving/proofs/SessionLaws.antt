@@ -1,14 +1,20 @@
 -- One part of a session after another.
-use Rattle.std.proofs.Common.{◌≡◌, ◌<◌, ◌≤◌, ℕ, zero, suc, List, length, [], ◌∷◌, ◌++◌, ap, refl, sym, ◌∙◌, arith, ◌⊎◌, inl, inr, append_assoc, append-nil, subst, take, Option, None, Some, IfSome}
+use Rattle.std.proofs.Common.{◌≡◌, ◌<◌, ◌≤◌, ℕ, zero, suc, List, length, [], ◌∷◌, ◌++◌, ap, refl, sym, ◌∙◌, arith, ◌⊎◌, inl, inr, append_assoc, append-nil, subst, take, Option, None, Some, IfSome, Bool, false, Result, Ok, Err}
 use Rattle.std.specs.Io.KnownBytes.{Appends, Consumes, IsAtEnd}
 use Rattle.std.proofs.KnownBytes.{Appends-nil, Appends-trans, Consumes-trans}
 use Rattle.event_history.specs.declared.event.Event.{Event}
 use Rattle.plant_config.specs.Plants.{PlainPlant}
 use Rattle.command_text.specs.Commands.{command_of}
+use Rattle.command_text.specs.Reloads.{PlainSizes, reload_sizes}
 use Rattle.command_answers.specs.Answers.{after_command, answer_after}
-use Rattle.serving.specs.Answers.{IsAnswered, AreAnswered}
-use Rattle.serving.specs.Requests.{Request, asked_by, requests_of}
-use Rattle.serving.specs.Session.{Answered, Stopped, HasServed}
+use Rattle.requests.specs.Requests.{Request, requests_of}
+use Rattle.requests.specs.Splitting.{AsksAlike, AskAlike}
+use Rattle.engine.specs.Engines.{PlainEngine}
+use Rattle.serve_faults.specs.Faults.{crew_faults, is_crew}
+use Rattle.serve_faults.specs.declared.fault.ServeFault.{ServeFault}
+use Rattle.serve_faults.specs.declared.fault.ServeFault.TheVariants as fault
+use Rattle.serving.specs.Answers.{IsReload, IsAnswerBy, IsAnswered, AreAnswered}
+use Rattle.serving.specs.Session.{Answered, Stopped, HasServed, Serves}
 use Rattle.serving.proofs.AnswerLaws.{together, answered_one}
 
 -- nothing was asked
@@ -74,26 +80,31 @@ stopped-none plant requests h₀ h₁ w e = record {
   wrote = Appends-nil w;
 }
 
--- ---- one request, by the line that was answered
+-- ---- one request, by what was answered
 
--- the answer to a line is that to a request which asks for the same
-is_answer : (plant : PlainPlant) (request : Request) (line text : List ℕ) (h₀ h₁ : List Event) → asked_by request ≡ command_of line
+-- the answer to a line alone that is no reload is that to a request which asks for the same
+is_answer : (plant : PlainPlant) (request : Request) (line body text : List ℕ) (h₀ h₁ : List Event) → reload_sizes line ≡ None → AsksAlike (record { line = line; body = body }) request
     → h₁ ≡ after_command plant h₀ (command_of line) → text ≡ answer_after plant h₀ (command_of line) → IsAnswered plant h₀ request h₁ text
-is_answer plant request line text h₀ h₁ e h t = (h ∙ ap (after_command plant h₀) (sym e), t ∙ ap (answer_after plant h₀) (sym e))
+is_answer plant request line body text h₀ h₁ none same h t =
+    subst (λ (o : Option PlainSizes). IsAnswerBy o plant h₀ request h₁ text) (sym (sym same.sizes ∙ none))
+    (h ∙ ap (after_command plant h₀) same.command, t ∙ ap (answer_after plant h₀) same.command)
+
+-- and so is the answer to a reload
+pub is_reload : (plant : PlainPlant) (request : Request) (line body text : List ℕ) (sizes : PlainSizes) (h₀ h₁ : List Event) → reload_sizes line ≡ Some sizes → AsksAlike (record { line = line; body = body }) request
+    → IsReload plant h₀ sizes body h₁ text → IsAnswered plant h₀ request h₁ text
+is_reload plant request line body text sizes h₀ h₁ is same r =
+    subst (λ (o : Option PlainSizes). IsAnswerBy o plant h₀ request h₁ text) (sym (sym same.sizes ∙ is))
+    (subst (λ (b : List ℕ). IsReload plant h₀ sizes b h₁ text) same.body r)
 
 -- a request took effect, and its answer is written
-pub answered-line : (plant : PlainPlant) (request : Request) (line text : List ℕ) (h₀ h₁ : List Event) (w₀ w₁ : Option (List ℕ)) → asked_by request ≡ command_of line
-    → h₁ ≡ after_command plant h₀ (command_of line) → text ≡ answer_after plant h₀ (command_of line) → Appends w₀ w₁ text → Answered plant (request ∷ []) h₀ h₁ w₀ w₁
-answered-line plant request line text h₀ h₁ w₀ w₁ e h t w = record {
-  text = text;
-  answered = answered_one plant h₀ h₁ request text (is_answer plant request line text h₀ h₁ e h t);
-  wrote = w;
-}
+pub answered-request : (plant : PlainPlant) (request : Request) (text : List ℕ) (h₀ h₁ : List Event) (w₀ w₁ : Option (List ℕ)) → IsAnswered plant h₀ request h₁ text → Appends w₀ w₁ text
+    → Answered plant (request ∷ []) h₀ h₁ w₀ w₁
+answered-request plant request text h₀ h₁ w₀ w₁ a w = record { text = text; answered = answered_one plant h₀ h₁ request text a; wrote = w }
 
 -- a request took effect, and a part of its answer is written
-pub stopped-line : (plant : PlainPlant) (request : Request) (line part more : List ℕ) (h₀ h₁ : List Event) (w₀ w₁ : Option (List ℕ)) → asked_by request ≡ command_of line
-    → h₁ ≡ after_command plant h₀ (command_of line) → answer_after plant h₀ (command_of line) ≡ part ++ more → Appends w₀ w₁ part → Stopped plant (request ∷ []) h₀ h₁ w₀ w₁
-stopped-line plant request line part more h₀ h₁ w₀ w₁ e h t w = record {
+pub stopped-request : (plant : PlainPlant) (request : Request) (part more : List ℕ) (h₀ h₁ : List Event) (w₀ w₁ : Option (List ℕ)) → IsAnswered plant h₀ request h₁ (part ++ more) → Appends w₀ w₁ part
+    → Stopped plant (request ∷ []) h₀ h₁ w₀ w₁
+stopped-request plant request part more h₀ h₁ w₀ w₁ a w = record {
   done = [];
   last = request ∷ [];
   rest = [];
@@ -104,15 +115,55 @@ stopped-line plant request line part more h₀ h₁ w₀ w₁ e h t w = record {
   answered = (refl, refl);
   part = part;
   more = more;
-  within = answered_one plant h₀ h₁ request (part ++ more) (is_answer plant request line (part ++ more) h₀ h₁ e h (sym t));
+  within = answered_one plant h₀ h₁ request (part ++ more) a;
   wrote = w;
 }
 
--- a request to which nothing is written, and that may have taken effect
-pub stopped-unwritten : (plant : PlainPlant) (request : Request) (line : List ℕ) (h₀ h₁ : List Event) (w : Option (List ℕ)) → asked_by request ≡ command_of line
+-- a line took effect, and its answer is written
+pub answered-line : (plant : PlainPlant) (request : Request) (line body text : List ℕ) (h₀ h₁ : List Event) (w₀ w₁ : Option (List ℕ)) → reload_sizes line ≡ None → AsksAlike (record { line = line; body = body }) request
+    → h₁ ≡ after_command plant h₀ (command_of line) → text ≡ answer_after plant h₀ (command_of line) → Appends w₀ w₁ text → Answered plant (request ∷ []) h₀ h₁ w₀ w₁
+answered-line plant request line body text h₀ h₁ w₀ w₁ none same h t w = answered-request plant request text h₀ h₁ w₀ w₁ (is_answer plant request line body text h₀ h₁ none same h t) w
+
+-- a line took effect, and a part of its answer is written
+pub stopped-line : (plant : PlainPlant) (request : Request) (line body part more : List ℕ) (h₀ h₁ : List Event) (w₀ w₁ : Option (List ℕ)) → reload_sizes line ≡ None → AsksAlike (record { line = line; body = body }) request
+    → h₁ ≡ after_command plant h₀ (command_of line) → answer_after plant h₀ (command_of line) ≡ part ++ more → Appends w₀ w₁ part → Stopped plant (request ∷ []) h₀ h₁ w₀ w₁
+stopped-line plant request line body part more h₀ h₁ w₀ w₁ none same h t w = stopped-request plant request part more h₀ h₁ w₀ w₁ (is_answer plant request line body (part ++ more) h₀ h₁ none same h (sym t)) w
+
+-- a line to which nothing is written, and that may have taken effect
+pub stopped-unwritten : (plant : PlainPlant) (request : Request) (line body : List ℕ) (h₀ h₁ : List Event) (w : Option (List ℕ)) → reload_sizes line ≡ None → AsksAlike (record { line = line; body = body }) request
     → (h₁ ≡ h₀) ⊎ (h₁ ≡ after_command plant h₀ (command_of line)) → Stopped plant (request ∷ []) h₀ h₁ w w
-stopped-unwritten plant request line h₀ h₁ w e (inl h) = stopped-none plant (request ∷ []) h₀ h₁ w h
-stopped-unwritten plant request line h₀ h₁ w e (inr h) = stopped-line plant request line [] (answer_after plant h₀ (command_of line)) h₀ h₁ w w e h refl (Appends-nil w)
+stopped-unwritten plant request line body h₀ h₁ w none same (inl h) = stopped-none plant (request ∷ []) h₀ h₁ w h
+stopped-unwritten plant request line body h₀ h₁ w none same (inr h) = stopped-line plant request line body [] (answer_after plant h₀ (command_of line)) h₀ h₁ w w none same h refl (Appends-nil w)
+
+-- ---- requests that ask alike
+
+none_asked : (requests : List Request) → AskAlike [] requests → requests ≡ []
+none_asked [] same = refl
+none_asked (r ∷ rs) same = absurd same
+
+-- nothing was asked
+pub serves-none : (requests : List Request) (e : PlainEngine) (w : Option (List ℕ)) → AskAlike [] requests → Serves (Ok tt) requests e e w w
+serves-none requests e w same = subst (λ (rs : List Request). Serves (Ok tt) rs e e w w) (sym (none_asked requests same)) (answered-none e.plant e.history w, tt)
+
+one_asked : (x : Request) (requests : List Request) → AskAlike (x ∷ []) requests → (r : Request) × (requests ≡ r ∷ []) × AsksAlike x r
+one_asked x [] same = absurd same
+one_asked x (r ∷ []) same = (r, refl, same.0)
+one_asked x (r ∷ s ∷ rs) same = absurd same.1
+
+-- one request was
+pub serves-one : (r : Result Unit ServeFault) (x : Request) (requests : List Request) (e₀ e₁ : PlainEngine) (w₀ w₁ : Option (List ℕ)) → AskAlike (x ∷ []) requests
+    → ((request : Request) → AsksAlike x request → Serves r (request ∷ []) e₀ e₁ w₀ w₁) → Serves r requests e₀ e₁ w₀ w₁
+serves-one r x requests e₀ e₁ w₀ w₁ same served =
+    let one = one_asked x requests same in
+    subst (λ (rs : List Request). Serves r rs e₀ e₁ w₀ w₁) (sym one.1) (served one.0 one.2)
+
+-- where the crew did not fail its count of faults stays
+pub none_counted : {T : Type 0} (n : ℕ) (result : Result T ServeFault) → is_crew result ≡ false → n ≡ crew_faults n result
+none_counted n (Ok done) none = refl
+none_counted n (Err fault.Memory) none = refl
+none_counted n (Err fault.Read) none = refl
+none_counted n (Err fault.Write) none = refl
+none_counted n (Err fault.Crew) none = absurd (cc)
 
 -- ---- the whole of a feed
 

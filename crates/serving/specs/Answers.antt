@@ -1,25 +1,34 @@
--- What requests may be answered, one after another, and which history they leave: a relation, in which an answer may leave something open. No answer to a command of today does (`AnswersAreOne`).
-use Rattle.std.specs.Prelude.{◌≡◌, ℕ, List, [], ◌∷◌, ◌++◌, fold}
+-- What requests may be answered, one after another, and which history they leave: a relation, since of a plant that is refused by C5 the place is left open, and nothing else is.
+use Rattle.std.specs.Prelude.{◌≡◌, ℕ, List, [], ◌∷◌, ◌++◌, Option, Some, None}
 use Rattle.plant_config.specs.Plants.{PlainPlant}
 use Rattle.event_history.specs.declared.event.Event.{Event}
+use Rattle.plant_system.specs.System.{system}
+use Rattle.command_text.specs.Commands.{PlainCommand, command_of}
+use Rattle.command_text.specs.Reloads.{PlainSizes, reload_sizes}
 use Rattle.command_answers.specs.Answers.{after_command, answer_after}
-use Rattle.serving.specs.Requests.{Request, asked_by}
+use Rattle.requests.specs.Requests.{Request}
+use Rattle.serving.specs.Reloads.{IsReloadAnswer}
 
--- a request may be answered a text after a history, and leaves another history then
+-- what a request asks for that is no reload
+abbrev pub asked_by : Request → PlainCommand
+asked_by request = command_of request.line
+
+-- the history that a reload leaves is the one before it and the events that it adds
+pub record IsReload (plant : PlainPlant) (history : List Event) (sizes : PlainSizes) (body : List ℕ) (after : List Event) (text : List ℕ) : Type 0 where
+  pub events : List Event
+  pub after_is : after ≡ history ++ events
+  pub answer : IsReloadAnswer (system plant history) sizes body events text
+
+-- a request may be answered a text after a history, and leaves another history then: by the sizes that its line gives it is a reload, and else it is the command of its line
+abbrev pub IsAnswerBy : Option PlainSizes → PlainPlant → List Event → Request → List Event → List ℕ → Type 0
+IsAnswerBy None plant history request after text = (after ≡ after_command plant history (asked_by request)) × (text ≡ answer_after plant history (asked_by request))
+IsAnswerBy (Some sizes) plant history request after text = IsReload plant history sizes request.body after text
+
 abbrev pub IsAnswered : PlainPlant → List Event → Request → List Event → List ℕ → Type 0
-IsAnswered plant history request after text = (after ≡ after_command plant history (asked_by request)) × (text ≡ answer_after plant history (asked_by request))
+IsAnswered plant history request after text = IsAnswerBy (reload_sizes request.line) plant history request after text
 
 -- requests may be answered a text after a history, one after another, and leave another history then: each is answered after what the one before it left
 abbrev pub AreAnswered : PlainPlant → List Event → List Request → List Event → List ℕ → Type 0
 AreAnswered plant history [] after text = (after ≡ history) × (text ≡ [])
 AreAnswered plant history (request ∷ requests) after text =
     (middle : List Event) × (first : List ℕ) × (rest : List ℕ) × IsAnswered plant history request middle first × AreAnswered plant middle requests after rest × (text ≡ first ++ rest)
-
--- the history that requests leave
-abbrev pub after_requests : PlainPlant → List Event → List Request → List Event
-after_requests plant history requests = fold (λ h request. after_command plant h (asked_by request)) history requests
-
--- the text that requests are answered, one after another
-abbrev pub answers : PlainPlant → List Event → List Request → List ℕ
-answers plant history [] = []
-answers plant history (request ∷ requests) = answer_after plant history (asked_by request) ++ answers plant (after_command plant history (asked_by request)) requests

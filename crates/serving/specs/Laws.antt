@@ -1,31 +1,34 @@
--- Laws of requests and of their answers.
-use Rattle.std.specs.Prelude.{◌≡◌, ℕ, false, List, [], ◌∷◌, ◌++◌, length}
+-- Laws of answers.
+use Rattle.std.specs.Prelude.{◌≡◌, ◌⊎◌, ℕ, List, [], ◌∷◌, ◌++◌}
 use Rattle.event_history.specs.declared.event.Event.{Event}
+use Rattle.plant_config.specs.declared.fault.ConfigFault.{ConfigFault}
 use Rattle.plant_config.specs.Plants.{PlainPlant}
-use Rattle.serving.specs.Bodies.{body_size}
-use Rattle.serving.specs.Requests.{Request, has_lf, without_cr, last_request, requests_of}
-use Rattle.serving.specs.Answers.{AreAnswered, after_requests, answers}
-use Rattle.serving.specs.Session.{IsOutText, out_text}
+use Rattle.plant_config.specs.Refusals.{unplaced}
+use Rattle.plant_folder.specs.Verdicts.{refusal_line}
+use Rattle.requests.specs.Requests.{Request, requests_of}
+use Rattle.serving.specs.Answers.{AreAnswered}
+use Rattle.serving.specs.Session.{IsOutText}
 
--- bytes without LF, then an LF, and then as many bytes as that line tells are one request, and what follows are the others
-abbrev pub RequestsEnd : Type 0
-RequestsEnd = (line body rest : List ℕ) → has_lf line ≡ false → length body ≡ body_size (without_cr line)
-    → requests_of (line ++ 10 ∷ (body ++ rest)) ≡ record { line = without_cr line; body = body } ∷ requests_of rest
+-- two texts are the lines of refusals that differ at most in the place of a C5 in its source
+abbrev pub AreRefusals : List ℕ → List ℕ → Type 0
+AreRefusals s t = (f : ConfigFault) × (g : ConfigFault) × (unplaced f ≡ unplaced g) × (s ≡ refusal_line f) × (t ≡ refusal_line g)
 
--- a line without a body is one request with its LF, and what follows are the others; bytes without LF are the last request, if there are any
-abbrev pub RequestsEndInLf : Type 0
-RequestsEndInLf = (line rest : List ℕ) → has_lf line ≡ false
-    → (body_size (without_cr line) ≡ 0 → requests_of (line ++ 10 ∷ rest) ≡ record { line = without_cr line; body = [] } ∷ requests_of rest) × (requests_of line ≡ last_request line)
+-- two texts are answers to requests that differ, of each request, in nothing but that
+abbrev pub AreSame : List Request → List ℕ → List ℕ → Type 0
+AreSame [] s t = (s ≡ []) × (t ≡ [])
+AreSame (request ∷ requests) s t =
+    (a : List ℕ) × (b : List ℕ) × (x : List ℕ) × (y : List ℕ) × ((a ≡ b) ⊎ AreRefusals a b) × AreSame requests x y × (s ≡ a ++ x) × (t ≡ b ++ y)
 
--- requests are answered one text after a history, and leave one history
+-- what requests leave is one history, and what they are answered is the same but for that
 abbrev pub AnswersAreOne : Type 0
-AnswersAreOne = (plant : PlainPlant) (history : List Event) (requests : List Request) (after : List Event) (text : List ℕ)
-    → AreAnswered plant history requests after text → (after ≡ after_requests plant history requests) × (text ≡ answers plant history requests)
+AnswersAreOne = (plant : PlainPlant) (history : List Event) (requests : List Request) (a b : List Event) (s t : List ℕ)
+    → AreAnswered plant history requests a s → AreAnswered plant history requests b t → (a ≡ b) × AreSame requests s t
 
--- and such a text and such a history there are for all requests
+-- and such a history and such a text there are for all requests
 abbrev pub AnswersAreThere : Type 0
-AnswersAreThere = (plant : PlainPlant) (history : List Event) (requests : List Request) → AreAnswered plant history requests (after_requests plant history requests) (answers plant history requests)
+AnswersAreThere = (plant : PlainPlant) (history : List Event) (requests : List Request) → (after : List Event) × (text : List ℕ) × AreAnswered plant history requests after text
 
--- so for an input, where no event came before it, one text is written
+-- so what may be written for an input, where no event came before it, is the same but for that, and there is such a text
 abbrev pub OutTextIsOne : Type 0
-OutTextIsOne = (plant : PlainPlant) (input : List ℕ) → ((text : List ℕ) → IsOutText plant input text → text ≡ out_text plant input) × IsOutText plant input (out_text plant input)
+OutTextIsOne = (plant : PlainPlant) (input : List ℕ)
+    → ((s t : List ℕ) → IsOutText plant input s → IsOutText plant input t → AreSame (requests_of input) s t) × ((text : List ℕ) × IsOutText plant input text)

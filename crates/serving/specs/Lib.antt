@@ -1,6 +1,4 @@
-pub mod Bodies
-pub mod Requests
+pub mod Reloads
 pub mod Answers
 pub mod Session
 pub mod Laws
-pub mod Missing

@@ -1,5 +1,5 @@
 -- How far a session has come.
-use Rattle.std.specs.Prelude.{◌≡◌, ℕ, ◌≤◌, ◌⊎◌, ◌||◌, Bool, false, if◌then◌else◌, List, [], ◌++◌, length, take, Option, OnOk, OnErr}
+use Rattle.std.specs.Prelude.{◌≡◌, ℕ, ◌≤◌, ◌⊎◌, ◌||◌, Bool, false, List, [], ◌++◌, length, Option, OnOk, OnErr}
 use Rattle.std.specs.declared.result.Result.{Result}
 use Rattle.std.specs.Io.KnownBytes.{Appends, IsAtEnd}
 use Rattle.event_history.specs.declared.event.Event.{Event}
@@ -8,12 +8,9 @@ use Rattle.plant_config.specs.Plants.{PlainPlant}
 use Rattle.serve_faults.specs.declared.fault.ServeFault.{ServeFault}
 use Rattle.serve_faults.specs.declared.fault.ServeFault.TheVariants as fault
 use Rattle.serve_faults.specs.Faults.{is_read, is_write}
-use Rattle.serving.specs.Requests.{Request, has_lf, ended_from, begun_from, ended_requests, requests_of}
-use Rattle.serving.specs.Answers.{AreAnswered, answers}
-
--- all that the server writes for an input, where no event came before it
-abbrev pub out_text : PlainPlant → List ℕ → List ℕ
-out_text plant input = answers plant [] (requests_of input)
+use Rattle.requests.specs.Requests.{Request, ended_from, begun_from, ended_requests, requests_of}
+use Rattle.requests.specs.Splitting.{IsHeld}
+use Rattle.serving.specs.Answers.{AreAnswered}
 
 -- a text is all that the server may write for an input, where no event came before it
 abbrev pub IsOutText : PlainPlant → (input text : List ℕ) → Type 0
@@ -57,10 +54,6 @@ StoppedBy fault.Read plant remaining input h₀ h₁ w₀ w₁ = Answered plant 
 StoppedBy fault.Write plant remaining input h₀ h₁ w₀ w₁ = (requests : List Request) × AreRead remaining input requests × Stopped plant requests h₀ h₁ w₀ w₁
 StoppedBy fault.Memory plant remaining input h₀ h₁ w₀ w₁ = (requests : List Request) × AreRead remaining input requests × Stopped plant requests h₀ h₁ w₀ w₁
 StoppedBy fault.Crew plant remaining input h₀ h₁ w₀ w₁ = (requests : List Request) × AreRead remaining input requests × Stopped plant requests h₀ h₁ w₀ w₁
-
--- of a line that has begun the first 1,048,578 bytes are held: enough to see that it is too long (over 1,048,576 bytes), even with a CR at its end; from its LF on all bytes of the request are
-abbrev pub IsHeld : (begun held : List ℕ) → Type 0
-IsHeld begun held = held ≡ (if has_lf begun then begun else take 1048578 begun)
 
 -- bytes were taken after those that had begun a request: the requests that ended in them took effect and were answered, and what has begun the next one is held
 pub record HasGone (plant : PlainPlant) (begun bytes held : List ℕ) (h₀ h₁ : List Event) (w₀ w₁ : Option (List ℕ)) : Type 0 where

@@ -1,15 +1,7 @@
-ghost use Rattle.serving.specs.Laws.{RequestsEnd, RequestsEndInLf, AnswersAreOne, AnswersAreThere, OutTextIsOne};
+ghost use Rattle.serving.specs.Laws.{AnswersAreOne, AnswersAreThere, OutTextIsOne};
 
-/// The requests of an input are its first, which is what stands before the first LF without a CR at its end, and as many bytes after that LF as
-/// this line tells, and then those of what follows. So a line that tells of none is a request alone. An input without LF is one request, or none
-/// where it is empty. (Only a law: the function does nothing.)
-pub fn requests_end_in_lf()
-    ensures requests { RequestsEnd }
-    ensures lines { RequestsEndInLf }
-{}
-
-/// Whatever requests are answered is one text, and what they leave is one history, and both are there. So for an input one text is written, where no
-/// event came before it: `out_text`. (Only a law: the function does nothing.)
+/// What requests leave is one history, and whatever they are answered is one text, but for the line and the column of a C5 of a plant that a `reload`
+/// hands in; and both are there. So it is of what may be written for an input, where no event came before it. (Only a law: the function does nothing.)
 pub fn out_text_is_one()
     ensures one { AnswersAreOne }
     ensures there { AnswersAreThere }

@@ -1,16 +1,17 @@
 //! The sessions of a server: it reads requests, and answers each before it looks at the next.
 //!
 //! What it may write for an input is a definition on bytes (`IsOutText`): how they become requests, and what each may be answered. It is one
-//! text (`out_text`, by the law `out_text_is_one`). `serve` is proved to write exactly that, for every crew that runs the programs, every feed
+//! text, but for the place of a C5 (by the law `out_text_is_one`). `serve` is proved to write exactly that, for every crew that runs the programs, every feed
 //! and every sink; `Session::step` is one read of it. A session is lent its engine; `plant_service`, above it, reads a plant and serves it to
 //! the end of the input.
 #![tactic(auto)]
 
-mod body;
 mod laws;
+mod reload;
 mod session;
 
 pub use byte_streams::{Failed, Feed, Reading, Sink, Writing};
-pub use laws::{out_text_is_one, requests_end_in_lf};
+pub use laws::out_text_is_one;
+pub use requests::requests_end;
 pub use serve_faults::{ServeFault, put_all};
 pub use session::{Session, Step, serve};

@@ -1,26 +1,25 @@
-ghost use Rattle.std.specs.Prelude.{◌≡◌, ◌≤◌, ◌-◌, ◌++◌, [], ◌∷◌, IfOk, IfErr, OnOk, OnErr, IsErrOf, MatchOption, IfSome, List, ℕ, length, take, false, ◌<◌};
+ghost use Rattle.std.specs.Prelude.{◌≡◌, ◌++◌, [], ◌∷◌, IfOk, IfErr, OnOk, OnErr, IsErrOf, IfSome, List, ℕ, length, false, ◌<◌, None, Some};
 ghost use Rattle.std.specs.Io.KnownBytes.{Consumes, IsAtEnd};
 ghost use Rattle.command_text.specs.Commands.{command_of};
-ghost use Rattle.serving.specs.Requests.{Request, asked_by, has_lf, line_in, without_cr, last_request, ended_from, begun_from, requests_of};
+ghost use Rattle.command_text.specs.Reloads.{reload_sizes};
+ghost use Rattle.requests.specs.Requests.{Request, request_of, last_request, requests_of};
+ghost use Rattle.requests.specs.Splitting.{IsHeld, AsksAlike, AskAlike, IsPlain, given_requests};
 ghost use Rattle.serve_faults.specs.Faults.{crew_faults, is_read, is_write};
-ghost use Rattle.serving.specs.Missing.{AreMissing};
-ghost use Rattle.serving.specs.Session.{Answered, Stopped, Serves, Takes, Continues, IsHeld, HasGone, StoppedBy, Goes, Ends, Stops, HasServed};
+ghost use Rattle.serving.specs.Session.{Answered, Stopped, Serves, Takes, Continues, HasGone, StoppedBy, Goes, Ends, Stops, HasServed};
 
-use crate::body::body_size;
+use crate::reload::answer_reload;
 use byte_streams::{Feed, Sink, empty_piece, fill};
 use command_answers::{Said, answer_line, write_journal, write_list};
-use command_text::Pool;
+use command_text::{Pool, reload_sizes};
 use engine::{Crew, Done, Engine, Job, Start};
-use memchr::memchr;
+use requests::{Ended, Held, Splitter, Taken};
 use serve_faults::{ServeFault, put_all};
 use std::alloc::{AllocError, Global};
 use std::marker::Model;
 use std::sync::Wait;
+use std::thread::Threads;
 
-/// How many bytes of a line are held at most: those of the longest line, one that shows that it is too long, and a CR.
-const HELD: usize = 1_048_578;
-
-/// Answers one line. Of a line that is too long its first bytes may stand for it.
+/// Answers a request that is a line alone, and no `reload`. Of a line that is too long its first bytes may stand for it.
 fn answer<H, C: Crew<Job, Start, Done, H>, S: Sink>(
     rt: &H,
     alloc: Global,
@@ -32,9 +31,10 @@ fn answer<H, C: Crew<Job, Start, Done, H>, S: Sink>(
     line: &[u8],
 ) -> Result<(), ServeFault>
     requires asked { C.asks }
+    requires plain { reload_sizes line.now ≡ None }
     ensures continues { Continues result engine.old engine.new (S.broken sink.old) (S.broken sink.new) }
     ensures crew { C.faulted crew.new ≡ crew_faults (C.faulted crew.old) result }
-    ensures serves { (request : Request) → asked_by request ≡ command_of line.now
+    ensures serves { (request : Request) (body : List ℕ) → AsksAlike (record { line = line.now; body = body }) request
         → Serves result (request ∷ []) engine.old engine.new (S.written sink.old) (S.written sink.new) }
 {
     text.clear();
@@ -45,208 +45,92 @@ fn answer<H, C: Crew<Job, Start, Done, H>, S: Sink>(
     }
 }
 
-/// Returns a line without the CR at its end, if it has one.
-fn without_cr(line: &[u8]) -> &[u8]
-    ensures { result.now ≡ without_cr line.now }
-{
-    let n = line.len();
-    if n > 0 && line[n - 1] == b'\r' {
-        let (front, _) = line.split_at(n - 1);
-        front
-    } else {
-        line
-    }
-}
-
-/// Returns the bytes before the first LF and those after it; `None` where there is no LF.
-fn split_at_lf(bytes: &[u8]) -> Option<(&[u8], &[u8])>
-    ensures { MatchOption result (has_lf bytes.now ≡ false) (λ r. (bytes.now ≡ r.0.now ++ 10 ∷ r.1.now) × (has_lf r.0.now ≡ false) × (length r.1.now < length bytes.now)) }
-{
-    let Some(n) = memchr(b'\n', bytes) else {
-        return None;
-    };
-    let (line, rest) = bytes.split_at(n);
-    let (_, after) = rest.split_at(1);
-    Some((line, after))
-}
-
-/// Returns the bytes before the first LF; all of them where there is none.
-fn line_of(bytes: &[u8]) -> &[u8]
-    ensures { result.now ≡ line_in bytes.now }
-{
-    match split_at_lf(bytes) {
-        Some((line, _)) => line,
-        None => bytes,
-    }
-}
-
-/// Holds more bytes of a line, as many as there is room for up to `HELD`.
-fn hold(held: &mut Vec<u8>, bytes: &[u8]) -> Result<(), AllocError>
-    ensures ok { OnOk result (held.new.items ≡ held.old.items ++ take (1048578 - length held.old.items) bytes.now) }
-    ensures err { OnErr result (held.new.items ≡ held.old.items) }
-{
-    let room = HELD.saturating_sub(held.len());
-    if bytes.len() <= room {
-        return held.extend_from_slice(bytes);
-    }
-    let (kept, _) = bytes.split_at(room);
-    held.extend_from_slice(kept)
-}
-
-/// What is kept between two pieces of an input: the bytes of a request that hasn't ended yet, how many bytes are missing of what its line tells,
-/// and room for an answer and for the pairs of a scan. In a line none is known to be missing.
+/// What is kept between two pieces of an input: the splitter, which holds the bytes of a request that hasn't ended yet, and room for an answer and
+/// for the pairs of a scan.
 #[derive(Drop)]
-struct Lines {
+struct Kept {
     alloc: Global,
-    held: Vec<u8>,
-    missing: usize,
+    splitter: Splitter,
     text: Vec<u8>,
     pool: Pool,
 }
 
-impl Lines {
-    /// Answers the request that is held, and holds nothing then.
-    fn answer_held<H, C: Crew<Job, Start, Done, H>, S: Sink>(
+impl Kept {
+    /// Answers a request of which bytes were held.
+    fn answer_held<H: Threads + Sync, C: Crew<Job, Start, Done, H>, S: Sink>(
         &mut self,
         rt: &H,
         engine: &mut Engine,
         crew: &mut C,
         sink: &mut S,
+        held: &Held,
     ) -> Result<(), ServeFault>
         requires asked { C.asks }
         ensures continues { Continues result engine.old engine.new (S.broken sink.old) (S.broken sink.new) }
         ensures crew { C.faulted crew.new ≡ crew_faults (C.faulted crew.old) result }
-        ensures held { (self.new.held.items ≡ []) × (self.new.missing ≡ 0) }
-        ensures serves { (request : Request) → asked_by request ≡ command_of (without_cr (line_in self.old.held.items))
+        ensures splitter { self.new.splitter ≡ self.old.splitter }
+        ensures serves { (request : Request) → AsksAlike (request_of held.now) request
             → Serves result (request ∷ []) engine.old engine.new (S.written sink.old) (S.written sink.new) }
     {
-        let line = without_cr(line_of(self.held.as_slice()));
-        let answered = answer(
-            rt,
-            self.alloc,
-            engine,
-            crew,
-            sink,
-            &mut self.pool,
-            &mut self.text,
-            line,
-        );
-        self.held.clear();
-        self.missing = 0;
-        answered
+        let (line, body) = held.request();
+        match reload_sizes(line) {
+            Some(sizes) => answer_reload(
+                rt,
+                self.alloc,
+                engine,
+                sink,
+                &mut self.text,
+                &sizes,
+                body,
+            ),
+            None => answer(
+                rt,
+                self.alloc,
+                engine,
+                crew,
+                sink,
+                &mut self.pool,
+                &mut self.text,
+                line,
+            ),
+        }
     }
 
-    /// Takes the bytes of a line up to its LF, and the LF: answers the request, where nothing comes after its line.
-    fn take_line<H, C: Crew<Job, Start, Done, H>, S: Sink>(
+    /// Answers the request that ended, if one did.
+    fn answer_ended<H: Threads + Sync, C: Crew<Job, Start, Done, H>, S: Sink>(
         &mut self,
         rt: &H,
         engine: &mut Engine,
         crew: &mut C,
         sink: &mut S,
-        line: &[u8],
+        ended: Ended<'_>,
     ) -> Result<(), ServeFault>
         requires asked { C.asks }
-        requires missing { AreMissing self.old.held.items self.old.missing }
-        requires in_line { self.old.missing ≡ 0 }
-        requires lf { has_lf line.now ≡ false }
+        requires plain { IsPlain ended }
         ensures continues { Continues result engine.old engine.new (S.broken sink.old) (S.broken sink.new) }
         ensures crew { C.faulted crew.new ≡ crew_faults (C.faulted crew.old) result }
-        ensures missing { AreMissing self.new.held.items self.new.missing }
-        ensures gone { (begun : List ℕ) → IsHeld begun self.old.held.items
-            → Takes result begun (line.now ++ 10 ∷ []) self.new.held.items engine.old engine.new (S.written sink.old) (S.written sink.new) }
+        ensures splitter { self.new.splitter ≡ self.old.splitter }
+        ensures serves { (requests : List Request) → AskAlike (given_requests ended) requests
+            → Serves result requests engine.old engine.new (S.written sink.old) (S.written sink.new) }
     {
-        if self.held.is_empty() {
-            let bare = without_cr(line);
-            let after = body_size(bare);
-            if after == 0 {
-                return answer(
-                    rt,
-                    self.alloc,
-                    engine,
-                    crew,
-                    sink,
-                    &mut self.pool,
-                    &mut self.text,
-                    bare,
-                );
-            }
+        match ended {
+            Ended::Nothing => Ok(()),
+            Ended::Line(line) => answer(
+                rt,
+                self.alloc,
+                engine,
+                crew,
+                sink,
+                &mut self.pool,
+                &mut self.text,
+                line,
+            ),
+            Ended::Held(held) => self.answer_held(rt, engine, crew, sink, &held),
         }
-        hold(&mut self.held, line)?;
-        let whole = without_cr(self.held.as_slice());
-        let size = body_size(whole);
-        if size == 0 {
-            return self.answer_held(rt, engine, crew, sink);
-        }
-        self.held.extend_from_slice(b"\n")?;
-        self.missing = size;
-        Ok(())
-    }
-
-    /// Takes bytes after a line, at most as many as are missing: answers the request that ends with them.
-    fn take_body<H, C: Crew<Job, Start, Done, H>, S: Sink>(
-        &mut self,
-        rt: &H,
-        engine: &mut Engine,
-        crew: &mut C,
-        sink: &mut S,
-        bytes: &[u8],
-    ) -> Result<(), ServeFault>
-        requires asked { C.asks }
-        requires missing { AreMissing self.old.held.items self.old.missing }
-        requires some { 0 < length bytes.now }
-        requires fit { length bytes.now ≤ self.old.missing }
-        ensures continues { Continues result engine.old engine.new (S.broken sink.old) (S.broken sink.new) }
-        ensures crew { C.faulted crew.new ≡ crew_faults (C.faulted crew.old) result }
-        ensures missing { AreMissing self.new.held.items self.new.missing }
-        ensures gone { (begun : List ℕ) → IsHeld begun self.old.held.items
-            → Takes result begun bytes.now self.new.held.items engine.old engine.new (S.written sink.old) (S.written sink.new) }
-    {
-        self.held.extend_from_slice(bytes)?;
-        self.missing -= bytes.len();
-        if self.missing == 0 {
-            return self.answer_held(rt, engine, crew, sink);
-        }
-        Ok(())
-    }
-
-    /// Takes a first part of bytes, and returns what is left of them: what is missing of a body, a line with its LF, or all bytes of a line that goes on.
-    fn take_some<'a, H, C: Crew<Job, Start, Done, H>, S: Sink>(
-        &mut self,
-        rt: &H,
-        engine: &mut Engine,
-        crew: &mut C,
-        sink: &mut S,
-        bytes: &'a [u8],
-    ) -> Result<&'a [u8], ServeFault>
-        requires asked { C.asks }
-        requires missing { AreMissing self.old.held.items self.old.missing }
-        requires some { 0 < length bytes.now }
-        ensures continues { Continues result engine.old engine.new (S.broken sink.old) (S.broken sink.new) }
-        ensures crew { C.faulted crew.new ≡ crew_faults (C.faulted crew.old) result }
-        ensures missing { AreMissing self.new.held.items self.new.missing }
-        ensures shorter { IfOk result (λ rest. length rest.now < length bytes.now) }
-        ensures ok { IfOk result (λ rest. (part : List ℕ) × (bytes.now ≡ part ++ rest.now) × ((begun : List ℕ) → IsHeld begun self.old.held.items
-            → HasGone engine.old.plant begun part self.new.held.items engine.old.history engine.new.history (S.written sink.old) (S.written sink.new))) }
-        ensures err { OnErr result ((begun : List ℕ) → IsHeld begun self.old.held.items
-            → Stopped engine.old.plant (ended_from begun bytes.now) engine.old.history engine.new.history (S.written sink.old) (S.written sink.new)) }
-    {
-        if self.missing > 0 {
-            let count = self.missing.min(bytes.len());
-            let (part, rest) = bytes.split_at(count);
-            self.take_body(rt, engine, crew, sink, part)?;
-            return Ok(rest);
-        }
-        if let Some((line, rest)) = split_at_lf(bytes) {
-            self.take_line(rt, engine, crew, sink, line)?;
-            return Ok(rest);
-        }
-        hold(&mut self.held, bytes)?;
-        let (_, rest) = bytes.split_at(bytes.len());
-        Ok(rest)
     }
 
     /// Takes a piece of the input: answers the requests that end in it, and holds what follows the last of them.
-    fn take_piece<H, C: Crew<Job, Start, Done, H>, S: Sink>(
+    fn take_piece<H: Threads + Sync, C: Crew<Job, Start, Done, H>, S: Sink>(
         &mut self,
         rt: &H,
         engine: &mut Engine,
@@ -255,22 +139,23 @@ impl Lines {
         piece: &[u8],
     ) -> Result<(), ServeFault>
         requires asked { C.asks }
-        requires missing { AreMissing self.old.held.items self.old.missing }
         ensures continues { Continues result engine.old engine.new (S.broken sink.old) (S.broken sink.new) }
         ensures crew { C.faulted crew.new ≡ crew_faults (C.faulted crew.old) result }
-        ensures missing { AreMissing self.new.held.items self.new.missing }
-        ensures gone { (begun : List ℕ) → IsHeld begun self.old.held.items
-            → Takes result begun piece.now self.new.held.items engine.old engine.new (S.written sink.old) (S.written sink.new) }
+        ensures gone { (begun : List ℕ) → IsHeld begun self.old.splitter
+            → Takes result begun piece.now self.new.splitter engine.old engine.new (S.written sink.old) (S.written sink.new) }
     {
         let mut rest = piece;
         while !rest.is_empty() {
-            rest = self.take_some(rt, engine, crew, sink, rest)?;
+            let taken = self.splitter.take(rest)?;
+            let Taken { ended, rest: after } = taken;
+            self.answer_ended(rt, engine, crew, sink, ended)?;
+            rest = after;
         }
         Ok(())
     }
 
     /// Answers the last request of the input, which hasn't ended; there is none if nothing is held.
-    fn take_end<H, C: Crew<Job, Start, Done, H>, S: Sink>(
+    fn take_end<H: Threads + Sync, C: Crew<Job, Start, Done, H>, S: Sink>(
         &mut self,
         rt: &H,
         engine: &mut Engine,
@@ -278,32 +163,16 @@ impl Lines {
         sink: &mut S,
     ) -> Result<(), ServeFault>
         requires asked { C.asks }
-        requires missing { AreMissing self.old.held.items self.old.missing }
         ensures continues { Continues result engine.old engine.new (S.broken sink.old) (S.broken sink.new) }
         ensures crew { C.faulted crew.new ≡ crew_faults (C.faulted crew.old) result }
-        ensures missing { AreMissing self.new.held.items self.new.missing }
-        ensures held { OnOk result (self.new.held.items ≡ []) }
-        ensures serves { (begun : List ℕ) → IsHeld begun self.old.held.items
+        ensures held { self.new.splitter ≡ [] }
+        ensures serves { (begun : List ℕ) → IsHeld begun self.old.splitter
             → Serves result (last_request begun) engine.old engine.new (S.written sink.old) (S.written sink.new) }
     {
-        if self.missing > 0 {
-            return self.answer_held(rt, engine, crew, sink);
+        match self.splitter.end() {
+            Some(held) => self.answer_held(rt, engine, crew, sink, &held),
+            None => Ok(()),
         }
-        if self.held.is_empty() {
-            return Ok(());
-        }
-        let answered = answer(
-            rt,
-            self.alloc,
-            engine,
-            crew,
-            sink,
-            &mut self.pool,
-            &mut self.text,
-            self.held.as_slice(),
-        );
-        self.held.clear();
-        answered
     }
 }
 
@@ -318,26 +187,25 @@ pub enum Step {
 
 /// A session with an engine: what it has read of a request that hasn't ended yet. Contracts see these bytes.
 pub struct Session {
-    lines: Lines,
+    kept: Kept,
     /// Room for what is read at once.
     piece: Vec<u8>,
 }
 
 impl Drop for Session {
     fn drop(self) {
-        let Session { lines: _, piece: _ } = self;
+        let Session { kept: _, piece: _ } = self;
     }
 }
 
 impl Model for Session {
     ghost use Rattle.std.specs.Prelude.{◌≡◌, ℕ, List, vec_len};
-    ghost use Rattle.serving.specs.Missing.{AreMissing};
 
     ghost Value = { List ℕ };
 
-    ghost view = { λ s. s.lines.held.items };
+    ghost view = { λ s. s.kept.splitter };
 
-    ghost invariant = { λ s. (vec_len s.piece ≡ 65536) × AreMissing s.lines.held.items s.lines.missing };
+    ghost invariant = { λ s. vec_len s.piece ≡ 65536 };
 }
 
 impl Session {
@@ -346,14 +214,13 @@ impl Session {
         ensures { IfOk result (λ s. s ≡ []) }
     {
         let piece = empty_piece(alloc)?;
-        let lines = Lines {
+        let kept = Kept {
             alloc,
-            held: Vec::new(alloc),
-            missing: 0,
+            splitter: Splitter::new(alloc),
             text: Vec::new(alloc),
             pool: Pool::new(alloc),
         };
-        Ok(Session { lines, piece })
+        Ok(Session { kept, piece })
     }
 
     /// Reads once, and answers each request that ends in what was read before the next takes effect; at the end of the input it answers
@@ -362,7 +229,7 @@ impl Session {
     /// Returns `Memory` only where an allocation failed, and `Read`, `Write` and `Crew` only where the feed, the sink or the crew failed in this
     /// call. After an error a beginning of the requests took effect, and the session is of no more use. It waits where its feed or its crew
     /// waits.
-    pub fn step<H, C: Crew<Job, Start, Done, H>, F: Feed, S: Sink>(
+    pub fn step<H: Threads + Sync, C: Crew<Job, Start, Done, H>, F: Feed, S: Sink>(
         &mut self,
         rt: &H,
         engine: &mut Engine,
@@ -389,11 +256,11 @@ impl Session {
             return Err(ServeFault::Read);
         };
         if n == 0 {
-            self.lines.take_end(rt, engine, crew, sink)?;
+            self.kept.take_end(rt, engine, crew, sink)?;
             return Ok(Step::Ended);
         }
         let (now, _) = self.piece.as_slice().split_at(n);
-        self.lines.take_piece(rt, engine, crew, sink, now)?;
+        self.kept.take_piece(rt, engine, crew, sink, now)?;
         Ok(Step::More)
     }
 }
@@ -407,7 +274,7 @@ impl Session {
 /// The clauses hold where `serve` returns: it waits where its feed or its crew waits, perhaps forever. What they say of bytes holds for a feed and a
 /// sink that tell theirs (`remaining`, `written`), as those in memory do; of standard input and output no contract can say which bytes they
 /// give and take.
-pub fn serve<H: Wait, C: Crew<Job, Start, Done, H>, F: Feed, S: Sink>(
+pub fn serve<H: Threads + Wait + Sync, C: Crew<Job, Start, Done, H>, F: Feed, S: Sink>(
     rt: &H,
     alloc: Global,
     engine: &mut Engine,

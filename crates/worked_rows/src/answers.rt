@@ -6,6 +6,7 @@ use plant_service::{Feed, Reading, ServeFault, Sink, Writing, serve};
 use row_text::Page;
 use std::alloc::Global;
 use std::sync::Wait;
+use std::thread::Threads;
 
 /// Adds the line of a plant that is only checked.
 pub fn push_accepted(page: &mut Page, plant: &Plant) {
@@ -17,7 +18,7 @@ pub fn push_accepted(page: &mut Page, plant: &Plant) {
 }
 
 /// What an input is answered. Neither the feed nor the sink has failed then.
-fn served<H: Wait, C: Crew<Job, Start, Done, H>>(
+fn served<H: Threads + Wait + Sync, C: Crew<Job, Start, Done, H>>(
     rt: &H,
     alloc: Global,
     engine: &mut Engine,
@@ -36,7 +37,7 @@ fn served<H: Wait, C: Crew<Job, Start, Done, H>>(
 }
 
 /// Adds what an input is answered. Over memory a session stops only where memory was refused.
-pub fn push_answers<H: Wait, C: Crew<Job, Start, Done, H>>(
+pub fn push_answers<H: Threads + Wait + Sync, C: Crew<Job, Start, Done, H>>(
     rt: &H,
     alloc: Global,
     page: &mut Page,

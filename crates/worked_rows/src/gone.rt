@@ -7,6 +7,7 @@ use plant_config::Plant;
 use row_text::Page;
 use std::alloc::Global;
 use std::sync::Wait;
+use std::thread::Threads;
 
 /// Gives an engine the commands of lines, each by the engine's call for it.
 fn give<H, C: Crew<Job, Start, Done, H>>(
@@ -28,7 +29,7 @@ fn give<H, C: Crew<Job, Start, Done, H>>(
 
 /// Gives an engine of a plant the commands of lines, each by the engine's call for it, and serves them to another. An engine is let go here
 /// alone.
-pub fn run_gone<H: Wait, C: Crew<Job, Start, Done, H>>(
+pub fn run_gone<H: Threads + Wait + Sync, C: Crew<Job, Start, Done, H>>(
     rt: &H,
     alloc: Global,
     crew: &mut C,

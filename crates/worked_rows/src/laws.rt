@@ -21,7 +21,7 @@ use plant_logic::{
     program_values_stand, typed_names_are_distinct, typed_types_are_there, value_of_number,
     value_written, values_stand_once,
 };
-use plant_service::{out_text_is_one, requests_end_in_lf};
+use plant_service::{out_text_is_one, requests_end};
 use plant_sources::spelled_or_stopped;
 use plant_walk::{
     as_many_cells, assigned_global_stays_in_range, cell_of_global, each_found, found_global,
@@ -65,7 +65,7 @@ fn laws_of_plants() {
     one_plant();
     one_refusal();
     accepted_or_refused();
-    requests_end_in_lf();
+    requests_end();
     out_text_is_one();
 }
 

@@ -26,7 +26,7 @@ fn add_command(page: &mut Page, commands: &mut Vec<u8>, line: &str) {
 }
 
 /// Gives an engine its commands, and adds its answers. The programs beside it take the same commands.
-fn give<H: Wait, C: Crew<Job, Start, Done, H>>(
+fn give<H: Threads + Wait + Sync, C: Crew<Job, Start, Done, H>>(
     rt: &H,
     alloc: Global,
     engine: &mut Engine,
@@ -43,7 +43,7 @@ fn give<H: Wait, C: Crew<Job, Start, Done, H>>(
 }
 
 /// Gives a command so many times, and adds the answer to the last.
-fn repeat<H: Wait, C: Crew<Job, Start, Done, H>>(
+fn repeat<H: Threads + Wait + Sync, C: Crew<Job, Start, Done, H>>(
     rt: &H,
     alloc: Global,
     engine: &mut Engine,
@@ -96,7 +96,7 @@ fn is_own(line: &str) -> bool {
 }
 
 /// Takes a line of the table's own.
-fn take_own<H: Wait, C: Crew<Job, Start, Done, H>>(
+fn take_own<H: Threads + Wait + Sync, C: Crew<Job, Start, Done, H>>(
     rt: &H,
     alloc: Global,
     engine: &mut Engine,
@@ -119,7 +119,7 @@ fn take_own<H: Wait, C: Crew<Job, Start, Done, H>>(
 }
 
 /// Takes a line of a run.
-fn take<H: Wait, C: Crew<Job, Start, Done, H>>(
+fn take<H: Threads + Wait + Sync, C: Crew<Job, Start, Done, H>>(
     rt: &H,
     alloc: Global,
     engine: &mut Engine,
@@ -153,7 +153,7 @@ fn take<H: Wait, C: Crew<Job, Start, Done, H>>(
 }
 
 /// Takes the lines of a run.
-fn take_all<H: Wait, C: Crew<Job, Start, Done, H>>(
+fn take_all<H: Threads + Wait + Sync, C: Crew<Job, Start, Done, H>>(
     rt: &H,
     alloc: Global,
     engine: &mut Engine,
@@ -172,7 +172,7 @@ fn take_all<H: Wait, C: Crew<Job, Start, Done, H>>(
 }
 
 /// Runs an engine's plant on the lines of a run. The programs beside it are let go here alone.
-fn run_beside<H: Wait, C: Crew<Job, Start, Done, H>>(
+fn run_beside<H: Threads + Wait + Sync, C: Crew<Job, Start, Done, H>>(
     rt: &H,
     alloc: Global,
     engine: &mut Engine,
@@ -193,7 +193,7 @@ fn run_beside<H: Wait, C: Crew<Job, Start, Done, H>>(
 }
 
 /// Runs a plant on the lines of a run. An engine is let go here alone.
-fn run_plant<H: Wait, C: Crew<Job, Start, Done, H>>(
+fn run_plant<H: Threads + Wait + Sync, C: Crew<Job, Start, Done, H>>(
     rt: &H,
     alloc: Global,
     crew: &mut C,

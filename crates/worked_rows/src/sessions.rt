@@ -8,6 +8,7 @@ use plant_service::{Failed, Feed, ServeFault, Sink, serve};
 use row_text::Page;
 use std::alloc::{AllocError, Global};
 use std::sync::Wait;
+use std::thread::Threads;
 
 /// More calls than a session makes, and more bytes than it reads or writes.
 const NO_LIMIT: usize = 1_000_000_000;
@@ -98,7 +99,7 @@ struct Ended {
 }
 
 /// Serves an input to an engine that is lent. Fails where memory was refused.
-fn served<H: Wait, C: Crew<Job, Start, Done, H>>(
+fn served<H: Threads + Wait + Sync, C: Crew<Job, Start, Done, H>>(
     rt: &H,
     alloc: Global,
     engine: &mut Engine,
@@ -140,7 +141,7 @@ fn engine_of(alloc: Global, plant: &Plant) -> Result<Engine, AllocError> {
 }
 
 /// Serves an input to a new engine of a plant, which is let go here alone.
-fn session<H: Wait, C: Crew<Job, Start, Done, H>>(
+fn session<H: Threads + Wait + Sync, C: Crew<Job, Start, Done, H>>(
     rt: &H,
     alloc: Global,
     crew: &mut C,
@@ -187,7 +188,7 @@ fn ends_of(word: &str, calls: usize) -> Ends {
 }
 
 /// Adds the sessions of a plant in which the first call of a feed or sink fails, the second one, the third, and so on until none does.
-fn push_failing<H: Wait, C: Crew<Job, Start, Done, H>>(
+fn push_failing<H: Threads + Wait + Sync, C: Crew<Job, Start, Done, H>>(
     rt: &H,
     alloc: Global,
     crew: &mut C,
@@ -223,7 +224,7 @@ fn little_ends(words: &str) -> Ends {
 }
 
 /// Adds the session of a plant whose feed and sink take little: `little 5 7` gives at most 5 bytes a read, and takes at most 7 a write.
-fn push_little<H: Wait, C: Crew<Job, Start, Done, H>>(
+fn push_little<H: Threads + Wait + Sync, C: Crew<Job, Start, Done, H>>(
     rt: &H,
     alloc: Global,
     crew: &mut C,
@@ -253,7 +254,7 @@ fn push_served(page: &mut Page, ended: &Ended) {
 }
 
 /// Adds what a session of a plant writes, how it ends, and after how many events.
-pub fn push_session<H: Wait, C: Crew<Job, Start, Done, H>>(
+pub fn push_session<H: Threads + Wait + Sync, C: Crew<Job, Start, Done, H>>(
     rt: &H,
     alloc: Global,
     crew: &mut C,
@@ -275,7 +276,7 @@ pub fn asks_for_sessions(line: &str) -> bool {
 }
 
 /// Adds the sessions of a line: each of a new engine of the plant, on the commands so far.
-pub fn push_sessions<H: Wait, C: Crew<Job, Start, Done, H>>(
+pub fn push_sessions<H: Threads + Wait + Sync, C: Crew<Job, Start, Done, H>>(
     rt: &H,
     alloc: Global,
     crew: &mut C,

@@ -1,7 +1,7 @@
 use Rattle.std.proofs.Common.{◌++◌, [], refl, take, arith, inl, inr, length, ◌<◌, append-nil}
 use Rattle.std.proofs.KnownBytes.{Consumes-nil, Consumes-kept}
 use Rattle.std.proofs.lemmas.Result.{err_from_is_err_and}
-use Rattle.serving.specs.Requests.{begun_request, ended_requests, requests_of}
+use Rattle.requests.specs.Requests.{begun_request, ended_requests, requests_of}
 use Rattle.serving.proofs.SessionLaws.{consumed_nothing, some_taken}
 use Rattle.serving.proofs.HeldLaws.{gone-more, gone-stopped, stopped-stays, answered-end, stopped-end}
 use Rattle.serving.proofs.session.Session.step.Goals as goal
@@ -17,7 +17,7 @@ returns-in_default-clause-cut g c = λ e. (Consumes-kept _ _ _ [] (Consumes-nil 
 -- the input has ended
 pub returns-in_err-take_end-clause-err : goal.returns-in_err-take_end-clause-err
 returns-in_err-take_end-clause-err g c =
-    let there : 0 < length c.fill.new.piece.items = omega (arith, c.fill.ensures.len, c.self.invariant.0, c.fill.new.piece.ok.0) in
+    let there : 0 < length c.fill.new.piece.items = omega (arith, c.fill.ensures.len, c.self.invariant, c.fill.new.piece.ok.0) in
     let p = err_from_is_err_and c.from_residual.result c.from_residual.ensures.1 in
     rw (p.1, ← c.self.view_is) (
       [],
@@ -31,7 +31,7 @@ returns-in_err-take_end-clause-err g c =
 
 pub returns-then-n-eq0-clause-ended : goal.returns-then-n-eq0-clause-ended
 returns-then-n-eq0-clause-ended g c = λ e.
-    let there : 0 < length c.fill.new.piece.items = omega (arith, c.fill.ensures.len, c.self.invariant.0, c.fill.new.piece.ok.0) in
+    let there : 0 < length c.fill.new.piece.items = omega (arith, c.fill.ensures.len, c.self.invariant, c.fill.new.piece.ok.0) in
     rw (← c.self.view_is) (
       consumed_nothing _ _ _ [] c.fill.new.piece.items c.in-Ok.n c.if-n-eq0.true (Consumes-nil _) c.in-Ok.ensures.bytes.0,
       c.in-Ok.ensures.bytes.1 c.if-n-eq0.true there,
