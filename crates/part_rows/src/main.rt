@@ -18,6 +18,7 @@ mod printing;
 mod runs;
 mod sharing;
 mod sources;
+mod splits;
 mod table;
 mod trees;
 mod values;

@@ -10,6 +10,7 @@ use crate::journals::{push_row, push_stamp};
 use crate::printing::{number_of, parts_of};
 use crate::sharing::push_shared;
 use crate::sources::push_source;
+use crate::splits::push_split;
 use crate::trees::{push_copied, push_labels, push_named_body, push_named_sum};
 use crate::values::{push_fitted, push_lists, push_name, push_names, push_same, push_truths};
 use row_text::Page;
@@ -53,6 +54,7 @@ fn push_other(alloc: Global, page: &mut Page, word: &str, rest: &str) {
         "command" => push_command(alloc, page, rest),
         "lines" => push_lines(alloc, page),
         "reload" => push_reload(alloc, page, rest),
+        "split" => push_split(alloc, page, rest),
         "choose" => push_chosen(alloc, page, rest),
         "statuses" => push_statuses(page),
         "copied" => push_copied(alloc, page),

@@ -1,0 +1,4 @@
+pub mod Requests
+pub mod Missing
+pub mod Splitting
+pub mod Laws
