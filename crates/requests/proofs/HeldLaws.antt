@@ -247,6 +247,11 @@ bare_line begun held line k nothing q none =
 
 -- ---- the end of the input
 
+-- in a body: what has come of it belongs to the last request
+pub last_body : (begun : List ℕ) → has_lf begun ≡ true → request_in begun ∷ [] ≡ last_request begun
+last_body [] e = absurd (cc)
+last_body (b ∷ bs) e = ap (λ (r : Request). r ∷ []) (sym (request_of-lf (b ∷ bs) e))
+
 asks_held : (begun held : List ℕ) → IsHeld begun held → AsksAlike (request_of held) (request_of begun)
 asks_held begun held k = cases (has_lf begun) refl k
   where
