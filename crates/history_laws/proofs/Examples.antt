@@ -7,7 +7,7 @@ use Rattle.engine.specs.Journal.{NamedRow, ChangeOf, OrderBy, rows_from}
 use Rattle.serving.proofs.BodyLaws.{no_body}
 use Rattle.serving.specs.Requests.{Request, requests_of}
 use Rattle.serving.proofs.Beginnings.{requests_end}
-use Rattle.history_laws.specs.Told.{last_code}
+use Rattle.history_laws.specs.Told.{code_after}
 use Rattle.history_laws.specs.Records.{ends_at_line}
 
 -- T1 comes, an order acknowledges it, and T2 is taken out of service
@@ -20,7 +20,7 @@ rows =
     ∷ ChangeOf (codes "T2") (record { from = Norm; to = Oos })
     ∷ [])
 
-codes_of_rows : map (λ tag. last_code tag rows) (codes "T1" ∷ codes "T2" ∷ codes "T3" ∷ []) ≡ Acked ∷ Oos ∷ Norm ∷ []
+codes_of_rows : map (λ tag. code_after tag Norm rows) (codes "T1" ∷ codes "T2" ∷ codes "T3" ∷ []) ≡ Acked ∷ Oos ∷ Norm ∷ []
 codes_of_rows = refl
 
 -- a line with its LF ends there, one without doesn't

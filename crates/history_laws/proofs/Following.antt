@@ -1,4 +1,4 @@
--- Each change in a journal goes from the code that the rows before it tell.
+-- Each change in the rows since a state goes from the code that the rows before it tell.
 use Rattle.std.proofs.Common.{◌≡◌, ℕ, suc, ◌+◌, ◌<◌, ◌≤◌, ◌∙◌, Bool, true, false, List, [], ◌∷◌, ◌++◌, length, refl, ap, sym, subst, arith, Some, None, if◌then◌else◌}
 use Rattle.plant_types.specs.declared.values.Trap.{Trap}
 use Rattle.st_tree.specs.Meaning.{Spot}
@@ -12,12 +12,12 @@ use Rattle.event_history.specs.declared.event.Event.TheVariants as event
 use Rattle.plant_config.specs.Plants.{PlainPlant, IsPlant}
 use Rattle.plant_config.specs.Names.{tag_of}
 use Rattle.plant_system.specs.System.{System, system, after_event, faults_of, changes_of}
-use Rattle.plant_system.proofs.Systems.{system_keeps_its_plant, system_alarms}
+use Rattle.plant_system.proofs.Systems.{system_alarms}
 use Rattle.engine.specs.Journal.{NamedEntry, NamedRow, ChangeOf, fault_entries, change_entries, added_entries, rows_from, added_rows, journal_of}
-use Rattle.history_laws.proofs.Journals.{journal_next, journal_none}
-use Rattle.history_laws.specs.Told.{code_told, code_after, last_code}
+use Rattle.history_laws.proofs.Journals.{since_next}
+use Rattle.history_laws.specs.Told.{code_told, code_after, code_at, code_in, told_code, rows_since}
 use Rattle.history_laws.proofs.Tags.{AreApart, tags_apart}
-use Rattle.history_laws.proofs.Telling.{code_at, put, below, by_events, codes_told}
+use Rattle.history_laws.proofs.Telling.{put, below, by_events, plant_since, codes_told}
 
 -- an entry's change goes from the code that its alarm has by these codes of tags
 abbrev Starts : (List ℕ → Code) → NamedEntry → Type 0
@@ -90,34 +90,38 @@ more_follow : (codes : List ℕ → Code) (xs ys : List NamedRow) → RowsFollow
 more_follow codes [] ys p q = q
 more_follow codes (x ∷ xs) ys p q = (p.0, more_follow (λ tag. code_told tag (codes tag) x.entry) xs ys p.1 q)
 
--- the rows of a history follow from NORM on
-abbrev Follows : PlainPlant → List Event → Type 0
-Follows plant history = RowsFollow (λ tag. code.Norm) (journal_of plant history)
+-- the rows of later events follow from the codes of the state before them
+abbrev Follows : PlainPlant → List Event → List Event → Type 0
+Follows plant past later = RowsFollow (code_in (system plant past)) (rows_since plant past later)
 
--- the codes that a journal tells are those of a state's alarms, by the tags of a plant
-abbrev AreTold : List NamedRow → System → PlainPlant → Type 0
-AreTold rows sys plant = AreApart plant × ((n : ℕ) → n < length plant.alarms → last_code (tag_of plant n) rows ≡ code_at n sys.alarms)
+-- codes are those of a state's alarms, by the tags of a plant
+abbrev AreTold : (List ℕ → Code) → System → PlainPlant → Type 0
+AreTold codes sys plant = AreApart plant × ((n : ℕ) → n < length plant.alarms → codes (tag_of plant n) ≡ code_at n sys.alarms)
 
-follows_next : (plant : PlainPlant) → AreApart plant → (history : List Event) (e : Event) → Follows plant history → Follows plant (history ++ e ∷ [])
-follows_next plant apart history e follows =
-    let sys = system plant history in
-    let rows = journal_of plant history in
-    let codes : List ℕ → Code = λ tag. last_code tag rows in
-    let told : AreTold rows sys sys.plant = subst (AreTold rows sys) (sym (system_keeps_its_plant plant history)) (apart, λ n there. sym (codes_told plant apart history n there)) in
-    subst (RowsFollow (λ tag. code.Norm)) (sym (journal_next plant history e))
-    (more_follow (λ tag. code.Norm) rows (added_rows (length rows + 1) sys e) follows
-    (rows_follow codes (length rows + 1) (after_event sys e).moment (added_entries sys e) (event_follows codes sys e told.0 (system_alarms plant history) told.1)))
+follows_next : (plant : PlainPlant) (past : List Event) → AreApart (system plant past).plant → (later : List Event) (e : Event) → Follows plant past later → Follows plant past (later ++ e ∷ [])
+follows_next plant past apart later e follows =
+    let base = system plant past in
+    let sys = system plant (past ++ later) in
+    let rows = rows_since plant past later in
+    let n = length (journal_of plant past) + 1 + length rows in
+    let codes : List ℕ → Code = told_code base rows in
+    let told : AreTold codes sys sys.plant =
+    subst (AreTold codes sys) (sym (plant_since plant past later)) (apart, λ k there. sym (codes_told plant past apart later k there)) in
+    subst (RowsFollow (code_in base)) (sym (since_next plant past later e))
+    (more_follow (code_in base) rows (added_rows n sys e) follows
+    (rows_follow codes n (after_event sys e).moment (added_entries sys e) (event_follows codes sys e told.0 (system_alarms plant (past ++ later)) told.1)))
 
-journal_follows : (plant : PlainPlant) → AreApart plant → (history : List Event) → Follows plant history
-journal_follows plant apart history = by_events (Follows plant) (follows_next plant apart) [] history (subst (RowsFollow (λ tag. code.Norm)) (sym (journal_none plant)) tt)
+rows_since_follow : (plant : PlainPlant) (past : List Event) → AreApart (system plant past).plant → (later : List Event) → Follows plant past later
+rows_since_follow plant past apart later = by_events (Follows plant past) (follows_next plant past apart) [] later tt
 
 -- a row among others
 row_starts : (codes : List ℕ → Code) (before : List NamedRow) (row : NamedRow) (after : List NamedRow) → RowsFollow codes (before ++ row ∷ after) → Starts (λ tag. code_after tag (codes tag) before) row.entry
 row_starts codes [] row after p = p.0
 row_starts codes (b ∷ before) row after p = row_starts (λ tag. code_told tag (codes tag) b.entry) before row after p.1
 
-pub change_starts : (plant : PlainPlant) (history : List Event) (before : List NamedRow) (row : NamedRow) (after : List NamedRow) (tag : List ℕ) (change : PlainChange) → IsPlant plant
-    → journal_of plant history ≡ before ++ row ∷ after → row.entry ≡ ChangeOf tag change → change.from ≡ last_code tag before
-change_starts plant history before row after tag change plant_is is entry_is =
-    subst (Starts (λ t. last_code t before)) entry_is
-    (row_starts (λ t. code.Norm) before row after (subst (RowsFollow (λ t. code.Norm)) is (journal_follows plant (tags_apart plant plant_is) history)))
+pub change_starts : (plant : PlainPlant) (past later : List Event) (before : List NamedRow) (row : NamedRow) (after : List NamedRow) (tag : List ℕ) (change : PlainChange) → IsPlant (system plant past).plant
+    → rows_since plant past later ≡ before ++ row ∷ after → row.entry ≡ ChangeOf tag change → change.from ≡ told_code (system plant past) before tag
+change_starts plant past later before row after tag change plant_is is entry_is =
+    let base = system plant past in
+    subst (Starts (told_code base before)) entry_is
+    (row_starts (code_in base) before row after (subst (RowsFollow (code_in base)) is (rows_since_follow plant past (tags_apart base.plant plant_is) later)))

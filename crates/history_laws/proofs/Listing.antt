@@ -1,4 +1,4 @@
--- The rows of a journal make the list of alarms.
+-- The rows since a state make the list of alarms.
 use Rattle.std.proofs.Common.{◌≡◌, ℕ, zero, suc, ◌<◌, List, [], ◌∷◌, ◌++◌, length, map, refl, ap, ◌∙◌, arith, Option, Some, None}
 use Rattle.std.specs.Prelude.{slice_get}
 use Rattle.std.specs.Option.{option_map, option_map_or}
@@ -11,13 +11,12 @@ use Rattle.event_history.specs.declared.event.Event.{Event}
 use Rattle.plant_config.specs.declared.rows.AlarmRow.{AlarmRow}
 use Rattle.plant_config.specs.Plants.{PlainPlant, IsPlant}
 use Rattle.plant_config.specs.Names.{tag_of}
-use Rattle.plant_system.specs.System.{system, sites_of, summary_of}
-use Rattle.plant_system.proofs.Systems.{system_keeps_its_plant}
-use Rattle.engine.specs.Journal.{NamedRow, journal_of}
+use Rattle.plant_system.specs.System.{System, system, sites_of, summary_of}
+use Rattle.engine.specs.Journal.{NamedRow}
 use Rattle.command_answers.specs.Listings.{with_end, lines_below, shown_alarm, state_lines_of, state_lines, count_lines, list_text}
-use Rattle.history_laws.specs.Told.{last_code, code_line, told_lines, told_alarm, told_list}
+use Rattle.history_laws.specs.Told.{code_at, told_code, rows_since, code_line, told_lines, told_alarm, told_list}
 use Rattle.history_laws.proofs.Tags.{tags_apart}
-use Rattle.history_laws.proofs.Telling.{code_at, codes_told, as_many}
+use Rattle.history_laws.proofs.Telling.{plant_since, codes_told, as_many}
 
 -- where the alarm of a row stands
 abbrev site_of : AlarmRow → Site
@@ -28,12 +27,13 @@ line_told : (plant : PlainPlant) (alarm : ℕ) (o : Option PlainAlarm) → shown
 line_told plant alarm None = refl
 line_told plant alarm (Some a) = refl
 
--- the lines, by any plant that is the system's
-lines_by : (plant : PlainPlant) (history : List Event) → state_lines (system plant history) ≡ lines_below (λ alarm. shown_alarm plant alarm (option_map (λ a. a.state) (slice_get (system plant history).alarms alarm))) (length plant.alarms)
+-- the lines, by the plant before later events
+lines_by : (plant : PlainPlant) (past later : List Event) → state_lines (system plant (past ++ later))
+    ≡ lines_below (λ alarm. shown_alarm (system plant past).plant alarm (option_map (λ a. a.state) (slice_get (system plant (past ++ later)).alarms alarm))) (length (system plant past).plant.alarms)
 unfolding state_lines_of
-lines_by plant history =
-    ap (λ (p : PlainPlant). lines_below (λ alarm. shown_alarm p alarm (option_map (λ a. a.state) (slice_get (system plant history).alarms alarm))) (length p.alarms))
-    (system_keeps_its_plant plant history)
+lines_by plant past later =
+    ap (λ (p : PlainPlant). lines_below (λ alarm. shown_alarm p alarm (option_map (λ a. a.state) (slice_get (system plant (past ++ later)).alarms alarm))) (length p.alarms))
+    (plant_since plant past later)
 
 -- lines for the same numbers
 lines_alike : (f g : ℕ → List (List ℕ)) (n : ℕ) → ((k : ℕ) → k < n → f k ≡ g k) → lines_below f n ≡ lines_below g n
@@ -43,34 +43,39 @@ lines_alike f g (suc n) same =
     let last = same n (omega arith) in
     λ i. before i ++ last i
 
-pub lines_told : (plant : PlainPlant) (history : List Event) → IsPlant plant → state_lines (system plant history) ≡ told_lines plant (journal_of plant history)
-lines_told plant history is =
-    let alarms = (system plant history).alarms in
-    let rows = journal_of plant history in
-    lines_by plant history
-    ∙ lines_alike (λ alarm. shown_alarm plant alarm (option_map (λ a. a.state) (slice_get alarms alarm))) (λ alarm. code_line plant alarm (last_code (tag_of plant alarm) rows)) (length plant.alarms)
-    (λ alarm there. line_told plant alarm (slice_get alarms alarm) ∙ ap (code_line plant alarm) (codes_told plant (tags_apart plant is) history alarm there))
+pub lines_told : (plant : PlainPlant) (past later : List Event) → IsPlant (system plant past).plant
+    → state_lines (system plant (past ++ later)) ≡ told_lines (system plant past) (rows_since plant past later)
+lines_told plant past later is =
+    let base = system plant past in
+    let now = base.plant in
+    let alarms = (system plant (past ++ later)).alarms in
+    let rows = rows_since plant past later in
+    lines_by plant past later
+    ∙ lines_alike (λ alarm. shown_alarm now alarm (option_map (λ a. a.state) (slice_get alarms alarm))) (λ alarm. code_line now alarm (told_code base rows (tag_of now alarm))) (length now.alarms)
+    (λ alarm there. line_told now alarm (slice_get alarms alarm) ∙ ap (code_line now alarm) (codes_told plant past (tags_apart now is) later alarm there))
 
 -- alarms whose codes rows tell are counted as the rows tell
-counted_told : (rows : List NamedRow) (of_plant : List AlarmRow) (alarms : List PlainAlarm) → length alarms ≡ length of_plant
-    → ((k : ℕ) → k < length of_plant → code_at k alarms ≡ last_code (option_map_or (λ row. row.tag) (slice_get of_plant k) []) rows) → counted (map site_of of_plant) alarms ≡ map (told_alarm rows) of_plant
-counted_told rows [] alarms same told = refl
-counted_told rows (row ∷ of_plant) [] same told = absurd (omega (arith, same))
-counted_told rows (row ∷ of_plant) (a ∷ alarms) same told =
+counted_told : (base : System) (rows : List NamedRow) (of_plant : List AlarmRow) (alarms : List PlainAlarm) → length alarms ≡ length of_plant
+    → ((k : ℕ) → k < length of_plant → code_at k alarms ≡ told_code base rows (option_map_or (λ row. row.tag) (slice_get of_plant k) [])) → counted (map site_of of_plant) alarms ≡ map (told_alarm base rows) of_plant
+counted_told base rows [] alarms same told = refl
+counted_told base rows (row ∷ of_plant) [] same told = absurd (omega (arith, same))
+counted_told base rows (row ∷ of_plant) (a ∷ alarms) same told =
     let first = told 0 (omega arith) in
-    let others = counted_told rows of_plant alarms (omega (arith, same)) (λ k h. told (suc k) (omega (arith, h))) in
+    let others = counted_told base rows of_plant alarms (omega (arith, same)) (λ k h. told (suc k) (omega (arith, h))) in
     λ i. record { area = row.area; priority = row.priority; code = first i } ∷ others i
 
-summary_told : (plant : PlainPlant) (history : List Event) → IsPlant plant → summary_of (system plant history) ≡ map (told_alarm (journal_of plant history)) plant.alarms
-summary_told plant history is =
-    let sys = system plant history in
-    ap (λ (p : PlainPlant). counted (sites_of p.alarms) sys.alarms) (system_keeps_its_plant plant history)
-    ∙ counted_told (journal_of plant history) plant.alarms sys.alarms (as_many plant history) (codes_told plant (tags_apart plant is) history)
+summary_told : (plant : PlainPlant) (past later : List Event) → IsPlant (system plant past).plant
+    → summary_of (system plant (past ++ later)) ≡ map (told_alarm (system plant past) (rows_since plant past later)) (system plant past).plant.alarms
+summary_told plant past later is =
+    let base = system plant past in
+    let sys = system plant (past ++ later) in
+    ap (λ (p : PlainPlant). counted (sites_of p.alarms) sys.alarms) (plant_since plant past later)
+    ∙ counted_told base (rows_since plant past later) base.plant.alarms sys.alarms (as_many plant past later) (codes_told plant past (tags_apart base.plant is) later)
 
-pub list_told : (plant : PlainPlant) (history : List Event) → IsPlant plant → list_text (system plant history) ≡ told_list plant (journal_of plant history)
+pub list_told : (plant : PlainPlant) (past later : List Event) → IsPlant (system plant past).plant → list_text (system plant (past ++ later)) ≡ told_list (system plant past) (rows_since plant past later)
 unfolding list_text
-list_told plant history is =
-    let own = system_keeps_its_plant plant history in
-    let lines = lines_told plant history is in
-    let summary = summary_told plant history is in
+list_told plant past later is =
+    let own = plant_since plant past later in
+    let lines = lines_told plant past later is in
+    let summary = summary_told plant past later is in
     λ i. with_end (lines i ++ count_lines (own i) (summary i))

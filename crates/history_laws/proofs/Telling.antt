@@ -1,4 +1,4 @@
--- The rows of a journal tell the code of each alarm: event by event, change by change.
+-- The rows since a state tell the code of each alarm: event by event, change by change.
 use Rattle.std.proofs.Common.{◌≡◌, ℕ, zero, suc, ◌+◌, ◌<◌, ◌≤◌, Bool, true, false, List, [], ◌∷◌, ◌++◌, length, map, fold, refl, ap, sym, ◌∙◌, subst, append_assoc, append-nil, arith, eqb, Option, Some, None, if◌then◌else◌}
 use Rattle.std.specs.Prelude.{slice_get, slice_index_or}
 use Rattle.std.specs.Option.{option_map_or}
@@ -18,18 +18,14 @@ use Rattle.event_history.specs.declared.event.Event.{Event}
 use Rattle.event_history.specs.declared.event.Event.TheVariants as event
 use Rattle.plant_config.specs.declared.rows.AlarmRow.{AlarmRow}
 use Rattle.plant_config.specs.Plants.{PlainPlant, IsPlant}
-use Rattle.plant_config.specs.Names.{tag_of}
+use Rattle.plant_config.specs.Names.{alarm_number, tag_of}
 use Rattle.plant_system.specs.System.{System, system, opening_alarm, after_event, faults_of, changes_of}
 use Rattle.plant_system.proofs.Systems.{system_keeps_its_plant, system_next, system_none, system_alarms}
 use Rattle.engine.specs.Journal.{NamedEntry, NamedRow, fault_entries, change_entries, added_entries, rows_from, added_rows, journal_of}
-use Rattle.history_laws.proofs.Journals.{journal_next, journal_none}
+use Rattle.history_laws.proofs.Journals.{since_next}
 use Rattle.command_answers.specs.Listings.{all_codes}
-use Rattle.history_laws.proofs.Tags.{AreApart, tags_apart}
-use Rattle.history_laws.specs.Told.{code_told, code_after, last_code}
-
--- the code of the alarm of a number, NORM where there is none
-abbrev pub code_at : ℕ → List PlainAlarm → Code
-code_at n alarms = option_map_or (λ (a : PlainAlarm). code_of a.state) (slice_get alarms n) code.Norm
+use Rattle.history_laws.proofs.Tags.{AreApart, tags_apart, number_of_tag}
+use Rattle.history_laws.specs.Told.{code_told, code_after, code_at, code_in, told_code, rows_since}
 
 -- ---- codes and numbers
 
@@ -151,50 +147,73 @@ pub by_events : (P : List Event → Type 0) → ((history : List Event) (e : Eve
 by_events P keeps done [] p = subst P (sym (append-nil done)) p
 by_events P keeps done (e ∷ rest) p = subst P (append_assoc done (e ∷ []) rest) (by_events P keeps (done ++ e ∷ []) rest (keeps done e p))
 
--- an alarm for each row of the database
-pub as_many : (plant : PlainPlant) (history : List Event) → length (system plant history).alarms ≡ length plant.alarms
-as_many plant history = system_alarms plant history ∙ ap (λ (p : PlainPlant). length p.alarms) (system_keeps_its_plant plant history)
+-- what follows a history keeps its plant
+pub plant_since : (plant : PlainPlant) (past later : List Event) → (system plant (past ++ later)).plant ≡ (system plant past).plant
+plant_since plant past later = system_keeps_its_plant plant (past ++ later) ∙ sym (system_keeps_its_plant plant past)
 
--- the journal tells the code of each alarm that is there
-abbrev pub Tells : PlainPlant → List Event → Type 0
-Tells plant history = (alarm : ℕ) → alarm < length plant.alarms → code_at alarm (system plant history).alarms ≡ last_code (tag_of plant alarm) (journal_of plant history)
+-- an alarm for each row of its database
+pub as_many : (plant : PlainPlant) (past later : List Event) → length (system plant (past ++ later)).alarms ≡ length (system plant past).plant.alarms
+as_many plant past later = system_alarms plant (past ++ later) ∙ ap (λ (p : PlainPlant). length p.alarms) (plant_since plant past later)
 
+-- the rows of later events tell the code of each alarm that is there
+abbrev pub Tells : PlainPlant → List Event → List Event → Type 0
+Tells plant past later = (alarm : ℕ) → alarm < length (system plant past).plant.alarms
+    → code_at alarm (system plant (past ++ later)).alarms ≡ code_after (tag_of (system plant past).plant alarm) (code_at alarm (system plant past).alarms) (rows_since plant past later)
+
+tells_none : (plant : PlainPlant) (past : List Event) → Tells plant past []
+tells_none plant past alarm there = ap (λ (h : List Event). code_at alarm (system plant h).alarms) (append-nil past)
+
+tells_next : (plant : PlainPlant) (past : List Event) → AreApart (system plant past).plant → (later : List Event) (e : Event) → Tells plant past later → Tells plant past (later ++ e ∷ [])
+tells_next plant past apart later e told alarm there =
+    let base = system plant past in
+    let sys = system plant (past ++ later) in
+    let tag = tag_of base.plant alarm in
+    let c = code_at alarm base.alarms in
+    let rows = rows_since plant past later in
+    let n = length (journal_of plant past) + 1 + length rows in
+    let next : system plant (past ++ (later ++ e ∷ [])) ≡ after_event sys e = ap (system plant) (sym (append_assoc past later (e ∷ []))) ∙ system_next plant (past ++ later) e in
+    let same : length (after_event sys e).alarms ≡ length sys.alarms =
+    ap (λ (s : System). length s.alarms) (sym next) ∙ as_many plant past (later ++ e ∷ []) ∙ sym (as_many plant past later) in
+    let led : fold (code_told tag) (code_at alarm sys.alarms) (added_entries sys e) ≡ code_at alarm (after_event sys e).alarms =
+    subst (λ (p : PlainPlant). AreApart p → alarm < length p.alarms → fold (code_told (tag_of p alarm)) (code_at alarm sys.alarms) (added_entries sys e) ≡ code_at alarm (after_event sys e).alarms)
+    (plant_since plant past later) (event_tells alarm sys e same (system_alarms plant (past ++ later))) apart there in
+    sym
+    (ap (code_after tag c) (since_next plant past later e)
+    ∙ fold-append (λ (x : Code) (row : NamedRow). code_told tag x row.entry) c rows (added_rows n sys e)
+    ∙ ap (λ x. code_after tag x (added_rows n sys e)) (sym (told alarm there))
+    ∙ rows_tell tag n (after_event sys e).moment (code_at alarm sys.alarms) (added_entries sys e)
+    ∙ led
+    ∙ ap (λ (s : System). code_at alarm s.alarms) (sym next))
+
+-- the code of an alarm that is there, by its tag
+pub code_in-there : (sys : System) (alarm : ℕ) → AreApart sys.plant → alarm < length sys.plant.alarms → code_in sys (tag_of sys.plant alarm) ≡ code_at alarm sys.alarms
+code_in-there sys alarm apart there = ap (λ (o : Option ℕ). option_map_or (λ n. code_at n sys.alarms) o code.Norm) (number_of_tag sys.plant alarm apart there)
+
+pub codes_told : (plant : PlainPlant) (past : List Event) → AreApart (system plant past).plant → (later : List Event) (alarm : ℕ) → alarm < length (system plant past).plant.alarms
+    → code_at alarm (system plant (past ++ later)).alarms ≡ told_code (system plant past) (rows_since plant past later) (tag_of (system plant past).plant alarm)
+codes_told plant past apart later alarm there =
+    let base = system plant past in
+    by_events (Tells plant past) (tells_next plant past apart) [] later (tells_none plant past) alarm there
+    ∙ ap (λ c. code_after (tag_of base.plant alarm) c (rows_since plant past later)) (sym (code_in-there base alarm apart there))
+
+-- the code of an alarm that is there
+pub code_is : (plant : PlainPlant) (past later : List Event) (alarm : ℕ) (a : PlainAlarm) → IsPlant (system plant past).plant → slice_get (system plant (past ++ later)).alarms alarm ≡ Some a
+    → code_of a.state ≡ told_code (system plant past) (rows_since plant past later) (tag_of (system plant past).plant alarm)
+code_is plant past later alarm a plant_is is =
+    let many = as_many plant past later in
+    let within = slice_get_within (system plant (past ++ later)).alarms alarm a is in
+    sym (ap (λ (o : Option PlainAlarm). option_map_or (λ (b : PlainAlarm). code_of b.state) o code.Norm) is)
+    ∙ codes_told plant past (tags_apart (system plant past).plant plant_is) later alarm (omega (arith, many, within))
+
+-- before the first event every alarm is NORM
 opening_code : (rows : List AlarmRow) (alarm : ℕ) → code_at alarm (map opening_alarm rows) ≡ code.Norm
 opening_code [] alarm = refl
 opening_code (row ∷ rows) zero = refl
 opening_code (row ∷ rows) (suc alarm) = opening_code rows alarm
 
-tells_none : (plant : PlainPlant) → Tells plant []
-tells_none plant alarm there =
-    ap (λ (s : System). code_at alarm s.alarms) (system_none plant) ∙ opening_code plant.alarms alarm ∙ sym (ap (last_code (tag_of plant alarm)) (journal_none plant))
+norm_at : (rows : List AlarmRow) (o : Option ℕ) → option_map_or (λ n. code_at n (map opening_alarm rows)) o code.Norm ≡ code.Norm
+norm_at rows None = refl
+norm_at rows (Some n) = opening_code rows n
 
-tells_next : (plant : PlainPlant) → AreApart plant → (history : List Event) (e : Event) → Tells plant history → Tells plant (history ++ e ∷ [])
-tells_next plant apart history e told alarm there =
-    let sys = system plant history in
-    let tag = tag_of plant alarm in
-    let rows = journal_of plant history in
-    let n = length rows + 1 in
-    let next = system_next plant history e in
-    let same : length (after_event sys e).alarms ≡ length sys.alarms =
-    ap (λ (s : System). length s.alarms) (sym next) ∙ as_many plant (history ++ e ∷ []) ∙ sym (as_many plant history) in
-    let led : fold (code_told tag) (code_at alarm sys.alarms) (added_entries sys e) ≡ code_at alarm (after_event sys e).alarms =
-    subst (λ (p : PlainPlant). AreApart p → alarm < length p.alarms → fold (code_told (tag_of p alarm)) (code_at alarm sys.alarms) (added_entries sys e) ≡ code_at alarm (after_event sys e).alarms)
-    (system_keeps_its_plant plant history) (event_tells alarm sys e same (system_alarms plant history)) apart there in
-    sym
-    (ap (last_code tag) (journal_next plant history e)
-    ∙ fold-append (λ (c : Code) (row : NamedRow). code_told tag c row.entry) code.Norm rows (added_rows n sys e)
-    ∙ ap (λ c. code_after tag c (added_rows n sys e)) (sym (told alarm there))
-    ∙ rows_tell tag n (after_event sys e).moment (code_at alarm sys.alarms) (added_entries sys e)
-    ∙ led
-    ∙ ap (λ (s : System). code_at alarm s.alarms) (sym next))
-
-pub codes_told : (plant : PlainPlant) → AreApart plant → (history : List Event) → Tells plant history
-codes_told plant apart history = by_events (Tells plant) (tells_next plant apart) [] history (tells_none plant)
-
--- the code of an alarm that is there
-pub code_is : (plant : PlainPlant) (history : List Event) (alarm : ℕ) (a : PlainAlarm) → IsPlant plant → slice_get (system plant history).alarms alarm ≡ Some a
-    → code_of a.state ≡ last_code (tag_of plant alarm) (journal_of plant history)
-code_is plant history alarm a plant_is is =
-    let many = as_many plant history in
-    let within = slice_get_within (system plant history).alarms alarm a is in
-    sym (ap (λ (o : Option PlainAlarm). option_map_or (λ (b : PlainAlarm). code_of b.state) o code.Norm) is) ∙ codes_told plant (tags_apart plant plant_is) history alarm (omega (arith, many, within))
+pub begins_norm : (plant : PlainPlant) (tag : List ℕ) → code_in (system plant []) tag ≡ code.Norm
+begins_norm plant tag = ap (λ (s : System). code_in s tag) (system_none plant) ∙ norm_at plant.alarms (alarm_number plant tag)

@@ -1,15 +1,19 @@
--- What the rows of a journal tell of the alarms, and the list of alarms that they make.
-use Rattle.std.specs.Prelude.{ℕ, if◌then◌else◌, List, [], ◌∷◌, ◌++◌, length, map, fold}
+-- What the rows of a journal tell of the alarms since a state, and the list of alarms that they make.
+use Rattle.std.specs.Prelude.{ℕ, ◌+◌, if◌then◌else◌, List, [], ◌∷◌, ◌++◌, length, map, fold, slice_get}
+use Rattle.std.specs.Option.{option_map_or}
 use Rattle.std.specs.Str.{bytes_eq}
 use Rattle.alarm_machine.specs.declared.states.Code.{Code}
 use Rattle.alarm_machine.specs.declared.states.Code.TheVariants as code
-use Rattle.alarm_machine.specs.Codes.{same_code}
+use Rattle.alarm_machine.specs.Codes.{code_of, same_code}
+use Rattle.alarm_machine.specs.Alarms.{PlainAlarm}
 use Rattle.alarm_bank.specs.declared.rows.Counted.{Counted}
 use Rattle.command_text.specs.Lines.{state_line}
 use Rattle.plant_config.specs.declared.rows.AlarmRow.{AlarmRow}
 use Rattle.plant_config.specs.Plants.{PlainPlant}
-use Rattle.plant_config.specs.Names.{tag_of, priority_of}
-use Rattle.engine.specs.Journal.{NamedEntry, NamedRow, ChangeOf}
+use Rattle.plant_config.specs.Names.{alarm_number, tag_of, priority_of}
+use Rattle.event_history.specs.declared.event.Event.{Event}
+use Rattle.plant_system.specs.System.{System, system}
+use Rattle.engine.specs.Journal.{NamedEntry, NamedRow, ChangeOf, journal_from, journal_of}
 use Rattle.command_answers.specs.Listings.{with_end, lines_below, count_lines}
 
 -- the code of the alarm with a tag after an entry, by its code before: a change of this alarm leads to another, and nothing else does
@@ -21,22 +25,34 @@ code_told tag before _ = before
 abbrev pub code_after : List ℕ → Code → List NamedRow → Code
 code_after tag before rows = fold (λ c row. code_told tag c row.entry) before rows
 
--- the code to which the last change of the alarm with a tag leads among rows, NORM where there is none
-abbrev pub last_code : List ℕ → List NamedRow → Code
-last_code tag rows = code_after tag code.Norm rows
+-- the code of the alarm of a number, NORM where there is none
+abbrev pub code_at : ℕ → List PlainAlarm → Code
+code_at n alarms = option_map_or (λ (a : PlainAlarm). code_of a.state) (slice_get alarms n) code.Norm
+
+-- the code that the alarm with a tag has in a state, NORM where there is none
+abbrev pub code_in : System → List ℕ → Code
+code_in sys tag = option_map_or (λ n. code_at n sys.alarms) (alarm_number sys.plant tag) code.Norm
+
+-- the code of the alarm with a tag by the rows since a state: the last change of this tag among them leads to it, and where there is none it is that of the state
+abbrev pub told_code : System → List NamedRow → List ℕ → Code
+told_code sys rows tag = code_after tag (code_in sys tag) rows
+
+-- the rows that later events add to the journal of a history
+abbrev pub rows_since : PlainPlant → List Event → List Event → List NamedRow
+rows_since plant past later = journal_from (length (journal_of plant past) + 1) (system plant past) later
 
 -- the STATE line of an alarm that has a code; none where it is NORM
 abbrev pub code_line : PlainPlant → ℕ → Code → List (List ℕ)
 code_line plant alarm c = if same_code c code.Norm then [] else state_line (tag_of plant alarm) c (priority_of plant alarm) ∷ []
 
--- a STATE line for each alarm that isn't NORM by rows, in the order of the database
-abbrev pub told_lines : PlainPlant → List NamedRow → List (List ℕ)
-told_lines plant rows = lines_below (λ alarm. code_line plant alarm (last_code (tag_of plant alarm) rows)) (length plant.alarms)
+-- a STATE line for each alarm that isn't NORM by the rows since a state, in the order of the database
+abbrev pub told_lines : System → List NamedRow → List (List ℕ)
+told_lines sys rows = lines_below (λ alarm. code_line sys.plant alarm (told_code sys rows (tag_of sys.plant alarm))) (length sys.plant.alarms)
 
--- an alarm as it is counted: its area and priority, and the code that it has by rows
-abbrev pub told_alarm : List NamedRow → AlarmRow → Counted
-told_alarm rows alarm = record { area = alarm.area; priority = alarm.priority; code = last_code alarm.tag rows }
+-- an alarm as it is counted: its area and priority, and the code that it has by the rows since a state
+abbrev pub told_alarm : System → List NamedRow → AlarmRow → Counted
+told_alarm sys rows alarm = record { area = alarm.area; priority = alarm.priority; code = told_code sys rows alarm.tag }
 
--- the answer to `list` that rows make
-abbrev pub told_list : PlainPlant → List NamedRow → List ℕ
-told_list plant rows = with_end (told_lines plant rows ++ count_lines plant (map (told_alarm rows) plant.alarms))
+-- the answer to `list` that the rows since a state make
+abbrev pub told_list : System → List NamedRow → List ℕ
+told_list sys rows = with_end (told_lines sys rows ++ count_lines sys.plant (map (told_alarm sys rows) sys.plant.alarms))

@@ -1,13 +1,14 @@
 //! Laws of a plant's history that operators rest on: what the journal tells, and what comes of a record that is played again.
 //!
-//! The journal tells the code of each alarm, and makes the list of alarms (`specs/Told.antt`), where no two alarms have one tag: so in each plant
-//! that keeps its rules (`IsPlant`), as that of every engine does, by the type of `Engine`. A record is an input of the server; where it ends
+//! The journal tells the code of each alarm, and makes the list of alarms (`specs/Told.antt`), from its beginning or from any state on, where no two
+//! alarms have one tag: so in each plant that keeps its rules (`IsPlant`), as that of every engine does, by the type of `Engine`. A record is an input of the server; where it ends
 //! at the end of a request, more may follow in the same session or in a new one, with the same answers and the same states (`specs/Records.antt`).
 //!
 //! These functions do nothing: each has laws as its contract.
 #![tactic(auto)]
 
 ghost use Rattle.std.specs.Prelude.{◌≡◌, ℕ, true, false, List, [], ◌∷◌, ◌++◌, length, Some, slice_get};
+ghost use Rattle.alarm_machine.specs.declared.states.Code.TheVariants.{Norm};
 ghost use Rattle.alarm_machine.specs.Codes.{PlainChange, code_of};
 ghost use Rattle.alarm_machine.specs.Alarms.{PlainAlarm};
 ghost use Rattle.event_history.specs.declared.event.Event.{Event};
@@ -20,23 +21,30 @@ ghost use Rattle.serving.specs.Bodies.{body_size};
 ghost use Rattle.serving.specs.Requests.{Request, asked_by, has_lf, without_cr, begun_request, requests_of};
 ghost use Rattle.serving.specs.Answers.{after_requests, answers};
 ghost use Rattle.serving.specs.Session.{out_text};
-ghost use Rattle.history_laws.specs.Told.{last_code, told_lines, told_list};
+ghost use Rattle.history_laws.specs.Told.{code_in, told_code, rows_since, told_lines, told_list};
 ghost use Rattle.history_laws.specs.Records.{ends_at_line, has_no_body, IsPlayed, GoesOn, LeaveAlike, IsPlayedAlike, AddsNothing, AddsNothingAfter, only_asks, request_of, CanBeLeftOut};
 
-/// The code of each alarm is the one to which the last change of its tag in the journal leads, and NORM where the journal has no change of it.
-/// And each change goes from the code that the rows before it tell, so none is missing between two.
+/// The rows that later events add to the journal of a history tell the code of each alarm: it is the one to which the last change of its tag among
+/// these rows leads, and where they have no change of it the one that it had before them. And each change goes from the code that the rows before it
+/// tell, so none is missing between two. Before the first event every alarm is NORM, so the whole journal tells each code from NORM on.
 pub fn journal_tells_codes()
-    ensures last { (plant : PlainPlant) (history : List Event) (alarm : ℕ) (a : PlainAlarm) → IsPlant plant → slice_get (system plant history).alarms alarm ≡ Some a
-        → code_of a.state ≡ last_code (tag_of plant alarm) (journal_of plant history) }
-    ensures each { (plant : PlainPlant) (history : List Event) (before : List NamedRow) (row : NamedRow) (after : List NamedRow) (tag : List ℕ) (change : PlainChange) → IsPlant plant
-        → journal_of plant history ≡ before ++ row ∷ after → row.entry ≡ ChangeOf tag change → change.from ≡ last_code tag before }
+    ensures last { (plant : PlainPlant) (past later : List Event) (alarm : ℕ) (a : PlainAlarm) → IsPlant (system plant past).plant
+        → slice_get (system plant (past ++ later)).alarms alarm ≡ Some a
+        → code_of a.state ≡ told_code (system plant past) (rows_since plant past later) (tag_of (system plant past).plant alarm) }
+    ensures each { (plant : PlainPlant) (past later : List Event) (before : List NamedRow) (row : NamedRow) (after : List NamedRow) (tag : List ℕ) (change : PlainChange)
+        → IsPlant (system plant past).plant
+        → rows_since plant past later ≡ before ++ row ∷ after → row.entry ≡ ChangeOf tag change → change.from ≡ told_code (system plant past) before tag }
+    ensures rows { (plant : PlainPlant) (past later : List Event) → journal_of plant (past ++ later) ≡ journal_of plant past ++ rows_since plant past later }
+    ensures begins { (plant : PlainPlant) (tag : List ℕ) → code_in (system plant []) tag ≡ Norm }
 {}
 
-/// The rows of the journal make the list of alarms: its STATE lines are those of the alarms that aren't NORM by the journal, each with the code
-/// that the journal tells, and the whole answer to `list` is made of the plant and of these rows.
+/// The rows that later events add to the journal make the list of alarms: its STATE lines are those of the alarms that aren't NORM by these rows, each
+/// with the code that they tell, and the whole answer to `list` is made of the state before them and of these rows.
 pub fn journal_makes_list()
-    ensures lines { (plant : PlainPlant) (history : List Event) → IsPlant plant → state_lines (system plant history) ≡ told_lines plant (journal_of plant history) }
-    ensures text { (plant : PlainPlant) (history : List Event) → IsPlant plant → list_text (system plant history) ≡ told_list plant (journal_of plant history) }
+    ensures lines { (plant : PlainPlant) (past later : List Event) → IsPlant (system plant past).plant
+        → state_lines (system plant (past ++ later)) ≡ told_lines (system plant past) (rows_since plant past later) }
+    ensures text { (plant : PlainPlant) (past later : List Event) → IsPlant (system plant past).plant
+        → list_text (system plant (past ++ later)) ≡ told_list (system plant past) (rows_since plant past later) }
 {}
 
 /// What an input leaves is one history, whatever it is answered.
