@@ -92,6 +92,14 @@ pub type Misnomer<'a> = (Place<'a>, &'static str, Said, &'static str);
 /// What is said behind a word, in three parts.
 pub type Said = (&'static str, &'static str, &'static str);
 
+/// What is said of a word by its site, or else by itself where it `is_first`; empty of a word of the language.
+fn said_at(site: &str, word: &str, is_first: bool) -> &'static str {
+    match said_of(BESIDE, &[site, word]) {
+        "" if is_first => said_of(WORDS, &[word]),
+        told => told,
+    }
+}
+
 /// The word of another dialect that a token is; `None` where it is none.
 fn foreign(place: Place<'_>) -> Option<Misnomer<'_>> {
     let (word, behind, stand) = (place.word(), place.behind(1), place.stand());
@@ -106,11 +114,7 @@ fn foreign(place: Place<'_>) -> Option<Misnomer<'_>> {
         _ => "",
     };
     let is_first = fits("top|behind|head|declaration|statement|label", stand) && !is_name;
-    let told = match said_of(BESIDE, &[site, word]) {
-        "" if is_first => said_of(WORDS, &[word]),
-        told => told,
-    };
-    let (way, said) = told.split_once(" ")?;
+    let (way, said) = said_at(site, word, is_first).split_once(" ")?;
     Some((place, way, (said, "", ""), STANDARD))
 }
 
