@@ -19,9 +19,8 @@ use Rattle.plant_system.specs.System.{System, system, after_event, ordered}
 use Rattle.engine.specs.Lawful.{IsTaken}
 use Rattle.plant_system.specs.Reports.{PlainReport}
 use Rattle.engine.specs.Journal.{IsJournal, named_change, named_order, refusal_of, one_or_none, change_entries, added_entries, row_plants, scan_entries, order_entries}
-use Rattle.engine.specs.declared.past.PastPlant.{PastPlant}
-use Rattle.engine.specs.Past.{ArePast}
-use Rattle.engine.proofs.Pasts.{past_more, past_reload}
+use Rattle.engine.specs.RowNames.{HaveNames}
+use Rattle.engine.proofs.Names.{event_names, names_reload}
 use Rattle.plant_system.specs.Orders.{alarms_by, changed_by}
 use Rattle.engine.proofs.OrderRows.{order_changes}
 use Rattle.engine.specs.Engines.{PlainEngine, PlainPreparedReload, Fits, FitsOrder, FitsReload, state_of}
@@ -29,19 +28,7 @@ use Rattle.plant_system.specs.States.{PlainState, PlainPrepared, PlainPreparedOr
 use Rattle.alarm_delays.specs.Delays.{PlainDelays}
 use Rattle.plant_system.proofs.Images.{taken_when}
 use Rattle.plant_system.proofs.Systems.{system_next}
-use Rattle.engine.proofs.Journals.{as_many_plants, plants_next, reload_journal, scan_journal, order_journal, until_after, last_below, room_after, length-scan_entries, few_order_entries}
-
--- one more event leaves rows of the plant that the system has
-past_event : (plant : PlainPlant) (history : List Event) (e : Event) (now : PlainPlant) (past : List PastPlant) → (system plant history).plant ≡ now → ArePast (row_plants plant history) past now → ArePast (row_plants plant (history ++ e ∷ [])) past now
-past_event plant history e now past own are =
-    let sys = system plant history in
-    let more = past_more (row_plants plant history) past now (length (added_entries sys e)) are in
-    let next : row_plants plant (history ++ e ∷ []) ≡ row_plants plant history ++ replicate (length (added_entries sys e)) now =
-    plants_next plant history e ∙ ap (λ (p : PlainPlant). row_plants plant history ++ replicate (length (added_entries sys e)) p) own in
-    subst (λ (plants : List PlainPlant). ArePast plants past now) (sym next) more
-
-pub order_past : (e : PlainEngine) (p : PlainPreparedOrder) (now : PlainPlant) (past : List PastPlant) → (state_of e).plant ≡ now → ArePast (row_plants e.plant e.history) past now → ArePast (row_plants e.plant (e.history ++ event.Order p.console p.order ∷ [])) past now
-order_past e p now past own are = past_event e.plant e.history (event.Order p.console p.order) now past own are
+use Rattle.engine.proofs.Journals.{as_many_rows, reload_journal, scan_journal, order_journal, until_after, last_below, room_after, length-scan_entries, few_order_entries}
 
 -- a scan leaves the state of the history with it
 pub scan_state : (e : PlainEngine) (p : PlainPrepared) (k : PlainState) → Fits e p → IsState (state_of e) k → IsState (system e.plant (e.history ++ p.event ∷ [])) (after_effect p.effect k)
@@ -58,9 +45,10 @@ scan_committed e p log fits held =
     subst (λ (x : Event). IsJournal e.plant (e.history ++ x ∷ []) (after_entries p.report.moment log (scan_entries p.report)).rows) (sym fits.event_is)
     (scan_journal e.plant e.history fits.image p.report.moment p.report log (subst (λ (x : Event). IsReport (state_of e) x p.report) fits.event_is fits.report_is) held)
 
--- with rows of the same plant
-pub scan_past : (e : PlainEngine) (p : PlainPrepared) (now : PlainPlant) (past : List PastPlant) → (state_of e).plant ≡ now → ArePast (row_plants e.plant e.history) past now → ArePast (row_plants e.plant (e.history ++ p.event ∷ [])) past now
-scan_past e p now past own are = past_event e.plant e.history p.event now past own are
+-- with the names of its rows
+pub scan_names : (e : PlainEngine) (p : PlainPrepared) (now : PlainPlant) (names : List (List ℕ)) (log : PlainLog) → Fits e p → (state_of e).plant ≡ now → IsJournal e.plant e.history log.rows → HaveNames (row_plants e.plant e.history) log.rows names now
+    → HaveNames (row_plants e.plant (e.history ++ p.event ∷ [])) (after_entries p.report.moment log (scan_entries p.report)).rows names now
+scan_names e p now names log fits own held have = event_names e.plant e.history p.event now names p.report.moment log (scan_entries p.report) own held (scan_committed e p log fits held) have
 
 -- its moment isn't before that of the last scan
 scan_forward : (e : PlainEngine) (p : PlainPrepared) (k : PlainState) → Fits e p → IsState (state_of e) k → k.moment ≤ p.report.moment
@@ -108,6 +96,12 @@ order_committed e p k log held fits journal =
     let same : rows k.moment p.done k.alarms ≡ rows sys.moment done sys.alarms =
     ap (λ m. rows m p.done k.alarms) held.moment_is ∙ ap (λ d. rows sys.moment d k.alarms) fits.done_is ∙ ap (rows sys.moment done) held.alarms_are in
     subst (IsJournal e.plant (e.history ++ event.Order p.console p.order ∷ [])) (sym same) (order_journal e.plant e.history p.console p.order log journal)
+
+-- with the names of its rows
+pub order_names : (e : PlainEngine) (p : PlainPreparedOrder) (k : PlainState) (now : PlainPlant) (names : List (List ℕ)) (log : PlainLog) → IsState (state_of e) k → FitsOrder e p → (state_of e).plant ≡ now → IsJournal e.plant e.history log.rows
+    → HaveNames (row_plants e.plant e.history) log.rows names now → HaveNames (row_plants e.plant (e.history ++ event.Order p.console p.order ∷ [])) (after_entries k.moment log (order_entries p.console p.order p.done k.alarms)).rows names now
+order_names e p k now names log state fits own held have =
+    event_names e.plant e.history (event.Order p.console p.order) now names k.moment log (order_entries p.console p.order p.done k.alarms) own held (order_committed e p k log state fits held) have
 
 pub order_until : (m : ℕ) (log : PlainLog) (console : ℕ) (order : Order) (done : Result Effect OrderFault) (alarms : List PlainAlarm) → All (λ row. row.moment ≤ m) log.rows
     → All (λ row. row.moment ≤ m) (after_entries m log (order_entries console order done alarms)).rows
@@ -162,14 +156,10 @@ reload_until e p k log moment at held fits until =
     subst (λ m. All (λ (row : Row). row.moment ≤ m) (after_entry moment log (entry.Reload p.kept p.fresh)).rows) same
     (until_after k.moment moment log (entry.Reload p.kept p.fresh ∷ []) (omega (arith, at, held.moment_is)) until)
 
--- the plants of its rows: the row of the reload is the last one of the plant whose place it takes
-pub reload_past : (e : PlainEngine) (new now : PlainPlant) (past : List PastPlant) (rows : List Row) (last : ℕ) → (state_of e).plant ≡ now → IsJournal e.plant e.history rows → last ≡ length rows + 1 → ArePast (row_plants e.plant e.history) past now
-    → ArePast (row_plants e.plant (e.history ++ event.Reload new ∷ [])) (past ++ record { plant = now; last = last } ∷ []) new
-reload_past e new now past rows last own journal is are =
-    let plants = row_plants e.plant e.history in
-    let many = as_many_plants plants rows journal.named in
-    let more = past_event e.plant e.history (event.Reload new) now past own are in
-    let next = plants_next e.plant e.history (event.Reload new) in
-    let both = length-append plants ((state_of e).plant ∷ []) in
-    let long = ap length next in
-    past_reload (row_plants e.plant (e.history ++ event.Reload new ∷ [])) past now new last more (omega (arith, many, both, long, is))
+-- and the names of its rows, where those of all rows before it are kept
+pub reload_names : (e : PlainEngine) (p : PlainPreparedReload) (now : PlainPlant) (names : List (List ℕ)) (log : PlainLog) (moment : ℕ) → moment ≡ (state_of e).moment → FitsReload e p → (state_of e).plant ≡ now → IsJournal e.plant e.history log.rows → e.named ≡ length names
+    → HaveNames (row_plants e.plant e.history) log.rows names now → HaveNames (row_plants e.plant (e.history ++ event.Reload p.plant ∷ [])) (after_entry moment log (entry.Reload p.kept p.fresh)).rows names p.plant
+reload_names e p now names log moment at fits own held counted have =
+    let many = as_many_rows e.plant e.history log.rows held in
+    names_reload (row_plants e.plant (e.history ++ event.Reload p.plant ∷ [])) log.rows (length log.rows + 1) moment p.kept p.fresh names now p.plant (omega (arith, many, counted, fits.named))
+    (event_names e.plant e.history (event.Reload p.plant) now names moment log (entry.Reload p.kept p.fresh ∷ []) own held (reload_committed e p log moment at fits held) have)

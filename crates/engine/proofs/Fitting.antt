@@ -20,9 +20,10 @@ use Rattle.plant_system.proofs.Reloading.{reload_found}
 use Rattle.plant_system.proofs.Systems.{system_events, system_next, system_reloads, system_none, system_scans, kept_alarms, scan_agrees, scan_reports, scan_event_is, effect_anywhere, order_steps, order_event_room}
 use Rattle.engine.specs.Lawful.{IsTaken}
 use Rattle.engine.specs.Engines.{PlainEngine, Fits, FitsOrder, FitsReload, IsEngine, state_of}
-use Rattle.engine.specs.Past.{ArePast}
+use Rattle.engine.specs.Journal.{journal_of}
+use Rattle.engine.specs.RowNames.{HaveNames}
 use Rattle.engine.proofs.Journals.{journal_empty, plants_none}
-use Rattle.engine.proofs.Pasts.{past_none}
+use Rattle.engine.proofs.Names.{names_none}
 use Rattle.engine.proofs.Lawful.{lawful_none}
 
 -- a scan that was made ready from what an engine holds fits that engine, where there is room for its rows
@@ -70,8 +71,8 @@ order_fits e now k console order p own held made few rows_there =
       taken = order_event_room e.plant e.history p.console p.order few;
     }
 
--- a reload that was made ready from what an engine holds fits that engine, where there is room for its row and for the plant whose place it takes
-pub reload_fits : (e : PlainEngine) (now new : PlainPlant) (k : PlainState) (r : ReadyReload) → (state_of e).plant ≡ now → IsState (state_of e) k → IsReadyReload now new k r → reload_event (state_of e) new ≡ Ok (event.Reload new) → 1 ≤ e.row_room → 1 ≤ e.reload_room
+-- a reload that was made ready from what an engine holds fits that engine, where there is room for its row and the names of the rows before it are kept
+pub reload_fits : (e : PlainEngine) (now new : PlainPlant) (k : PlainState) (r : ReadyReload) → (state_of e).plant ≡ now → IsState (state_of e) k → IsReadyReload now new k r → reload_event (state_of e) new ≡ Ok (event.Reload new) → 1 ≤ e.row_room → e.named ≡ length (journal_of e.plant e.history)
     → FitsReload e (record { plant = new; state = r.state; kept = r.kept; fresh = r.fresh })
 reload_fits e now new k r own held made taken rows_there there =
     let sys = state_of e in
@@ -81,7 +82,7 @@ reload_fits e now new k r own held made taken rows_there there =
       told = record { kept_is = made.kept_is ∙ ap kept_count kept; fresh_is = made.fresh_is ∙ ap fresh_count kept };
       taken = (taken, made.plant_is);
       row_room = rows_there;
-      reload_room = there;
+      named = there;
     }
 
 -- and there were few reloads before
@@ -101,6 +102,6 @@ opening_engine plant k is held = record {
   plant_is = is;
   lawful = lawful_none plant;
   journal = journal_empty plant;
-  past = subst (λ (plants : List PlainPlant). ArePast plants [] plant) (sym (plants_none plant)) (past_none plant);
+  names = subst (λ (plants : List PlainPlant). HaveNames plants [] [] plant) (sym (plants_none plant)) (names_none plant);
   until = All-nil (λ (row : Row). row.moment ≤ k.moment);
 }

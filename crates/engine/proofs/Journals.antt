@@ -29,8 +29,6 @@ use Rattle.plant_system.specs.System.{System, system, opening_system, after_even
 use Rattle.plant_system.proofs.Systems.{system_alarms, system_faulted, changes_within, numbers_more}
 use Rattle.engine.proofs.OrderRows.{order_changes, order_named}
 use Rattle.engine.specs.Journal.{NamedEntry, FaultAt, ReloadOf, named_change, named_order, named_entry, named_row, fault_entries, change_entries, added_entries, refusal_of, one_or_none, scan_entries, order_entries, rows_from, added_rows, journal_from, journal_of, plants_from, row_plants, named_rows, AreNamed, IsNamed, IsJournal}
-use Rattle.engine.specs.declared.past.PastPlant.{PastPlant}
-use Rattle.engine.specs.Past.{ArePast, plant_at}
 use Rattle.engine.specs.Engines.{TellsReload}
 
 length-rows_from : (n moment : ℕ) (entries : List NamedEntry) → length (rows_from n moment entries) ≡ length entries
@@ -306,7 +304,7 @@ few_order_entries console order done alarms =
     omega (arith, few, same)
 
 -- the row of a number is that of the journal, by the names of its plant
-get_named : (plants : List PlainPlant) (rows : List Row) (k : ℕ) (row : Row) → AreNamed plants rows → slice_get rows k ≡ Some row
+pub get_named : (plants : List PlainPlant) (rows : List Row) (k : ℕ) (row : Row) → AreNamed plants rows → slice_get rows k ≡ Some row
     → (plant : PlainPlant) × (slice_get plants k ≡ Some plant) × (slice_get (named_rows plants rows) k ≡ Some (named_row plant row)) × IsNamed plant row.entry
 get_named [] [] k row all at = absurd (cc (at))
 get_named [] (r ∷ rows) k row all at = absurd all
@@ -316,11 +314,8 @@ get_named (p ∷ plants) (r ∷ rows) zero row all at =
     (p, refl, ap (λ (x : Row). Some (named_row p x)) same, subst (λ (x : Row). IsNamed p x.entry) same all.0)
 get_named (p ∷ plants) (r ∷ rows) (suc k) row all at = get_named plants rows k row all.1 at
 
-pub row_at : (plant : PlainPlant) (history : List Event) (rows : List Row) (past : List PastPlant) (present : PlainPlant) (k : ℕ) (row : Row) → IsJournal plant history rows → ArePast (row_plants plant history) past present → slice_get rows k ≡ Some row
-    → (slice_get (journal_of plant history) k ≡ Some (named_row (plant_at past present (k + 1)) row)) × IsNamed (plant_at past present (k + 1)) row.entry
-row_at plant history rows past present k row held are at =
+pub row_at : (plant : PlainPlant) (history : List Event) (rows : List Row) (k : ℕ) (row : Row) → IsJournal plant history rows → slice_get rows k ≡ Some row
+    → (own : PlainPlant) × (slice_get (row_plants plant history) k ≡ Some own) × (slice_get (journal_of plant history) k ≡ Some (named_row own row)) × IsNamed own row.entry
+row_at plant history rows k row held at =
     let got = get_named (row_plants plant history) rows k row held.named at in
-    let found : plant_at past present (k + 1) ≡ got.0 = are.found k got.0 got.1 in (
-      ap (λ l. slice_get l k) (sym held.rows_are) ∙ got.2 ∙ ap (λ (p : PlainPlant). Some (named_row p row)) (sym found),
-      subst (λ (p : PlainPlant). IsNamed p row.entry) (sym found) got.3,
-    )
+    (got.0, got.1, ap (λ l. slice_get l k) (sym held.rows_are) ∙ got.2, got.3)

@@ -3,7 +3,7 @@ mod InRange
 mod Ready
 mod Shown
 mod Journals
-mod Pasts
+mod Names
 pub mod NamedRows
 mod OrderRows
 mod Commits

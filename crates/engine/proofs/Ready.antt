@@ -1,12 +1,11 @@
 -- What an engine holds, by the plant that it has now.
-use Rattle.std.proofs.Common.{List, length, ap, sym, ◌∙◌, subst}
+use Rattle.std.proofs.Common.{ℕ, List, length, ap, sym, ◌∙◌, subst}
 use Rattle.std.proofs.lemmas.List.{length-map}
 use Rattle.alarm_delays.specs.Delays.{PlainDelays, since_of}
 use Rattle.journal_core.specs.declared.row.Row.{Row}
 use Rattle.plant_config.specs.Plants.{PlainPlant}
 use Rattle.event_history.specs.declared.event.Event.{Event}
 use Rattle.plant_system.specs.System.{system}
-use Rattle.engine.specs.declared.past.PastPlant.{PastPlant}
 use Rattle.engine.specs.Engines.{IsEngine}
 use Rattle.plant_system.specs.States.{PlainState}
 use Rattle.plant_system.specs.Steps.{IsReady}
@@ -14,8 +13,8 @@ use Rattle.engine.proofs.InRange.{lawful_in_range}
 use Rattle.plant_system.proofs.Systems.{system_scans, kept_alarms, kept_faulted, kept_outputs}
 
 -- an engine has what the parts of an event ask
-pub ready : (began plant : PlainPlant) (history : List Event) (rows : List Row) (k : PlainState) (past : List PastPlant) → IsEngine began history rows k plant past → IsReady plant k
-ready began plant history rows k past is =
+pub ready : (began plant : PlainPlant) (history : List Event) (rows : List Row) (k : PlainState) (names : List (List ℕ)) → IsEngine began history rows k plant names → IsReady plant k
+ready began plant history rows k names is =
     let sys = system began history in
     let holds = lawful_in_range began history is.plant_is.sound is.lawful in
     subst (λ (x : PlainPlant). IsReady x k) is.present (record {

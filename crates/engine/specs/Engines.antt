@@ -17,16 +17,15 @@ use Rattle.plant_system.specs.declared.event.EngineFault.{EngineFault}
 use Rattle.plant_system.specs.declared.event.EngineFault.TheVariants as refusal
 use Rattle.engine.specs.Lawful.{IsTaken, IsLawfulHistory}
 use Rattle.plant_system.specs.Reloads.{fresh_count, kept_count, kept_numbers}
-use Rattle.engine.specs.declared.past.PastPlant.{PastPlant}
-use Rattle.engine.specs.Past.{ArePast}
-use Rattle.engine.specs.Journal.{IsJournal, row_plants}
+use Rattle.engine.specs.RowNames.{HaveNames}
+use Rattle.engine.specs.Journal.{IsJournal, journal_of, row_plants}
 
--- the plant with which it began, the events so far, and for how many more rows of the journal and for how many more reloads there is room
+-- the plant with which it began, the events so far, for how many more rows of the journal there is room, and how many rows have names that are kept apart from the plant
 pub record PlainEngine : Type 0 where
   pub plant : PlainPlant
   pub history : List Event
   pub row_room : ℕ
-  pub reload_room : ℕ
+  pub named : ℕ
 
 -- the state of an engine's system
 abbrev pub state_of : PlainEngine → System
@@ -36,7 +35,7 @@ state_of e = system e.plant e.history
 abbrev pub engine_code : Coded PlainEngine
 engine_code =
     code_by (PlainPlant × (List Event × (ℕ × ℕ))) (coded× plant_code (coded× (coded_list event_row.the_row.coded) (coded× coded_ℕ coded_ℕ)))
-    (λ e. (e.plant, (e.history, (e.row_room, e.reload_room)))) (λ p. record { plant = p.0; history = p.1.0; row_room = p.1.1.0; reload_room = p.1.1.1 }) (λ _. refl)
+    (λ e. (e.plant, (e.history, (e.row_room, e.named)))) (λ p. record { plant = p.0; history = p.1.0; row_room = p.1.1.0; named = p.1.1.1 }) (λ _. refl)
 
 -- a scan was taken: its event is the last of the history, and the report is what it did
 pub record TakesScan (old new : PlainEngine) (pairs : List PlainPair) (t : ℕ) (r : PlainReport) : Type 0 where
@@ -84,20 +83,20 @@ pub record TellsReload (sys : System) (new : PlainPlant) (kept fresh : ℕ) : Ty
 abbrev pub IsReloadRefusal : System → PlainPlant → EngineFault → Type 0
 IsReloadRefusal sys new fault = (fault ≡ refusal.Memory) ⊎ (reload_event sys new ≡ Err fault)
 
--- an engine may commit a reload that was made ready: it is what the reload makes of this engine's state, the reload was taken there, and there is room for its row and for the plant whose place it takes
+-- an engine may commit a reload that was made ready: it is what the reload makes of this engine's state, the reload was taken there, there is room for its row, and the names of all rows before it are kept
 pub record FitsReload (e : PlainEngine) (p : PlainPreparedReload) : Type 0 where
   pub state_is : IsState (after_event (state_of e) (event.Reload p.plant)) p.state
   pub told : TellsReload (state_of e) p.plant p.kept p.fresh
   pub taken : IsTaken (state_of e) (event.Reload p.plant)
   pub row_room : 1 ≤ e.row_room
-  pub reload_room : 1 ≤ e.reload_room
+  pub named : e.named ≡ length (journal_of e.plant e.history)
 
--- what an engine keeps is what the system after its history has, its plant is the system's, the history is lawful and the plant with which it began keeps the rules of plants, the rows are the journal, none of them later than the last scan, and the plant of each is found
-pub record IsEngine (began : PlainPlant) (history : List Event) (rows : List Row) (k : PlainState) (plant : PlainPlant) (past : List PastPlant) : Type 0 where
+-- what an engine keeps is what the system after its history has, its plant is the system's, the history is lawful and the plant with which it began keeps the rules of plants, the rows are the journal, none of them later than the last scan, and each has its name
+pub record IsEngine (began : PlainPlant) (history : List Event) (rows : List Row) (k : PlainState) (plant : PlainPlant) (names : List (List ℕ)) : Type 0 where
   pub state_is : IsState (system began history) k
   pub present : (system began history).plant ≡ plant
   pub plant_is : IsPlant began
   pub lawful : IsLawfulHistory began history
   pub journal : IsJournal began history rows
-  pub past : ArePast (row_plants began history) past plant
+  pub names : HaveNames (row_plants began history) rows names plant
   pub until : All (λ row. row.moment ≤ k.moment) rows

@@ -1,4 +1,4 @@
 pub mod Lawful
 pub mod Journal
-pub mod Past
+pub mod RowNames
 pub mod Engines

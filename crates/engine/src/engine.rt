@@ -12,15 +12,15 @@ ghost use Rattle.engine.specs.Journal.{IsJournal, IsLine, added_entries, journal
 ghost use Rattle.engine.specs.Engines.{state_of, Fits, FitsOrder, FitsReload, IsEngine, IsReloadRefusal, LeavesState, TakesScan, TellsReload};
 ghost use Rattle.plant_system.specs.States.{IsReport, delays_in};
 
-use crate::journal::{line_text, push_order, push_scan, row_count};
-use crate::past::PastPlants;
+use crate::journal::{keep_names, line_text, push_order, push_scan, row_count};
 use crate::reload::{PreparedReload, ReloadRefused, Reloaded};
 use alarm_bank::Summary;
 use alarm_delays::Delays;
 use alarm_machine::{AlarmState, Verb};
 use crew::Crew;
 use event_history::{Event, History};
-use journal_core::{Entry, Log};
+use journal_core::{Entry, Log, row_text};
+use name_list::NameList;
 use operator_orders::Order;
 use plant_config::Plant;
 use plant_system::{
@@ -42,10 +42,12 @@ pub struct Engine {
     began: Shown<Plant>,
     /// The plant now.
     plant: Plant,
-    /// Those whose place another one took.
-    past: PastPlants,
+    /// The plant whose place it took, until the next reload is made ready: to free it takes time.
+    left: Option<Plant>,
     history: History,
     log: Log,
+    /// The names of the first rows, those of earlier plants among them.
+    names: NameList,
     state: State,
     room: Room,
     levels: Option<Levelled>,
@@ -56,9 +58,10 @@ impl Drop for Engine {
         let Engine {
             began: _,
             plant: _,
-            past: _,
+            left: _,
             history: _,
             log: _,
+            names: _,
             state: _,
             room: _,
             levels: _,
@@ -67,7 +70,7 @@ impl Drop for Engine {
 }
 
 impl Model for Engine {
-    ghost use Rattle.std.specs.Prelude.{IfSome};
+    ghost use Rattle.std.specs.Prelude.{IfSome, length};
     ghost use Rattle.scan_logic.specs.Levels.{AreLevelsOf};
     ghost use Rattle.engine.specs.Engines.{PlainEngine, IsEngine, engine_code};
 
@@ -75,9 +78,9 @@ impl Model for Engine {
 
     ghost coded = { engine_code };
 
-    ghost view = { λ e. record { plant = e.began; history = e.history; row_room = e.log.room; reload_room = e.past.room } };
+    ghost view = { λ e. record { plant = e.began; history = e.history; row_room = e.log.room; named = length e.names } };
 
-    ghost invariant = { λ e. IsEngine e.began e.history e.log.rows e.state e.plant e.past.plants × IfSome e.levels (AreLevelsOf e.plant.source) };
+    ghost invariant = { λ e. IsEngine e.began e.history e.log.rows e.state e.plant e.names × IfSome e.levels (AreLevelsOf e.plant.source) };
 }
 
 /// The state before the first event, and memory for scans. Fails if allocation fails.
@@ -125,9 +128,10 @@ impl Engine {
         Ok(Engine {
             began: Shown::of(&plant),
             plant,
-            past: PastPlants::new(alloc),
+            left: None,
             history: History::new(),
             log: Log::new(alloc),
+            names: NameList::new(alloc),
             state,
             room,
             levels: None,
@@ -209,8 +213,11 @@ impl Engine {
         ensures { IfOk result (λ text. IsLine self.now.plant.epoch (journal_of self.now.plant self.now.history) number (string_bytes text)) }
     {
         let row = self.log.row(number);
-        let plant = self.past.plant_at(&self.plant, number);
-        line_text(alloc, self.plant.epoch(), plant, &row)
+        let place = number as usize - 1;
+        if place < self.names.len() {
+            return row_text(alloc, self.plant.epoch(), &row, self.names.get(place));
+        }
+        line_text(alloc, self.plant.epoch(), &self.plant, &row)
     }
 
     /// Makes what a crew of several needs to run the programs: the levels in which they may run together. The first scan by such a crew makes it
@@ -328,18 +335,18 @@ impl Engine {
         may_reload(&self.plant, self.history.len(), plant)
     }
 
-    /// Makes what a reload leaves of the state, and room for its row and for the plant whose place it takes, or returns why it is refused.
+    /// Makes what a reload leaves of the state, and room for its row, and keeps the names of the rows so far, or returns why it is refused.
     fn ready_reload(&mut self, alloc: Global, plant: &Plant) -> Result<ReadyReload, EngineFault>
         ensures plant { self.new.plant ≡ self.old.plant }
         ensures history { self.new.history ≡ self.old.history }
         ensures row_room { self.old.row_room ≤ self.new.row_room }
-        ensures reload_room { self.old.reload_room ≤ self.new.reload_room }
+        ensures named { self.old.named ≤ self.new.named }
         ensures ok { IfOk result (λ r. FitsReload self.new (record { plant = plant.now; state = r.state; kept = r.kept; fresh = r.fresh })) }
         ensures err { IfErr result (IsReloadRefusal (state_of self.old) plant.now) }
     {
         self.may_reload(plant)?;
         self.log.reserve(1)?;
-        self.past.reserve()?;
+        keep_names(alloc, &self.plant, &self.log, &mut self.names)?;
         Ok(ready_reload(alloc, &self.plant, &self.state, plant)?)
     }
 
@@ -355,10 +362,11 @@ impl Engine {
         ensures plant { self.new.plant ≡ self.old.plant }
         ensures history { self.new.history ≡ self.old.history }
         ensures row_room { self.old.row_room ≤ self.new.row_room }
-        ensures reload_room { self.old.reload_room ≤ self.new.reload_room }
+        ensures named { self.old.named ≤ self.new.named }
         ensures ok { IfOk result (λ p. FitsReload self.new p × (p.plant ≡ plant)) }
         ensures err { IfErr result (λ r. IsReloadRefusal (state_of self.old) plant r.fault × (r.plant ≡ plant)) }
     {
+        self.left = None;
         match self.ready_reload(alloc, &plant) {
             Ok(ready) => Ok(PreparedReload { plant, ready }),
             Err(fault) => Err(ReloadRefused { plant, fault }),
@@ -379,9 +387,7 @@ impl Engine {
         let moment = self.moment();
         self.log.push(moment, Entry::Reload { kept, fresh });
         self.history.push(&Event::Reload(Shown::of(&plant)));
-        let last = self.log.len();
-        let old = replace(&mut self.plant, plant);
-        self.past.push(old, last);
+        self.left = Some(replace(&mut self.plant, plant));
         self.state = state;
         self.levels = None;
         Reloaded { kept, fresh }

@@ -1,15 +1,18 @@
 //! The rows that an event adds to the journal, and the text of a row.
 
-ghost use Rattle.std.specs.Prelude.{◌≡◌, ◌≤◌, ◌+◌, IfOk, length, string_bytes};
+ghost use Rattle.std.specs.Prelude.{◌≡◌, ◌≤◌, ◌+◌, List, IfOk, OnOk, length, string_bytes};
+ghost use Rattle.plant_config.specs.Plants.{PlainPlant};
 ghost use Rattle.alarm_machine.specs.declared.limits.TheConstants.{LAST_MOMENT};
 ghost use Rattle.journal_core.specs.Bodies.{row_text};
 ghost use Rattle.journal_core.specs.declared.row.Entry.TheVariants as entry;
 ghost use Rattle.journal_core.specs.Rows.{after_entries, last_moment};
 ghost use Rattle.plant_system.specs.Orders.{changed_by};
 ghost use Rattle.engine.specs.Journal.{refusal_of, scan_entries, order_entries, IsNamed, HasTarget, target_name, order_target, target_text, name_of};
+ghost use Rattle.engine.specs.RowNames.{HaveNames, HaveOtherNames};
 
 use alarm_machine::{Alarm, Change, OrderFault, Verb};
 use journal_core::{Entry, Log, Row, row_text};
+use name_list::NameList;
 use operator_orders::Order;
 use plant_config::Plant;
 use plant_system::{Effect, Report, State};
@@ -143,4 +146,43 @@ pub fn line_text(
         ),
         Entry::Reload { .. } => row_text(alloc, epoch, row, ""),
     }
+}
+
+/// The name with which a row of an entry is printed. Fails if allocation fails.
+fn row_name(alloc: Global, plant: &Plant, entry: Entry) -> Result<String, AllocError>
+    requires { IsNamed plant.now entry }
+    ensures { IfOk result (λ name. string_bytes name ≡ name_of plant.now entry) }
+{
+    match entry {
+        Entry::Fault(place, _) => plant.body_path(alloc, place.path),
+        Entry::Alarm(alarm, _) => String::from_str(alloc, plant.tag(alarm)),
+        Entry::Order {
+            console,
+            verb,
+            target,
+            refused,
+        } => String::from_str(alloc, order_name(plant, console, verb, target, refused)),
+        Entry::Reload { .. } => Ok(String::new(alloc)),
+    }
+}
+
+/// Keeps the names of the rows behind those whose names are kept, as a plant has them. Fails if allocation fails; some of them may be kept then.
+pub fn keep_names(
+    alloc: Global,
+    plant: &Plant,
+    log: &Log,
+    names: &mut NameList,
+) -> Result<(), AllocError>
+    requires few { length names.old ≤ length log.now.rows }
+    requires named { HaveOtherNames log.now.rows (length names.old) plant.now }
+    ensures names { (plants : List PlainPlant) → HaveNames plants log.now.rows names.old plant.now → HaveNames plants log.now.rows names.new plant.now }
+    ensures all { OnOk result (length names.new ≡ length log.now.rows) }
+    ensures more { length names.old ≤ length names.new }
+{
+    for place in names.len() as u64..log.len() {
+        let row = log.row(place + 1);
+        let name = row_name(alloc, plant, row.entry)?;
+        names.push(name)?;
+    }
+    Ok(())
 }

@@ -1,6 +1,6 @@
 //! The engine of a plant: one event, a scan, an order or a reload, is one step of the system.
 //!
-//! Contracts see an engine as the plant with which it began, its history, and its room for more rows of the journal and more reloads. All else that it keeps is what the system, a
+//! Contracts see an engine as the plant with which it began, its history, its room for more rows of the journal, and how many rows have names that are kept apart from the plant. All else that it keeps is what the system, a
 //! fold over that history, has, and the journal, the rows that its events added; of the events themselves it keeps the number alone. An event is
 //! first made ready, which may be refused and changes nothing but the room, and then committed, which allocates nothing and can't fail.
 //!
@@ -10,7 +10,6 @@
 mod engine;
 mod journal;
 mod laws;
-mod past;
 mod reload;
 
 pub use alarm_bank::Summary;

@@ -1,6 +1,6 @@
 use Rattle.std.proofs.Common.{arith}
 use Rattle.std.proofs.lemmas.Grind.{common_steps}
-use Rattle.engine.proofs.Commits.{scan_state, scan_present, scan_past, scan_committed, scan_later, scan_until, scan_in_order, scan_room}
+use Rattle.engine.proofs.Commits.{scan_state, scan_present, scan_names, scan_committed, scan_later, scan_until, scan_in_order, scan_room}
 use Rattle.engine.proofs.Lawful.{lawful_next, lawful_short}
 use Rattle.engine.proofs.engine.Engine.put_scan.Goals as goal
 
@@ -15,7 +15,7 @@ invariant_of-self c =
         lawful = lawful_next _ _ _ c.self.invariant.0.lawful fits.taken;
         present = scan_present _ _ c.self.inside.plant fits c.self.invariant.0.present;
         journal = scan_committed _ _ c.self.inside.log fits c.self.invariant.0.journal;
-        past = scan_past _ _ c.self.inside.plant c.self.inside.past.plants c.self.invariant.0.present c.self.invariant.0.past;
+        names = scan_names _ _ c.self.inside.plant c.self.inside.names c.self.inside.log fits c.self.invariant.0.present c.self.invariant.0.journal c.self.invariant.0.names;
         until = scan_until _ _ k c.self.inside.log fits c.self.invariant.0.state_is c.self.invariant.0.until;
       },
       c.self.invariant.1,
