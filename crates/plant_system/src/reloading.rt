@@ -30,6 +30,18 @@ pub struct ReadyReload {
     pub fresh: u32,
 }
 
+impl ReadyReload {
+    /// What is kept after it, how many alarms go on, and how many begin anew.
+    pub fn into_parts(self) -> (State, u32, u32)
+        ensures state { result.0 ≡ self.state }
+        ensures kept { result.1 ≡ self.kept }
+        ensures fresh { result.2 ≡ self.fresh }
+    {
+        let ReadyReload { state, kept, fresh } = self;
+        (state, kept, fresh)
+    }
+}
+
 /// The alarms of a new plant after those of a state. Fails if allocation fails.
 fn bank_after(
     alloc: Global,
