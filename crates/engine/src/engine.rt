@@ -382,8 +382,8 @@ impl Engine {
         ensures row_room { self.new.row_room + 1 ≡ self.old.row_room }
         ensures told { TellsReload (state_of self.old) prepared.plant result.kept result.fresh }
     {
-        let PreparedReload { plant, ready } = prepared;
-        let ReadyReload { state, kept, fresh } = ready;
+        let (plant, ready) = prepared.into_parts();
+        let (state, kept, fresh) = ready.into_parts();
         let moment = self.moment();
         self.log.push(moment, Entry::Reload { kept, fresh });
         self.history.push(&Event::Reload(Shown::of(&plant)));

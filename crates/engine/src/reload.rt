@@ -42,6 +42,17 @@ impl PreparedReload {
         drop(ready);
         plant
     }
+
+    /// The plant, and what was made ready of it, apart.
+    pub(crate) fn into_parts(self) -> (Plant, ReadyReload)
+        ensures plant { result.0 ≡ self.plant }
+        ensures state { result.1.state ≡ self.state }
+        ensures kept { result.1.kept ≡ self.kept }
+        ensures fresh { result.1.fresh ≡ self.fresh }
+    {
+        let PreparedReload { plant, ready } = self;
+        (plant, ready)
+    }
 }
 
 /// What a reload did to the alarms of the new plant.
