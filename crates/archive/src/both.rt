@@ -148,11 +148,7 @@ fn kept_reload<L: Ledger>(
     let copy = plant.copy(alloc)?;
     match book.prepare_reload(alloc, copy) {
         Ok(kept) => Ok(kept),
-        Err(refused) => {
-            let ReloadRefused { plant, fault } = refused;
-            drop(plant);
-            Err(fault)
-        }
+        Err(refused) => Err(refused.fault),
     }
 }
 
