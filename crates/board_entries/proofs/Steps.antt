@@ -8,7 +8,7 @@ use Rattle.plant_config.specs.Names.{globals_of}
 use Rattle.plant_system.specs.System.{System, system, opening_system, after_event}
 use Rattle.alarm_bank.specs.Banks.{PlainBank}
 use Rattle.plant_system.proofs.Images.{taken_when}
-use Rattle.plant_system.proofs.Reloading.{reload_found}
+use Rattle.plant_system.proofs.FoundReload.{reload_found}
 use Rattle.plant_system.proofs.Systems.{HasAlarms, alarms_there, system_next, system_none}
 use Rattle.engine.specs.Lawful.{IsTaken}
 use Rattle.boards.specs.declared.entry.Entry.{Entry}

@@ -16,7 +16,7 @@ use Rattle.plant_system.specs.Steps.{ScanRan, IsPreparedScan, IsPreparedOrder, I
 use Rattle.plant_system.specs.declared.reloading.ReadyReload.{ReadyReload}
 use Rattle.plant_system.specs.Reloads.{fresh_count, kept_count, kept_numbers}
 use Rattle.plant_system.proofs.Images.{taken_within}
-use Rattle.plant_system.proofs.Reloading.{reload_found}
+use Rattle.plant_system.proofs.FoundReload.{reload_found}
 use Rattle.plant_system.proofs.Systems.{system_events, system_next, system_reloads, system_none, system_scans, kept_alarms, scan_agrees, scan_reports, scan_event_is, effect_anywhere, order_steps, order_event_room}
 use Rattle.engine.specs.Lawful.{IsTaken}
 use Rattle.engine.specs.Engines.{PlainEngine, Fits, FitsOrder, FitsReload, IsEngine, state_of}

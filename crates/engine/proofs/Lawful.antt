@@ -15,7 +15,7 @@ use Rattle.plant_system.specs.declared.event.EngineFault.TheVariants as refusal
 use Rattle.plant_system.specs.System.{System, system, opening_system, after_event, order_event}
 use Rattle.engine.specs.Lawful.{IsTaken, AreTaken, IsLawfulHistory}
 use Rattle.plant_system.proofs.Images.{taken_when}
-use Rattle.plant_system.proofs.Reloading.{reload_found}
+use Rattle.plant_system.proofs.FoundReload.{reload_found}
 use Rattle.plant_system.proofs.Systems.{system_events}
 
 taken_next : (s : System) (history : List Event) (e : Event) → AreTaken s history → IsTaken (fold after_event s history) e → AreTaken s (history ++ e ∷ [])

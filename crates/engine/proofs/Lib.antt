@@ -3,8 +3,8 @@ mod InRange
 mod Ready
 mod Shown
 mod Journals
-mod Names
 pub mod NamedRows
+mod Names
 mod OrderRows
 mod Commits
 mod Fitting

@@ -1,5 +1,5 @@
 -- The names of rows go on by those of each event.
-use Rattle.std.proofs.Common.{◌≡◌, ℕ, zero, suc, ◌+◌, ◌<◌, ◌≤◌, List, [], ◌∷◌, ◌++◌, length, length-append, replicate, refl, ap, sym, ◌∙◌, subst, append_assoc, append-nil, arith, inl, inr, Some}
+use Rattle.std.proofs.Common.{◌≡◌, ℕ, zero, suc, ◌+◌, ◌-◌, ◌<◌, ◌≤◌, List, [], ◌∷◌, ◌++◌, length, length-append, replicate, refl, ap, sym, ◌∙◌, subst, append_assoc, append-nil, arith, inl, inr, Some}
 use Rattle.std.specs.Prelude.{slice_get}
 use Rattle.std.proofs.lemmas.Option.{same_Some, slice_get_cases, slice_get_within}
 use Rattle.plant_config.specs.Plants.{PlainPlant}
@@ -9,9 +9,11 @@ use Rattle.journal_core.specs.declared.row.Row.{Row}
 use Rattle.journal_core.specs.Rows.{PlainLog, after_entry, after_entries}
 use Rattle.event_history.specs.declared.event.Event.{Event}
 use Rattle.plant_system.specs.System.{system}
-use Rattle.engine.specs.Journal.{AreNamed, IsJournal, IsNamed, added_entries, name_of, row_plants}
+use Rattle.journal_core.specs.Bodies.{row_text}
+use Rattle.engine.specs.Journal.{AreNamed, IsJournal, IsLine, IsNamed, added_entries, journal_of, name_of, named_row, row_plants}
 use Rattle.engine.specs.RowNames.{HaveNames, HaveOtherNames}
-use Rattle.engine.proofs.Journals.{as_many_plants, get_named, plants_next}
+use Rattle.engine.proofs.Journals.{as_many_plants, get_named, plants_next, row_at}
+use Rattle.engine.proofs.NamedRows.{text_same}
 
 -- an element of two lists
 of_first : {A : Type 0} (xs ys : List A) (n : ℕ) → n < length xs → slice_get (xs ++ ys) n ≡ slice_get xs n
@@ -119,3 +121,18 @@ name_kept plants rows names name present row at is have =
     at_end : {A : Type 0} (xs : List A) (y : A) → slice_get (xs ++ y ∷ []) (length xs) ≡ Some y
     at_end [] y = refl
     at_end (x ∷ xs) y = at_end xs y
+
+-- the text of a row is its line in the journal: with a name that is kept
+pub kept_line : (plant : PlainPlant) (history : List Event) (rows : List Row) (names : List (List ℕ)) (present : PlainPlant) (epoch number : ℕ) (row : Row) (name text : List ℕ) → IsJournal plant history rows → HaveNames (row_plants plant history) rows names present
+    → slice_get rows (number - 1) ≡ Some row → slice_get names (number - 1) ≡ Some name → text ≡ row_text epoch row name → IsLine epoch (journal_of plant history) number text
+kept_line plant history rows names present epoch number row name text held have at found is =
+    let got = row_at plant history rows (number - 1) row held at in
+    let named : name ≡ name_of got.0 row.entry = same_Some name (name_of got.0 row.entry) (sym found ∙ have.kept (number - 1) got.0 row got.1 at (slice_get_within names (number - 1) name found)) in
+    record { row = named_row got.0 row; row_is = got.2; text_is = is ∙ ap (row_text epoch row) named ∙ text_same epoch got.0 row }
+
+-- with that of the present plant
+pub other_line : (plant : PlainPlant) (history : List Event) (rows : List Row) (names : List (List ℕ)) (present : PlainPlant) (epoch number : ℕ) (row : Row) (text : List ℕ) → IsJournal plant history rows → HaveNames (row_plants plant history) rows names present
+    → slice_get rows (number - 1) ≡ Some row → length names ≤ number - 1 → text ≡ row_text epoch row (name_of present row.entry) → IsLine epoch (journal_of plant history) number text
+other_line plant history rows names present epoch number row text held have at behind is =
+    let got = row_at plant history rows (number - 1) row held at in
+    record { row = named_row got.0 row; row_is = got.2; text_is = is ∙ ap (row_text epoch row) (have.others (number - 1) got.0 row got.1 at behind) ∙ text_same epoch got.0 row }

@@ -19,9 +19,13 @@ impl Drop for PreparedReload {
 }
 
 impl Model for PreparedReload {
+    ghost use Rattle.std.specs.Coded.{codes};
+    ghost use Rattle.plant_config.specs.Code.{plant_code};
     ghost use Rattle.engine.specs.Engines.{PlainPreparedReload};
 
     ghost Value = { PlainPreparedReload };
+
+    ghost coded = { Prim.hlevel (codes, plant_code) };
 
     ghost view = { λ p. record { plant = p.plant; state = p.ready.state; kept = p.ready.kept; fresh = p.ready.fresh } };
 }

@@ -3,7 +3,7 @@ pub mod CellWorlds
 pub mod Images
 pub mod OrderLaws
 pub mod Reloaded
-pub mod Reloading
+pub mod FoundReload
 mod ReloadExamples
 pub mod Outs
 pub mod Systems

@@ -1,8 +1,7 @@
 -- Worked examples: which alarms go on after a reload, with what, and why a reload is refused.
 use Rattle.std.proofs.Common.{◌≡◌, ℕ, Bool, true, false, List, [], ◌∷◌, None, Some, Ok, Err, refl}
-use Rattle.std.specs.Prelude.{Option, codes}
+use Rattle.std.specs.Prelude.{codes}
 use Rattle.alarm_machine.specs.Alarms.{PlainAlarm}
-use Rattle.alarm_machine.specs.declared.states.AlarmState.{AlarmState}
 use Rattle.alarm_machine.specs.declared.states.AlarmState.TheVariants as state
 use Rattle.plant_file.specs.declared.console.Console.{Console}
 use Rattle.plant_logic.specs.Source.{Source}

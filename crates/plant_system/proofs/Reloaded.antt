@@ -1,13 +1,12 @@
 -- What a reload leaves of what is kept is what the system has after it.
 use Rattle.std.proofs.Common.{◌≡◌, ℕ, ◌+◌, ◌<◌, ◌≤◌, Bool, true, false, ◌&&◌, if◌then◌else◌, List, [], ◌∷◌, length, map, All, ap, refl, sym, ◌∙◌, subst, arith, Option, Some, None}
-use Rattle.std.specs.Prelude.{nat_le, nat_lt, slice_get}
+use Rattle.std.specs.Prelude.{nat_le, slice_get}
 use Rattle.std.specs.Option.{option_map_or, option_and_then}
 use Rattle.std.proofs.lemmas.Option.{slice_get_within}
 use Rattle.std.proofs.lemmas.List.{length-map}
 use Rattle.std.proofs.lemmas.List.Elements.{All-head, All-tail}
 use Rattle.std.proofs.lemmas.Bool.Decides.{nat_tests}
 use Rattle.alarm_machine.specs.declared.limits.TheConstants.{LONGEST_SHELVE_MS}
-use Rattle.alarm_bank.specs.declared.rows.NewAlarm.{NewAlarm}
 use Rattle.alarm_bank.specs.declared.rows.Site.{Site}
 use Rattle.alarm_bank.specs.Banks.{PlainBank}
 use Rattle.alarm_bank.specs.Reloads.{alarm_of, all_fit, bank_reloaded, is_there, sites_of as sites_of_news}
@@ -37,7 +36,7 @@ if_there n count false h = refl
 alike_there : (rows : List AlarmRow) (row : AlarmRow) (n : ℕ) (found : Option AlarmRow) → slice_get rows n ≡ found
     → is_there (length rows) (if option_map_or (λ (was : AlarmRow). latch_alike was.latching row.latching) found false then Some n else None) ≡ true
 alike_there rows row n None at = refl
-alike_there rows row n (Some was) at = if_there n (length rows) (latch_alike was.latching row.latching) (slice_get_within rows n at)
+alike_there rows row n (Some was) at = if_there n (length rows) (latch_alike was.latching row.latching) (slice_get_within rows n was at)
 
 found_there : (rows : List AlarmRow) (row : AlarmRow) (o : Option ℕ) → is_there (length rows) (option_and_then (if_alike rows row) o) ≡ true
 found_there rows row None = refl

@@ -47,7 +47,6 @@ use Rattle.alarm_delays.specs.Delays.{PlainDelays, after_conditions, after_met, 
 use Rattle.alarm_delays.proofs.DelayLaws.{length_scans}
 use Rattle.plant_types.specs.Values.{is_true}
 use Rattle.plant_system.proofs.Watches.{delays_by, kept_watched, step_watched}
-use Rattle.plant_system.specs.Watches.{watches_of}
 use Rattle.plant_system.specs.Reports.{PlainReport}
 use Rattle.plant_system.specs.States.{PlainState, PlainScanEffect, PlainPreparedOrder, after_effect, delays_in, unscanned, IsState, IsReport}
 use Rattle.scan_logic.specs.Runs.{ProgramsRan}

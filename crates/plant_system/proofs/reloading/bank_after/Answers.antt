@@ -1,9 +1,6 @@
-use Rattle.std.proofs.Common.{◌≡◌, length, ap, sym, ◌∙◌, subst, true, arith, List, All}
+use Rattle.std.proofs.Common.{arith}
 use Rattle.std.proofs.lemmas.List.{length-map}
-use Rattle.alarm_bank.specs.declared.rows.NewAlarm.{NewAlarm}
-use Rattle.alarm_bank.specs.Banks.{IsSite}
-use Rattle.alarm_bank.specs.Reloads.{all_fit, sites_of}
-use Rattle.plant_system.specs.Reloads.{new_of, news_of}
+use Rattle.plant_system.specs.Reloads.{new_of}
 use Rattle.plant_system.proofs.Reloaded.{news_fit, news_sites}
 use Rattle.plant_system.proofs.Systems.{sites_there}
 use Rattle.plant_system.proofs.reloading.bank_after.Goals as goal

@@ -1,7 +1,7 @@
-use Rattle.std.proofs.Common.{List, ◌++◌, [], ◌∷◌, map, drop, ◌+◌, ap, sym, ◌∙◌}
+use Rattle.std.proofs.Common.{List, ◌++◌, map, drop, ◌+◌, ap, sym, ◌∙◌}
 use Rattle.alarm_bank.specs.declared.rows.NewAlarm.{NewAlarm}
 use Rattle.plant_system.specs.Reloads.{new_of}
-use Rattle.plant_system.proofs.Reloading.{made_next}
+use Rattle.plant_system.proofs.FoundReload.{made_next}
 use Rattle.plant_system.proofs.reloads.news_of.Goals as goal
 
 pub loop-alarm-preserved : goal.loop-alarm-preserved

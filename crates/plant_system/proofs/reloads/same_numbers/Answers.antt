@@ -1,8 +1,8 @@
-use Rattle.std.proofs.Common.{◌≡◌, sym, arith}
+use Rattle.std.proofs.Common.{sym, arith}
 use Rattle.std.proofs.lemmas.List.{length-map}
 use Rattle.plant_file.specs.declared.console.Console.{Console}
 use Rattle.plant_system.specs.Reloads.{numbers_of}
-use Rattle.plant_system.proofs.Reloading.{numbers_apart}
+use Rattle.plant_system.proofs.FoundReload.{numbers_apart}
 use Rattle.plant_system.proofs.reloads.same_numbers.Goals as goal
 
 pub returns-then-old-new : goal.returns-then-old-new

@@ -1,9 +1,7 @@
-use Rattle.std.proofs.Common.{◌≡◌, ◌∙◌, ap, arith, length, map, replicate, refl, ℕ, suc, List, [], ◌∷◌, Option, None, sym}
+use Rattle.std.proofs.Common.{◌≡◌, ◌∙◌, ap, arith}
 use Rattle.std.proofs.lemmas.List.{length-map}
 use Rattle.plant_config.specs.declared.rows.AlarmRow.{AlarmRow}
-use Rattle.alarm_delays.specs.Delays.{since_of}
-use Rattle.plant_system.specs.System.{delays_of, no_scans}
-use Rattle.plant_system.specs.States.{delays_in}
+use Rattle.plant_system.specs.System.{delays_of}
 use Rattle.plant_system.proofs.Watches.{if_ok, opening_kept}
 use Rattle.plant_system.proofs.state.opening_delays.Goals as goal
 

@@ -1,4 +1,4 @@
-use Rattle.std.proofs.Common.{◌≡◌, subst}
+use Rattle.std.proofs.Common.{subst, sym}
 use Rattle.plant_logic.specs.Source.{Source}
 use Rattle.plant_logic.specs.Worlds.{opening}
 use Rattle.block_frames.specs.Stands.{StandFor}
@@ -18,7 +18,7 @@ returns-clause-state c =
     if_ok _ _ c.state_with.result (λ (made : PlainState) is. let P : PlainState → Type 0 = IsState (opening_system plant) in subst P (sym is) agrees) c.state_with.ensures
 
 pub returns-clause-is_plant : goal.returns-clause-is_plant
-returns-clause-is_plant c = c.logic.ensures.plant
+returns-clause-is_plant c = if_ok _ _ c.state_with.result (λ made is. c.logic.ensures.plant) c.state_with.ensures
 
 pub state_with-requires : goal.state_with-requires
 state_with-requires c =
