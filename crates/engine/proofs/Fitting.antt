@@ -1,5 +1,5 @@
 -- When what was made ready fits an engine, and what an engine holds before the first event and after an order.
-use Rattle.std.proofs.Common.{◌≡◌, ℕ, ◌+◌, ◌<◌, ◌≤◌, List, [], ◌∷◌, ◌++◌, length, ap, sym, ◌∙◌, subst, Ok}
+use Rattle.std.proofs.Common.{◌≡◌, ℕ, ◌+◌, ◌<◌, ◌≤◌, List, [], ◌∷◌, ◌++◌, length, All, ap, sym, ◌∙◌, subst, Ok, arith}
 use Rattle.std.proofs.lemmas.List.Elements.{All-nil}
 use Rattle.plant_types.specs.Pairs.{PlainPair}
 use Rattle.journal_core.specs.declared.row.Row.{Row}
@@ -20,7 +20,7 @@ use Rattle.plant_system.proofs.FoundReload.{reload_found}
 use Rattle.plant_system.proofs.Systems.{system_events, system_next, system_reloads, system_none, system_scans, kept_alarms, scan_agrees, scan_reports, scan_event_is, effect_anywhere, order_steps, order_event_room}
 use Rattle.engine.specs.Lawful.{IsTaken}
 use Rattle.engine.specs.Engines.{PlainEngine, Fits, FitsOrder, FitsReload, IsEngine, state_of}
-use Rattle.engine.specs.Journal.{journal_of}
+use Rattle.engine.specs.Journal.{IsJournal, journal_of, row_plants}
 use Rattle.engine.specs.RowNames.{HaveNames}
 use Rattle.engine.proofs.Journals.{journal_empty, plants_none}
 use Rattle.engine.proofs.Names.{names_none}
@@ -102,6 +102,19 @@ opening_engine plant k is held = record {
   plant_is = is;
   lawful = lawful_none plant;
   journal = journal_empty plant;
-  names = subst (λ (plants : List PlainPlant). HaveNames plants [] [] plant) (sym (plants_none plant)) (names_none plant);
+  have_names = subst (λ (plants : List PlainPlant). HaveNames plants [] [] plant) (sym (plants_none plant)) (names_none plant);
   until = All-nil (λ (row : Row). row.moment ≤ k.moment);
+}
+
+-- an engine whose rows are as they were, and of which more names are kept
+pub engine_named : (began plant : PlainPlant) (history : List Event) (rows new : List Row) (k : PlainState) (names more : List (List ℕ)) → IsEngine began history rows k plant names → new ≡ rows
+    → ((plants : List PlainPlant) → HaveNames plants new names plant → HaveNames plants new more plant) → IsEngine began history new k plant more
+engine_named began plant history rows new k names more is same keeps = record {
+  state_is = is.state_is;
+  present = is.present;
+  plant_is = is.plant_is;
+  lawful = is.lawful;
+  journal = subst (IsJournal began history) (sym same) is.journal;
+  have_names = keeps (row_plants began history) (subst (λ (l : List Row). HaveNames (row_plants began history) l names plant) (sym same) is.have_names);
+  until = subst (All (λ (row : Row). row.moment ≤ k.moment)) (sym same) is.until;
 }

@@ -1,6 +1,7 @@
 -- The names of rows go on by those of each event.
-use Rattle.std.proofs.Common.{◌≡◌, ℕ, zero, suc, ◌+◌, ◌-◌, ◌<◌, ◌≤◌, List, [], ◌∷◌, ◌++◌, length, length-append, replicate, refl, ap, sym, ◌∙◌, subst, append_assoc, append-nil, arith, inl, inr, Some}
+use Rattle.std.proofs.Common.{◌≡◌, ℕ, zero, suc, ◌+◌, ◌-◌, ◌<◌, ◌≤◌, List, [], ◌∷◌, ◌++◌, length, length-append, replicate, All, refl, ap, sym, ◌∙◌, subst, append_assoc, append-nil, arith, inl, inr, Some}
 use Rattle.std.specs.Prelude.{slice_get}
+use Rattle.std.proofs.lemmas.List.Elements.{All-head, All-tail}
 use Rattle.std.proofs.lemmas.Option.{same_Some, slice_get_cases, slice_get_within}
 use Rattle.plant_config.specs.Plants.{PlainPlant}
 use Rattle.journal_core.specs.declared.row.Entry.{Entry}
@@ -11,7 +12,7 @@ use Rattle.event_history.specs.declared.event.Event.{Event}
 use Rattle.plant_system.specs.System.{system}
 use Rattle.journal_core.specs.Bodies.{row_text}
 use Rattle.engine.specs.Journal.{AreNamed, IsJournal, IsLine, IsNamed, added_entries, journal_of, name_of, named_row, row_plants}
-use Rattle.engine.specs.RowNames.{HaveNames, HaveOtherNames}
+use Rattle.engine.specs.RowNames.{HaveNames}
 use Rattle.engine.proofs.Journals.{as_many_plants, get_named, plants_next, row_at}
 use Rattle.engine.proofs.NamedRows.{text_same}
 
@@ -45,7 +46,7 @@ pub names_more : (plants : List PlainPlant) (rows more : List Row) (names : List
 names_more plants rows more names present m many named have =
     let both = length-append rows more in
     let older : (n : ℕ) (plant : PlainPlant) → n < length plants → slice_get (plants ++ replicate m present) n ≡ Some plant → slice_get plants n ≡ Some plant =
-        λ n plant within at. sym (of_first plants (replicate m present) n within) ∙ at
+    λ n plant within at. sym (of_first plants (replicate m present) n within) ∙ at
     in
     let old : (n : ℕ) (row : Row) → n < length rows → slice_get (rows ++ more) n ≡ Some row → slice_get rows n ≡ Some row = λ n row within at. sym (of_first rows more n within) ∙ at in
     record {
@@ -53,11 +54,11 @@ names_more plants rows more names present m many named have =
       kept = λ n plant row plant_at row_at within.
           have.kept n plant row (older n plant (omega (arith, within, have.few, many)) plant_at) (old n row (omega (arith, within, have.few)) row_at) within;
       others = λ n plant row plant_at row_at behind. elim (slice_get_cases plants n).1 [
-        | inl there ↦ have.others n plant row (older n plant there.0 plant_at) (old n row (omega (arith, there.0, many)) row_at) behind
+        | inl there ↦ have.others n plant row (older n plant there.1 plant_at) (old n row (omega (arith, there.1, many)) row_at) behind
         | inr over ↦ ap (λ (p : PlainPlant). name_of p row.entry) (of_second plants m n present plant over.0 plant_at)
       ];
       named = λ n row row_at behind. elim (slice_get_cases rows n).1 [
-        | inl there ↦ have.named n row (old n row there.0 row_at) behind
+        | inl there ↦ have.named n row (old n row there.1 row_at) behind
         | inr over ↦ let got = get_named (plants ++ replicate m present) (rows ++ more) n row named row_at in
             subst (λ (p : PlainPlant). IsNamed p row.entry) (sym (of_second plants m n present got.0 (omega (arith, over.0, many)) got.1)) got.3
       ];
@@ -72,7 +73,7 @@ event_names plant history e now names moment log entries own held then have =
     let next : row_plants plant (history ++ e ∷ []) ≡ plants ++ replicate m now = plants_next plant history e ∙ ap (λ (p : PlainPlant). plants ++ replicate m p) own in
     let more = rows_more moment log entries in
     let named : AreNamed (plants ++ replicate m now) (log.rows ++ more.0) =
-        subst (λ (rows : List Row). AreNamed (plants ++ replicate m now) rows) more.1 (subst (λ (l : List PlainPlant). AreNamed l (after_entries moment log entries).rows) next then.named)
+    subst (λ (rows : List Row). AreNamed (plants ++ replicate m now) rows) more.1 (subst (λ (l : List PlainPlant). AreNamed l (after_entries moment log entries).rows) next then.named)
     in
     subst (λ (l : List PlainPlant). HaveNames l (after_entries moment log entries).rows names now) (sym next)
     (subst (λ (rows : List Row). HaveNames (plants ++ replicate m now) rows names now) (sym more.1)
@@ -109,7 +110,7 @@ name_kept plants rows names name present row at is have =
     record {
       few = omega (arith, more, within);
       kept = λ n plant other plant_at row_at before. elim (slice_get_cases names n).1 [
-        | inl there ↦ of_first names (name ∷ []) n there.0 ∙ have.kept n plant other plant_at row_at there.0
+        | inl there ↦ of_first names (name ∷ []) n there.1 ∙ have.kept n plant other plant_at row_at there.1
         | inr over ↦ let here : length names ≡ n = omega (arith, over.0, before, more) in
             let same : row ≡ other = same_Some row other (sym at ∙ ap (slice_get rows) here ∙ row_at) in
             ap (slice_get (names ++ name ∷ [])) (sym here) ∙ at_end names name ∙ ap Some (is ∙ ap (λ (r : Row). name_of present r.entry) same ∙ have.others n plant other plant_at row_at over.0)
@@ -136,3 +137,12 @@ pub other_line : (plant : PlainPlant) (history : List Event) (rows : List Row) (
 other_line plant history rows names present epoch number row text held have at behind is =
     let got = row_at plant history rows (number - 1) row held at in
     record { row = named_row got.0 row; row_is = got.2; text_is = is ∙ ap (row_text epoch row) (have.others (number - 1) got.0 row got.1 at behind) ∙ text_same epoch got.0 row }
+
+-- a row isn't later than all of them may be
+pub row_until : (rows : List Row) (m last n : ℕ) (row : Row) → All (λ row. row.moment ≤ m) rows → m ≤ last → slice_get rows n ≡ Some row → row.moment ≤ last
+row_until [] m last n row until late at = absurd (cc (at))
+row_until (r ∷ rows) m last zero row until late at =
+    let same : r ≡ row = same_Some r row at in
+    let early : r.moment ≤ m = All-head (λ (x : Row). x.moment ≤ m) r rows until in
+    subst (λ (x : Row). x.moment ≤ last) same (omega (arith, early, late))
+row_until (r ∷ rows) m last (suc n) row until late at = row_until rows m last n row (All-tail (λ (x : Row). x.moment ≤ m) r rows until) late at

@@ -98,5 +98,5 @@ pub record IsEngine (began : PlainPlant) (history : List Event) (rows : List Row
   pub plant_is : IsPlant began
   pub lawful : IsLawfulHistory began history
   pub journal : IsJournal began history rows
-  pub names : HaveNames (row_plants began history) rows names plant
+  pub have_names : HaveNames (row_plants began history) rows names plant
   pub until : All (λ row. row.moment ≤ k.moment) rows

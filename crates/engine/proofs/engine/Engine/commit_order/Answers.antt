@@ -15,7 +15,10 @@ use Rattle.engine.proofs.engine.Engine.commit_order.Goals as goal
 pub invariant_of-self : goal.invariant_of-self
 invariant_of-self c =
     let fits = rw (← c.self.view_is, ← c.prepared.view_is) at c.requires in
-    rw (c.push.ensures, c.apply.ensures, c.push_order.ensures) ((record { state_is = order_agrees _ _ _ c.self.invariant.0.state_is fits; plant_is = c.self.invariant.0.plant_is; lawful = lawful_next _ _ _ c.self.invariant.0.lawful fits.taken; present = order_present _ c.prepared.inside c.self.inside.plant c.self.invariant.0.present; journal = order_committed _ _ _ c.self.inside.log c.self.invariant.0.state_is fits c.self.invariant.0.journal; names = order_names _ c.prepared.inside c.self.inside.state c.self.inside.plant c.self.inside.names c.self.inside.log c.self.invariant.0.state_is fits c.self.invariant.0.present c.self.invariant.0.journal c.self.invariant.0.names; until = order_until _ c.self.inside.log c.prepared.inside.console c.prepared.inside.order c.prepared.inside.done c.self.inside.state.alarms c.self.invariant.0.until }, c.self.invariant.1))
+    let own = c.prepared.inside in
+    let p : PlainPreparedOrder = record { console = own.console; order = own.order; done = own.done; reply = own.reply } in
+    let e : PlainEngine = record { plant = c.self.inside.began; history = c.self.inside.history; row_room = c.self.inside.log.room; named = length c.self.inside.names } in
+    rw (c.push.ensures, c.apply.ensures, c.push_order.ensures) ((record { state_is = order_agrees _ _ _ c.self.invariant.0.state_is fits; plant_is = c.self.invariant.0.plant_is; lawful = lawful_next _ _ _ c.self.invariant.0.lawful fits.taken; present = order_present e p c.self.inside.plant c.self.invariant.0.present; journal = order_committed _ _ _ c.self.inside.log c.self.invariant.0.state_is fits c.self.invariant.0.journal; have_names = order_names e p c.self.inside.state c.self.inside.plant c.self.inside.names c.self.inside.log c.self.invariant.0.state_is fits c.self.invariant.0.present c.self.invariant.0.journal c.self.invariant.0.have_names; until = order_until _ c.self.inside.log c.prepared.inside.console c.prepared.inside.order c.prepared.inside.done c.self.inside.state.alarms c.self.invariant.0.until }, c.self.invariant.1))
 
 pub push_order-requires-clause-in_order : goal.push_order-requires-clause-in_order
 push_order-requires-clause-in_order c = last_below c.self.inside.state.moment c.self.inside.log.rows c.self.invariant.0.until

@@ -15,7 +15,7 @@ invariant_of-self c =
         lawful = lawful_next _ _ _ c.self.invariant.0.lawful fits.taken;
         present = scan_present _ _ c.self.inside.plant fits c.self.invariant.0.present;
         journal = scan_committed _ _ c.self.inside.log fits c.self.invariant.0.journal;
-        names = scan_names _ _ c.self.inside.plant c.self.inside.names c.self.inside.log fits c.self.invariant.0.present c.self.invariant.0.journal c.self.invariant.0.names;
+        have_names = scan_names _ _ c.self.inside.plant c.self.inside.names c.self.inside.log fits c.self.invariant.0.present c.self.invariant.0.journal c.self.invariant.0.have_names;
         until = scan_until _ _ k c.self.inside.log fits c.self.invariant.0.state_is c.self.invariant.0.until;
       },
       c.self.invariant.1,
