@@ -245,7 +245,8 @@ class Server:
             preset = self.values.get(below + ("pt",), 0)
             self.calls[below].add(statement.block, bool(self.values[below + (on,)]), preset, moment)
         else:
-            self.run(self.plant.blocks[statement.block], below, f"{printed}.{statement.instance}", moment)
+            declared = next(name for name, _ in routine.instances if name.lower() == statement.instance.lower())
+            self.run(self.plant.blocks[statement.block], below, f"{printed}.{declared}", moment)
         for name, taken in statement.arguments:
             if isinstance(taken, tuple):
                 output = self.read(path, ("output", statement.instance.lower(), name.lower()))
