@@ -33,8 +33,14 @@ pub struct Ends<F, S, L> {
     pub listener: L,
 }
 
-/// Serves a plant from its first event to the end of the input.
-fn serve_plant<H: Threads + Wait + Sync, C: Crew<Job, Start, Done, H>, F: Feed, S: Sink, L>(
+/// Serves a plant from its first event to the end of the input. The listener hears of each plant that is handed in to take its place.
+fn serve_plant<
+    H: Threads + Wait + Sync,
+    C: Crew<Job, Start, Done, H>,
+    F: Feed,
+    S: Sink,
+    L: Listener,
+>(
     rt: &H,
     alloc: Global,
     crew: &mut C,
@@ -53,7 +59,15 @@ fn serve_plant<H: Threads + Wait + Sync, C: Crew<Job, Start, Done, H>, F: Feed, 
     match Engine::new(alloc, plant) {
         Ok(engine) => {
             let mut engine = engine;
-            let ended = serve(rt, alloc, &mut engine, crew, &mut ends.feed, &mut ends.sink);
+            let ended = serve(
+                rt,
+                alloc,
+                &mut engine,
+                crew,
+                &mut ends.feed,
+                &mut ends.sink,
+                &mut ends.listener,
+            );
             drop(engine);
             ended
         }
@@ -62,7 +76,8 @@ fn serve_plant<H: Threads + Wait + Sync, C: Crew<Job, Start, Done, H>, F: Feed, 
 }
 
 /// Reads a plant from its texts, as `admit` does, and serves it to the end of the input, its programs run by the crew; or writes the line of
-/// its refusal. The listener hears of the plant before anything is read or written.
+/// its refusal. The listener hears of the plant before anything is read or written, and of each that is handed in to take its place before the answer to
+/// that is written.
 ///
 /// After `Served` what was written is exactly the text that belongs to the plant and to the bytes that were read, whatever the crew, and after
 /// `Refused` exactly the line of the refusal. Returns `Memory` only where an allocation failed, and `Read`, `Write` and `Crew` only where the

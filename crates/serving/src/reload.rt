@@ -16,7 +16,7 @@ use byte_streams::Sink;
 use command_text::{TextSizes, push_refused, push_reloaded};
 use engine::{Engine, EngineFault};
 use plant_config::{ConfigFault, Files, Plant};
-use plant_folder::{Deaf, PlantTexts, verdict};
+use plant_folder::{Listener, PlantTexts, verdict};
 use plant_types::{Items, Text};
 use serve_faults::{ServeFault, put_all};
 use std::alloc::{AllocError, Global};
@@ -100,19 +100,20 @@ fn reload_plant(
 }
 
 /// Reloads the plant of texts, or says why there is none, and appends the answer. It fails where an allocation failed: before the plant was reloaded
-/// or after it.
-fn reload_texts<H: Threads + Sync>(
+/// or after it. The listener hears of the plant first.
+fn reload_texts<H: Threads + Sync, L: Listener>(
     rt: &H,
     alloc: Global,
     engine: &mut Engine,
     text: &mut Vec<u8>,
     texts: &PlantTexts<'_>,
+    listener: &mut L,
 ) -> Result<(), AllocError>
     ensures plant { engine.new.plant ≡ engine.old.plant }
     ensures ok { OnOk result (HasReloaded texts.now engine.old engine.new text.old.items text.new.items) }
     ensures err { OnErr result (MayHaveReloaded texts.now engine.old engine.new) }
 {
-    match verdict(rt, alloc, texts, &mut Deaf)? {
+    match verdict(rt, alloc, texts, listener)? {
         (Some(plant), _) => reload_plant(alloc, engine, text, plant),
         (None, line) => text.extend_from_slice(line.as_bytes()),
     }
@@ -120,13 +121,14 @@ fn reload_texts<H: Threads + Sync>(
 
 /// Reloads the plant whose texts a body has, and writes the answer over a text. It fails where an allocation failed: before the plant was reloaded or
 /// after it.
-fn reload_body<H: Threads + Sync>(
+fn reload_body<H: Threads + Sync, L: Listener>(
     rt: &H,
     alloc: Global,
     engine: &mut Engine,
     text: &mut Vec<u8>,
     sizes: &TextSizes,
     body: &[u8],
+    listener: &mut L,
 ) -> Result<(), AllocError>
     ensures plant { engine.new.plant ≡ engine.old.plant }
     ensures ok { OnOk result (IsReload engine.old.plant engine.old.history sizes.now body.now engine.new.history text.new.items) }
@@ -146,11 +148,11 @@ fn reload_body<H: Threads + Sync>(
         sources: sources.as_slice(),
         alarms,
     };
-    reload_texts(rt, alloc, engine, text, &texts)
+    reload_texts(rt, alloc, engine, text, &texts, listener)
 }
 
-/// Answers a `reload` of these sizes, with the bytes that came after its line.
-pub(crate) fn answer_reload<H: Threads + Sync, S: Sink>(
+/// Answers a `reload` of these sizes, with the bytes that came after its line. A listener hears of the plant that they are, before the answer is written.
+pub(crate) fn answer_reload<H: Threads + Sync, S: Sink, L: Listener>(
     rt: &H,
     alloc: Global,
     engine: &mut Engine,
@@ -158,12 +160,13 @@ pub(crate) fn answer_reload<H: Threads + Sync, S: Sink>(
     text: &mut Vec<u8>,
     sizes: &TextSizes,
     body: &[u8],
+    listener: &mut L,
 ) -> Result<(), ServeFault>
     ensures continues { Continues result engine.old engine.new (S.broken sink.old) (S.broken sink.new) }
     ensures crew { is_crew result ≡ false }
     ensures serves { (request : Request) (line : List ℕ) → reload_sizes line ≡ Some sizes.now → AsksAlike (record { line = line; body = body.now }) request
         → Serves result (request ∷ []) engine.old engine.new (S.written sink.old) (S.written sink.new) }
 {
-    reload_body(rt, alloc, engine, text, sizes, body)?;
+    reload_body(rt, alloc, engine, text, sizes, body, listener)?;
     put_all(sink, text.as_slice())
 }

@@ -12,6 +12,7 @@ use byte_streams::{Feed, Sink, empty_piece, fill};
 use command_answers::{Said, answer_line, write_journal, write_list};
 use command_text::{Pool, reload_sizes};
 use engine::{Crew, Done, Engine, Job, Start};
+use plant_folder::Listener;
 use requests::{Ended, Held, Splitter, Taken};
 use serve_faults::{ServeFault, put_all};
 use std::alloc::{AllocError, Global};
@@ -57,13 +58,14 @@ struct Kept {
 
 impl Kept {
     /// Answers a request of which bytes were held.
-    fn answer_held<H: Threads + Sync, C: Crew<Job, Start, Done, H>, S: Sink>(
+    fn answer_held<H: Threads + Sync, C: Crew<Job, Start, Done, H>, S: Sink, L: Listener>(
         &mut self,
         rt: &H,
         engine: &mut Engine,
         crew: &mut C,
         sink: &mut S,
         held: &Held,
+        listener: &mut L,
     ) -> Result<(), ServeFault>
         requires asked { C.asks }
         ensures continues { Continues result engine.old engine.new (S.broken sink.old) (S.broken sink.new) }
@@ -82,6 +84,7 @@ impl Kept {
                 &mut self.text,
                 &sizes,
                 body,
+                listener,
             ),
             None => answer(
                 rt,
@@ -97,13 +100,14 @@ impl Kept {
     }
 
     /// Answers the request that ended, if one did.
-    fn answer_ended<H: Threads + Sync, C: Crew<Job, Start, Done, H>, S: Sink>(
+    fn answer_ended<H: Threads + Sync, C: Crew<Job, Start, Done, H>, S: Sink, L: Listener>(
         &mut self,
         rt: &H,
         engine: &mut Engine,
         crew: &mut C,
         sink: &mut S,
         ended: Ended<'_>,
+        listener: &mut L,
     ) -> Result<(), ServeFault>
         requires asked { C.asks }
         requires plain { IsPlain ended }
@@ -125,18 +129,19 @@ impl Kept {
                 &mut self.text,
                 line,
             ),
-            Ended::Held(held) => self.answer_held(rt, engine, crew, sink, &held),
+            Ended::Held(held) => self.answer_held(rt, engine, crew, sink, &held, listener),
         }
     }
 
     /// Takes a piece of the input: answers the requests that end in it, and holds what follows the last of them.
-    fn take_piece<H: Threads + Sync, C: Crew<Job, Start, Done, H>, S: Sink>(
+    fn take_piece<H: Threads + Sync, C: Crew<Job, Start, Done, H>, S: Sink, L: Listener>(
         &mut self,
         rt: &H,
         engine: &mut Engine,
         crew: &mut C,
         sink: &mut S,
         piece: &[u8],
+        listener: &mut L,
     ) -> Result<(), ServeFault>
         requires asked { C.asks }
         ensures continues { Continues result engine.old engine.new (S.broken sink.old) (S.broken sink.new) }
@@ -148,19 +153,20 @@ impl Kept {
         while !rest.is_empty() {
             let taken = self.splitter.take(rest)?;
             let Taken { ended, rest: after } = taken;
-            self.answer_ended(rt, engine, crew, sink, ended)?;
+            self.answer_ended(rt, engine, crew, sink, ended, listener)?;
             rest = after;
         }
         Ok(())
     }
 
     /// Answers the last request of the input, which hasn't ended; there is none if nothing is held.
-    fn take_end<H: Threads + Sync, C: Crew<Job, Start, Done, H>, S: Sink>(
+    fn take_end<H: Threads + Sync, C: Crew<Job, Start, Done, H>, S: Sink, L: Listener>(
         &mut self,
         rt: &H,
         engine: &mut Engine,
         crew: &mut C,
         sink: &mut S,
+        listener: &mut L,
     ) -> Result<(), ServeFault>
         requires asked { C.asks }
         ensures continues { Continues result engine.old engine.new (S.broken sink.old) (S.broken sink.new) }
@@ -170,7 +176,7 @@ impl Kept {
             → Serves result (last_request begun) engine.old engine.new (S.written sink.old) (S.written sink.new) }
     {
         match self.splitter.end() {
-            Some(held) => self.answer_held(rt, engine, crew, sink, &held),
+            Some(held) => self.answer_held(rt, engine, crew, sink, &held, listener),
             None => Ok(()),
         }
     }
@@ -224,18 +230,20 @@ impl Session {
     }
 
     /// Reads once, and answers each request that ends in what was read before the next takes effect; at the end of the input it answers
-    /// the last one. Whenever a step has returned `Ok`, what was written is exactly the text for all requests that have ended so far.
+    /// the last one. Whenever a step has returned `Ok`, what was written is exactly the text for all requests that have ended so far. The listener hears of
+    /// each plant that is handed in, before its answer is written.
     ///
     /// Returns `Memory` only where an allocation failed, and `Read`, `Write` and `Crew` only where the feed, the sink or the crew failed in this
     /// call. After an error a beginning of the requests took effect, and the session is of no more use. It waits where its feed or its crew
     /// waits.
-    pub fn step<H: Threads + Sync, C: Crew<Job, Start, Done, H>, F: Feed, S: Sink>(
+    pub fn step<H: Threads + Sync, C: Crew<Job, Start, Done, H>, F: Feed, S: Sink, L: Listener>(
         &mut self,
         rt: &H,
         engine: &mut Engine,
         crew: &mut C,
         feed: &mut F,
         sink: &mut S,
+        listener: &mut L,
     ) -> Result<Step, ServeFault>
         requires asked { C.asks }
         requires feed { F.broken feed.old ≡ false }
@@ -256,17 +264,17 @@ impl Session {
             return Err(ServeFault::Read);
         };
         if n == 0 {
-            self.kept.take_end(rt, engine, crew, sink)?;
+            self.kept.take_end(rt, engine, crew, sink, listener)?;
             return Ok(Step::Ended);
         }
         let (now, _) = self.piece.as_slice().split_at(n);
-        self.kept.take_piece(rt, engine, crew, sink, now)?;
+        self.kept.take_piece(rt, engine, crew, sink, now, listener)?;
         Ok(Step::More)
     }
 }
 
 /// Answers the requests of a feed until its end, step by step. Each answer is written before the next request takes effect and before more
-/// is read.
+/// is read. The listener hears of each plant that is handed in, before its answer is written.
 ///
 /// Returns `Memory` only where an allocation failed, and `Read`, `Write` and `Crew` only where the feed, the sink or the crew failed in this
 /// call.
@@ -274,13 +282,20 @@ impl Session {
 /// The clauses hold where `serve` returns: it waits where its feed or its crew waits, perhaps forever. What they say of bytes holds for a feed and a
 /// sink that tell theirs (`remaining`, `written`), as those in memory do; of standard input and output no contract can say which bytes they
 /// give and take.
-pub fn serve<H: Threads + Wait + Sync, C: Crew<Job, Start, Done, H>, F: Feed, S: Sink>(
+pub fn serve<
+    H: Threads + Wait + Sync,
+    C: Crew<Job, Start, Done, H>,
+    F: Feed,
+    S: Sink,
+    L: Listener,
+>(
     rt: &H,
     alloc: Global,
     engine: &mut Engine,
     crew: &mut C,
     feed: &mut F,
     sink: &mut S,
+    listener: &mut L,
 ) -> Result<(), ServeFault>
     requires asked { C.asks }
     requires feed { F.broken feed.old ≡ false }
@@ -305,7 +320,7 @@ pub fn serve<H: Threads + Wait + Sync, C: Crew<Job, Start, Done, H>, F: Feed, S:
 {
     let mut session = Session::new(alloc)?;
     for _ in rt.forever() {
-        match session.step(rt, engine, crew, feed, sink)? {
+        match session.step(rt, engine, crew, feed, sink, listener)? {
             Step::More => {}
             Step::Ended => return Ok(()),
         }

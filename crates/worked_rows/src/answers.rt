@@ -2,7 +2,7 @@
 
 use engine::{Crew, Done, Engine, Job, Start};
 use plant_config::Plant;
-use plant_service::{Feed, Reading, ServeFault, Sink, Writing, serve};
+use plant_service::{Deaf, Feed, Reading, ServeFault, Sink, Writing, serve};
 use row_text::Page;
 use std::alloc::Global;
 use std::sync::Wait;
@@ -29,7 +29,7 @@ fn served<H: Threads + Wait + Sync, C: Crew<Job, Start, Done, H>>(
 {
     let mut feed = Reading::new(input);
     let mut sink = Writing::new(Vec::new(alloc));
-    serve(rt, alloc, engine, crew, &mut feed, &mut sink)?;
+    serve(rt, alloc, engine, crew, &mut feed, &mut sink, &mut Deaf)?;
     if feed.failed() || sink.failed() {
         return Err(ServeFault::Read);
     }

@@ -4,7 +4,7 @@ ghost use Rattle.std.specs.Prelude.{◌≡◌, false};
 
 use engine::{Crew, Done, Engine, Job, Start};
 use plant_config::Plant;
-use plant_service::{Failed, Feed, ServeFault, Sink, serve};
+use plant_service::{Deaf, Failed, Feed, ServeFault, Sink, serve};
 use row_text::Page;
 use std::alloc::{AllocError, Global};
 use std::sync::Wait;
@@ -123,7 +123,7 @@ fn served<H: Threads + Wait + Sync, C: Crew<Job, Start, Done, H>>(
         writes: ends.writes,
         broken: false,
     };
-    let outcome = match serve(rt, alloc, engine, crew, &mut feed, &mut sink) {
+    let outcome = match serve(rt, alloc, engine, crew, &mut feed, &mut sink, &mut Deaf) {
         Ok(()) => "DONE",
         Err(ServeFault::Memory) => return Err(AllocError),
         Err(fault) => fault.text(),
