@@ -3,11 +3,11 @@
 use plant_service::PlantTexts;
 use statement_places::told_of_fault;
 use std::alloc::{AllocError, Global};
-use std::cell::OnceCell;
+use std::cell::Cell;
 
 /// Copies of the names and texts of a plant's sources, which are let go before it is served.
 #[derive(Drop)]
-pub struct Copies {
+struct Copies {
     path: String,
     sources: Vec<(String, Vec<u8>)>,
 }
@@ -32,10 +32,38 @@ fn lent(alloc: Global, copies: &[(String, Vec<u8>)]) -> Result<Vec<(&str, &[u8])
     Ok(sources)
 }
 
-/// Keeps the sources of a plant that is served; nothing where memory is refused for them.
-pub fn keep_sources(alloc: Global, kept: &OnceCell<Copies>, texts: &PlantTexts<'_>) {
-    if let Ok(copies) = Copies::of(alloc, texts) {
-        let _ = kept.set(copies);
+/// The sources of the plant that is served, and those of an accepted one that may take its place. Where memory was refused for them there are none.
+#[derive(Drop)]
+pub struct KeptSources {
+    present: Cell<Option<Copies>>,
+    next: Cell<Option<Copies>>,
+}
+
+impl KeptSources {
+    /// None.
+    pub fn new() -> KeptSources {
+        KeptSources {
+            present: Cell::new(None),
+            next: Cell::new(None),
+        }
+    }
+
+    /// Keeps the sources of an accepted plant, which may come to be served.
+    pub fn keep(&self, alloc: Global, texts: &PlantTexts<'_>) {
+        self.next.set(Copies::of(alloc, texts).ok());
+    }
+
+    /// The plant that was accepted last is the one that is served.
+    pub fn take_place(&self) {
+        self.present.set(self.next.take());
+    }
+
+    /// What a person is told of a line FAULT: where its statement stands. `None` where the sources aren't kept, or memory is refused.
+    pub fn told_of_fault(&self, alloc: Global, line: &str) -> Option<String> {
+        let copies = self.present.take()?;
+        let told = copies.told_of_fault(alloc, line).ok();
+        self.present.set(Some(copies));
+        told
     }
 }
 
@@ -48,7 +76,7 @@ impl Copies {
     }
 
     /// What a person is told of a line FAULT: where its statement stands.
-    pub fn told_of_fault(&self, alloc: Global, line: &str) -> Result<String, AllocError> {
+    fn told_of_fault(&self, alloc: Global, line: &str) -> Result<String, AllocError> {
         let sources = lent(alloc, self.sources.as_slice())?;
         let texts = PlantTexts {
             path: self.path.as_str(),

@@ -2,21 +2,19 @@
 
 ghost use Rattle.std.specs.Prelude.{◌<◌, ◌≤◌};
 
-use crate::copies::{Copies, keep_sources};
+use crate::copies::KeptSources;
 use crate::crews::workers;
 use crate::example::{ALARMS, PLANT, PLANT_NAME, SOURCE, SOURCE_NAME};
-use crate::greeting::greet;
 use crate::prints::{stopped, stopped_by};
 use crate::telling::{OfAccepted, Telling};
 use crate::watching::{Looker, Watching};
 use command_line::Ended;
 use engine::{Alone, Crew, Done, Job, Start};
 use plant_service::{
-    Deaf, Disk, Ends, PlantFiles, PlantTexts, Reading, RunEnd, ServeFault, Writing, check_from,
+    Disk, Ends, PlantFiles, PlantTexts, Reading, RunEnd, ServeFault, Writing, check_from,
     run, run_from,
 };
 use std::alloc::Global;
-use std::cell::OnceCell;
 use std::io;
 use std::rt::{Files, Runtime};
 use std::sync::Wait;
@@ -81,7 +79,7 @@ pub fn check<R: Files + Print + Eprint + Threads + AllocGlobal + Sync>(
 }
 
 /// Who looks on at a terminal, to whom statements are shown from the sources that are kept.
-fn looker(alloc: Global, kept: &OnceCell<Copies>, is_terminal: bool) -> Option<Looker<'_>> {
+fn looker(alloc: Global, kept: &KeptSources, is_terminal: bool) -> Option<Looker<'_>> {
     if is_terminal {
         Some(Looker { alloc, kept })
     } else {
@@ -89,25 +87,29 @@ fn looker(alloc: Global, kept: &OnceCell<Copies>, is_terminal: bool) -> Option<L
     }
 }
 
-/// Serves the plant of a plant file's path over standard input and output, its programs run by the crew. A person is told why it is refused, and at a
-/// terminal, once it is accepted, how to begin.
+/// What a person is told of plants that are accepted and served: at a terminal how to begin, with a command that may be the first.
+fn of_served<'a>(kept: &'a KeptSources, first: &'static str, is_terminal: bool) -> OfAccepted<'a> {
+    if is_terminal {
+        OfAccepted::Greeting(kept, first)
+    } else {
+        OfAccepted::Nothing
+    }
+}
+
+/// Serves the plant of a plant file's path over standard input and output, its programs run by the crew. A person is told why it is refused, or one that is
+/// to take its place, and at a terminal, once it is accepted, how to begin.
 fn serve_by<
     R: Files + Input + Print + Eprint + Threads + Wait + AllocGlobal + Sync,
     C: Crew<Job, Start, Done, R>,
 >(rt: &R, crew: &mut C, path: &str, is_terminal: bool) -> Ended
     requires { C.asks }
 {
-    let kept = OnceCell::new();
-    let of_accepted = if is_terminal {
-        OfAccepted::Greeting(&kept)
-    } else {
-        OfAccepted::Nothing
-    };
+    let kept = KeptSources::new();
     let looker = looker(rt.alloc(), &kept, is_terminal);
     let mut ends = Ends {
         feed: Reading::new(rt.reader()),
         sink: Watching::new(rt, Writing::new(io::writer(rt)), looker),
-        listener: Telling::new(rt, of_accepted),
+        listener: Telling::new(rt, of_served(&kept, "scan 0", is_terminal)),
     };
     let files = PlantFiles {
         folder: &Disk { files: rt },
@@ -144,7 +146,7 @@ pub fn serve_files<R: Runtime + Threads + Wait + AllocGlobal + Send + Sync + 'st
 }
 
 /// Serves the example plant over standard input and output.
-pub fn serve_example<R: Input + Print + Eprint + Threads + Wait + AllocGlobal + Sync>(
+pub fn serve_example<R: Files + Input + Print + Eprint + Threads + Wait + AllocGlobal + Sync>(
     rt: &R,
     is_terminal: bool,
 ) -> Ended {
@@ -155,16 +157,12 @@ pub fn serve_example<R: Input + Print + Eprint + Threads + Wait + AllocGlobal + 
         sources: &sources,
         alarms: ALARMS,
     };
-    let kept = OnceCell::new();
-    if is_terminal {
-        keep_sources(rt.alloc(), &kept, &texts);
-        greet(rt, "scan 0 a=5");
-    }
+    let kept = KeptSources::new();
     let looker = looker(rt.alloc(), &kept, is_terminal);
     let mut ends = Ends {
         feed: Reading::new(rt.reader()),
         sink: Watching::new(rt, Writing::new(io::writer(rt)), looker),
-        listener: Deaf,
+        listener: Telling::new(rt, of_served(&kept, "scan 0 a=5", is_terminal)),
     };
     let run = run(rt, rt.alloc(), &mut Alone, &texts, &mut ends);
     ended(rt, run, ends.feed.error(), ends.sink.to.error())

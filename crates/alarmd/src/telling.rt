@@ -1,6 +1,6 @@
 //! What a person is told of a plant on standard error.
 
-use crate::copies::{Copies, keep_sources};
+use crate::copies::KeptSources;
 use crate::greeting::greet;
 use crate::missing::why_missing;
 use plant_config::{ConfigFault, Observer, Plant, Unit};
@@ -8,16 +8,16 @@ use plant_explain::{Warner, explain_all, warn};
 use plant_service::{Folder, Listener, PlantTexts, listing};
 use statement_places::statement_table;
 use std::alloc::{AllocError, Global};
-use std::cell::OnceCell;
 use std::rt::Files;
 
 /// What a person is told of a plant that is accepted.
 #[derive(Clone, Copy)]
 pub enum OfAccepted<'a> {
-    /// Nothing.
+    /// Nothing: it is served.
     Nothing,
-    /// How to begin, as soon as it is accepted; its sources are kept here, for what is told while it is served.
-    Greeting(&'a OnceCell<Copies>),
+    /// How to begin, as soon as the first is accepted, with a command that may be the first. The sources of each are kept here, for what is told while it is
+    /// served.
+    Greeting(&'a KeptSources, &'static str),
     /// What is likely to be wrong in it.
     Warnings,
     /// What there is in it, and what is likely to be wrong.
@@ -44,11 +44,14 @@ fn told_of_plant(
 }
 
 /// A listener that keeps what a person is to be told of a plant, until the plant's line has been written: why it is refused, or where that is asked for,
-/// what there is in an accepted one, and what is likely to be wrong in it. How to begin it tells at once, since no line is written for a plant that is served.
+/// what there is in an accepted one, and what is likely to be wrong in it. How to begin it tells at once, since no line is written for a plant that is served;
+/// and so it does why a plant is refused that is to take the place of the one that is served.
 #[derive(Drop)]
 pub struct Telling<'a, R: Files> {
     rt: &'a R,
     of_accepted: OfAccepted<'a>,
+    /// Whether a plant has been accepted, which is served if that was asked for.
+    has_accepted: bool,
     /// Who saw the plant's sources, where warnings are asked for.
     warner: Option<Warner>,
     /// What there is in the plant; `None` where that isn't to be told, or where memory was refused for it.
@@ -63,6 +66,7 @@ impl<'a, R: Files> Telling<'a, R> {
         Telling {
             rt,
             of_accepted,
+            has_accepted: false,
             warner: None,
             listing: None,
             text: None,
@@ -90,9 +94,12 @@ impl<'a, R: Files + Eprint> Listener for Telling<'a, R> {
     fn accepted(&mut self, alloc: Global, texts: &PlantTexts<'_>, plant: &Plant) {
         match self.of_accepted {
             OfAccepted::Nothing => {}
-            OfAccepted::Greeting(kept) => {
-                keep_sources(alloc, kept, texts);
-                greet(self.rt, "scan 0");
+            OfAccepted::Greeting(kept, first) => {
+                kept.keep(alloc, texts);
+                if !self.has_accepted {
+                    kept.take_place();
+                    greet(self.rt, first);
+                }
             }
             OfAccepted::Warnings => {}
             OfAccepted::Listing => self.listing = told_of_plant(alloc, texts, plant).ok(),
@@ -100,10 +107,14 @@ impl<'a, R: Files + Eprint> Listener for Telling<'a, R> {
         if let Some(warner) = self.warner.take() {
             self.text = warn(alloc, texts, plant, warner).ok();
         }
+        self.has_accepted = true;
     }
 
     fn refused(&mut self, alloc: Global, texts: &PlantTexts<'_>, fault: &ConfigFault) {
         self.text = explain_all(alloc, texts, fault).ok();
+        if self.has_accepted {
+            tell_text(self.rt, &self.text);
+        }
     }
 
     fn missing<F: Folder>(&mut self, alloc: Global, _folder: &F, path: &str, name: &str) {

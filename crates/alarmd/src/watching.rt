@@ -2,11 +2,10 @@
 
 ghost use Rattle.std.specs.Prelude.{◌≡◌};
 
-use crate::copies::Copies;
+use crate::copies::KeptSources;
 use memchr::memchr_iter;
 use plant_service::{Failed, Sink};
 use std::alloc::Global;
-use std::cell::OnceCell;
 use std::str;
 
 /// How many bytes of a line tell what it is.
@@ -116,8 +115,8 @@ fn judged(head: &[u8], is_watched: bool) -> (bool, &'static str) {
 #[derive(Clone, Copy)]
 pub struct Looker<'a> {
     pub alloc: Global,
-    /// The sources of the plant, once it is accepted.
-    pub kept: &'a OnceCell<Copies>,
+    /// The sources of the plant that is served.
+    pub kept: &'a KeptSources,
 }
 
 impl<'a> Looker<'a> {
@@ -126,8 +125,8 @@ impl<'a> Looker<'a> {
         if !line.starts_with(b"FAULT ") {
             return;
         }
-        if let (Some(copies), Ok(line)) = (self.kept.get(), str::from_utf8(line)) {
-            if let Ok(told) = copies.told_of_fault(self.alloc, line) {
+        if let Ok(line) = str::from_utf8(line) {
+            if let Some(told) = self.kept.told_of_fault(self.alloc, line) {
                 let _ = eprint!(rt; "{told}");
             }
         }
@@ -172,15 +171,25 @@ impl<'a> Answers<'a> {
         said
     }
 
+    /// Judges a line by its beginning: whether it tells of an event, and what is said of it. By RELOADED whoever looks on has other sources.
+    fn judge(&self, head: &[u8]) -> (bool, &'static str) {
+        if let Some(looker) = self.looker {
+            if head.starts_with(b"RELOADED ") {
+                looker.kept.take_place();
+            }
+        }
+        judged(head, self.looker.is_some())
+    }
+
     /// Takes the rest of a line, which is mostly the whole of it and is looked at where it stands, and returns what is said of it.
     fn end_line(&mut self, rest: &[u8]) -> &'static str {
         if self.len == 0 {
-            let (is_event, said) = judged(rest, self.looker.is_some());
+            let (is_event, said) = self.judge(rest);
             return self.counted(is_event, said);
         }
         self.add(rest);
         let head = self.head.get(..self.len).unwrap_or(b"");
-        let (is_event, said) = judged(head, self.looker.is_some());
+        let (is_event, said) = self.judge(head);
         self.len = 0;
         self.counted(is_event, said)
     }
