@@ -7,6 +7,7 @@ use Rattle.plant_config.specs.Plants.{PlainPlant}
 use Rattle.plant_config.specs.Names.{globals_of}
 use Rattle.plant_system.specs.System.{System, system, opening_system, after_event}
 use Rattle.alarm_bank.specs.Banks.{PlainBank}
+use Rattle.alarm_bank.specs.Reloads.{PlainAnnunciator}
 use Rattle.plant_system.proofs.Images.{taken_when}
 use Rattle.plant_system.proofs.FoundReload.{reload_found}
 use Rattle.plant_system.proofs.Systems.{HasAlarms, alarms_there, system_next, system_none}
@@ -48,8 +49,11 @@ next_allowed sys (event.Order console order) each h = (ordered_takes (bank_of sy
 next_allowed sys (event.Reload new) each h = reload_allowed sys new each.0 h.1
 
 -- other alarms in the places of a board
-placed : {b c : PlainBank} → b ≡ c → record { bank = b; places = 20000 } ≡ record { bank = c; places = 20000 }
-placed h = λ i. record { bank = h i; places = 20000 }
+abbrev in_places : PlainBank → PlainAnnunciator
+in_places bank = record { bank = bank; places = 20000 }
+
+placed : {b c : PlainBank} → b ≡ c → in_places b ≡ in_places c
+placed h = ap in_places h
 
 panel_after : (sys : System) (e : Event) → HasAlarms sys → IsTaken sys e → panel_after_entry (panel_of sys) (entry_of sys e) ≡ panel_of (after_event sys e)
 panel_after sys (event.Scan image t) each h = placed (scan_after sys image t each (taken_when (globals_of sys.plant) sys.moment sys.events h.0 t t image h.1).in_range)
