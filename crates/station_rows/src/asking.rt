@@ -16,6 +16,8 @@ pub enum Asked {
     Answer,
     /// To look at the board: at the alarm of a number.
     Board(u32),
+    /// To look at the board: how many reloads it shows.
+    Reloads,
     /// How many places for orders it knows to be free.
     Room,
 }
@@ -29,6 +31,8 @@ pub enum Told {
     Answer(Option<Answer<Order, Reply>>),
     /// How many events its board shows, and the alarm's state, if there is a board.
     Board(Option<(u64, Option<AlarmState>)>),
+    /// How many reloads its board shows, if there is a board.
+    Reloads(Option<u32>),
     /// So many places.
     Room(u32),
 }
@@ -41,6 +45,14 @@ fn look(console: &mut Console, alarm: u32) -> Option<(u64, Option<AlarmState>)>
     Some((view.events(), view.state(alarm)))
 }
 
+/// Looks at the board: how many reloads it shows.
+fn look_for_reloads(console: &mut Console) -> Option<u32>
+    ensures { console.new.link ≡ console.old.link }
+{
+    let view = console.board()?;
+    Some(view.reloads())
+}
+
 /// Asks a console.
 #[tactic(auto, using(crate::proofs::Seats::same_link))]
 fn ask_one(console: &mut Console, asked: Asked) -> Told
@@ -50,6 +62,7 @@ fn ask_one(console: &mut Console, asked: Asked) -> Told
         Asked::Submit(order) => Told::Submitted(console.submit(order).is_ok()),
         Asked::Answer => Told::Answer(console.answer()),
         Asked::Board(alarm) => Told::Board(look(console, alarm)),
+        Asked::Reloads => Told::Reloads(look_for_reloads(console)),
         Asked::Room => Told::Room(console.room()),
     }
 }

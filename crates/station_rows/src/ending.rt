@@ -53,7 +53,7 @@ fn push_left(closing: &mut Closing<Workers>, page: &mut Page, console: u32) {
         };
         page.add("LEFT");
         page.number(i128::from(console));
-        push_order(page, closing.engine().plant(), order);
+        push_order(page, closing.engine(), order);
         page.add("\n");
     }
 }

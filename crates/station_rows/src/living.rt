@@ -11,14 +11,16 @@ use station::Station;
 use std::alloc::Global;
 use std::sync::Wait;
 use std::sync::ledger::{Blank, Ledger};
+use std::thread::Threads;
 
-/// The whole life of a station: it does what its rows say, and adds what they give. Where there is no station memory was refused. (A `&str` in its
+/// The whole life of a station: it does what its rows say, and adds what they give; the files are its plant's. Where there is no station memory was refused. (A `&str` in its
 /// signature would keep the caller from picking the ledger.)
-pub fn run<L: Ledger, R: Wait>(
+pub fn run<L: Ledger, R: Threads + Wait + Sync>(
     rt: &R,
     alloc: Global,
     plant: Plant,
     page: &mut Page,
+    files: &String,
     rows: &String,
     blank: Blank,
 )
@@ -30,7 +32,15 @@ pub fn run<L: Ledger, R: Wait>(
     ) else {
         return page.refuse();
     };
-    push_rows(rt, alloc, &mut station, consoles.as_mut_slice(), page, rows);
+    push_rows(
+        rt,
+        alloc,
+        &mut station,
+        consoles.as_mut_slice(),
+        page,
+        files,
+        rows,
+    );
     let mut closing = station.close(rt, end_all(alloc, consoles));
     push_end(&mut closing, page);
     drop(closing);

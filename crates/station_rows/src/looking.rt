@@ -5,7 +5,7 @@ ghost use Rattle.station_rows.specs.Seated.{AreSame};
 use crate::asking::{Asked, Told, ask};
 use crate::orders::{order_of, push_order, push_reply};
 use crate::rows::{cut, number};
-use engine::{Order, Plant, Reply};
+use engine::{Engine, Order, Reply};
 use row_text::Page;
 use station::{Answer, Console};
 use std::alloc::Global;
@@ -21,21 +21,25 @@ fn push_shown(page: &mut Page, events: u64, state: Option<engine::AlarmState>) {
 }
 
 /// Adds an answer.
-fn push_answer(page: &mut Page, plant: &Plant, answer: Answer<Order, Reply>) {
+fn push_answer(page: &mut Page, engine: &Engine, answer: Answer<Order, Reply>) {
     page.add("ANSWER");
-    push_order(page, plant, answer.order);
+    push_order(page, engine, answer.order);
     push_reply(page, answer.reply);
 }
 
 /// Adds what a console tells.
-fn push_told(page: &mut Page, plant: &Plant, told: Option<Told>) {
+fn push_told(page: &mut Page, engine: &Engine, told: Option<Told>) {
     match told {
         Some(Told::Submitted(true)) => page.add("SUBMITTED"),
         Some(Told::Submitted(false)) => page.add("HANDED BACK"),
-        Some(Told::Answer(Some(answer))) => push_answer(page, plant, answer),
+        Some(Told::Answer(Some(answer))) => push_answer(page, engine, answer),
         Some(Told::Answer(None)) => page.add("NO ANSWER"),
         Some(Told::Board(Some((events, state)))) => push_shown(page, events, state),
-        Some(Told::Board(None)) => page.add("NO BOARD"),
+        Some(Told::Reloads(Some(reloads))) => {
+            page.add("RELOADS");
+            page.number(i128::from(reloads));
+        }
+        Some(Told::Board(None) | Told::Reloads(None)) => page.add("NO BOARD"),
         Some(Told::Room(places)) => {
             page.add("ROOM");
             page.number(i128::from(places));
@@ -46,11 +50,17 @@ fn push_told(page: &mut Page, plant: &Plant, told: Option<Told>) {
 }
 
 /// Asks a console, and adds what it tells.
-fn push_asking(plant: &Plant, consoles: &mut [Console], page: &mut Page, console: u32, asked: Asked)
+fn push_asking(
+    engine: &Engine,
+    consoles: &mut [Console],
+    page: &mut Page,
+    console: u32,
+    asked: Asked,
+)
     ensures { AreSame consoles.old consoles.new }
 {
     let told = ask(consoles, console, asked);
-    push_told(page, plant, told);
+    push_told(page, engine, told);
 }
 
 /// Submits an order so many times, and tells how many were submitted.
@@ -85,16 +95,16 @@ fn take_all(consoles: &mut [Console], console: u32, times: u32) -> u32
 #[tactic(auto, using(crate::proofs::Seats::same_all))]
 fn push_submitted(
     alloc: Global,
-    plant: &Plant,
+    engine: &Engine,
     consoles: &mut [Console],
     page: &mut Page,
     line: &str,
 )
     ensures { AreSame consoles.old consoles.new }
 {
-    match order_of(alloc, plant, line) {
+    match order_of(alloc, engine, line) {
         Ok(Some((console, order))) => {
-            push_asking(plant, consoles, page, console, Asked::Submit(order));
+            push_asking(engine, consoles, page, console, Asked::Submit(order));
         }
         Ok(None) => page.line("NO ROW"),
         Err(_) => page.refuse(),
@@ -117,7 +127,7 @@ fn push_times(consoles: &mut [Console], page: &mut Page, console: u32, order: Or
 #[tactic(auto, using(crate::proofs::Seats::same_all))]
 fn push_repeated(
     alloc: Global,
-    plant: &Plant,
+    engine: &Engine,
     consoles: &mut [Console],
     page: &mut Page,
     words: &str,
@@ -125,7 +135,7 @@ fn push_repeated(
     ensures { AreSame consoles.old consoles.new }
 {
     let (times, line) = cut(words);
-    match order_of(alloc, plant, line) {
+    match order_of(alloc, engine, line) {
         Ok(Some((console, order))) => push_times(consoles, page, console, order, number(times)),
         Ok(None) => page.line("NO ROW"),
         Err(_) => page.refuse(),
@@ -144,18 +154,18 @@ fn push_taken(consoles: &mut [Console], page: &mut Page, words: &str)
 }
 
 /// Looks at the alarm of a line on a console's board, and adds what is seen.
-fn push_board(plant: &Plant, consoles: &mut [Console], page: &mut Page, words: &str)
+fn push_board(engine: &Engine, consoles: &mut [Console], page: &mut Page, words: &str)
     ensures { AreSame consoles.old consoles.new }
 {
     let (console, tag) = cut(words);
-    let alarm = plant.alarm_number(tag).unwrap_or(u32::MAX);
-    push_asking(plant, consoles, page, number(console), Asked::Board(alarm));
+    let alarm = engine.plant().alarm_number(tag).unwrap_or(u32::MAX);
+    push_asking(engine, consoles, page, number(console), Asked::Board(alarm));
 }
 
 /// Does a line that asks consoles, and adds what it gives.
 pub fn push_asked(
     alloc: Global,
-    plant: &Plant,
+    engine: &Engine,
     consoles: &mut [Console],
     page: &mut Page,
     line: &str,
@@ -164,11 +174,12 @@ pub fn push_asked(
 {
     let (word, words) = cut(line);
     match word {
-        "answer" => push_asking(plant, consoles, page, number(words), Asked::Answer),
+        "answer" => push_asking(engine, consoles, page, number(words), Asked::Answer),
         "answers" => push_taken(consoles, page, words),
-        "board" => push_board(plant, consoles, page, words),
-        "room" => push_asking(plant, consoles, page, number(words), Asked::Room),
-        "repeat" => push_repeated(alloc, plant, consoles, page, words),
-        _ => push_submitted(alloc, plant, consoles, page, line),
+        "board" => push_board(engine, consoles, page, words),
+        "reloads" => push_asking(engine, consoles, page, number(words), Asked::Reloads),
+        "room" => push_asking(engine, consoles, page, number(words), Asked::Room),
+        "repeat" => push_repeated(alloc, engine, consoles, page, words),
+        _ => push_submitted(alloc, engine, consoles, page, line),
     }
 }

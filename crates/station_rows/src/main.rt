@@ -12,9 +12,12 @@
 //!
 //! - `scan 0 a=5` takes a turn with this scan: the alarms and outputs that changed, and the orders that were taken;
 //! - `once scan 0 a=5` likewise, and says `MEMORY` where memory is refused for the scan;
-//! - `ack 1 T1`, or any other order as the server reads it, is submitted by its console; `repeat 64 ack 1 T1` submits it so many times;
+//! - `ack 1 T1`, or any other order as the server reads it, is submitted by its console, for the plant as it is then; `repeat 64 ack 1 T1` submits it so many times;
 //! - `answer 1` takes the next answer at a console, `answers 1 64` so many;
 //! - `board 1 T1` looks at the board of a console: how many events it shows, and the state of an alarm;
+//! - `reload > 10 => > 30` reloads the station's plant with the second text in the place of the first, where that stands first in the files by which the
+//!   station began, and `reload` alone that plant itself: how many alarms were kept and how many are new, or why it is refused; `NO PLANT` where these files make none;
+//! - `reloads 1` looks at the board of a console, and says how many reloads it shows;
 //! - `room 1` says how many places for orders a console knows to be free;
 //! - `page 1 3` prints the archive's lines from one number on, so many;
 //! - `journal` says whether the archive's lines are those of the engine's journal, and how many they are;
@@ -35,6 +38,7 @@ mod looking;
 mod orders;
 mod pages;
 mod plants;
+mod reloads;
 mod rows;
 mod turns;
 mod workers;
@@ -59,11 +63,14 @@ fn push_station<R: Threads + Wait + Sync>(rt: &R, alloc: Global, page: &mut Page
     page.add("station ");
     page.line(name);
     let (files, rows) = parted(lines);
-    let Ok(rows) = String::from_str(alloc, rows) else {
+    let (Ok(given), Ok(rows)) = (
+        String::from_str(alloc, files),
+        String::from_str(alloc, rows),
+    ) else {
         return page.refuse();
     };
     match read_plant(rt, alloc, files) {
-        Ok(Some(plant)) => run::<Brand, R>(rt, alloc, plant, page, &rows, Blank::new(1)),
+        Ok(Some(plant)) => run::<Brand, R>(rt, alloc, plant, page, &given, &rows, Blank::new(1)),
         Ok(None) => page.line("NO PLANT"),
         Err(_) => page.refuse(),
     }

@@ -1,7 +1,7 @@
 //! The orders of the table, and their texts.
 
 use command_text::{Command, Pool, read_command};
-use engine::{Order, Plant, Reply, Verb};
+use engine::{Engine, Order, Plant, Reply, Verb};
 use row_text::Page;
 use std::alloc::{AllocError, Global};
 
@@ -14,23 +14,23 @@ fn target_of(plant: &Plant, verb: Verb, word: &[u8]) -> Option<u32> {
     }
 }
 
-/// The order of a line, and the number of its console; `None` where the line is no order. Fails if memory was refused.
+/// The order of a line for the plant of an engine, and the number of its console; `None` where the line is no order. Fails if memory was refused.
 pub fn order_of(
     alloc: Global,
-    plant: &Plant,
+    engine: &Engine,
     line: &str,
 ) -> Result<Option<(u32, Order)>, AllocError> {
     let mut pool = Pool::new(alloc);
     match read_command(alloc, &mut pool, line.as_bytes())? {
         Command::Order(verb, console, word) => {
-            let target = target_of(plant, verb, word);
-            Ok(Some((console, Order::of(verb, target, 0))))
+            let target = target_of(engine.plant(), verb, word);
+            Ok(Some((console, Order::of(verb, target, engine.reloads()))))
         }
         _ => Ok(None),
     }
 }
 
-/// The name of an order's target, or `?`.
+/// The name of an order's target, or `?`: of an order for this plant.
 fn target_name(plant: &Plant, order: Order) -> &str {
     match order.target {
         Some(program) if order.verb == Verb::Restart => {
@@ -45,10 +45,14 @@ fn target_name(plant: &Plant, order: Order) -> &str {
     }
 }
 
-/// Adds an order, as ` ack T1`.
-pub fn push_order(page: &mut Page, plant: &Plant, order: Order) {
+/// Adds an order, as ` ack T1`; the target of one for a plant before that of the engine is `?`.
+pub fn push_order(page: &mut Page, engine: &Engine, order: Order) {
     page.word(order.verb.text());
-    page.word(target_name(plant, order));
+    if order.plant == engine.reloads() {
+        page.word(target_name(engine.plant(), order));
+    } else {
+        page.word("?");
+    }
 }
 
 /// Adds a reply: ` DONE`, with the change of an alarm's code if there is one, or ` REFUSED` and why.

@@ -4,6 +4,7 @@ ghost use Rattle.station_rows.specs.Seated.{AreOf};
 
 use crate::looking::push_asked;
 use crate::pages::{push_compared, push_page};
+use crate::reloads::push_reload;
 use crate::turns::push_turn_of;
 use crate::workers::Workers;
 use row_text::Page;
@@ -11,6 +12,7 @@ use station::{Console, Station};
 use std::alloc::Global;
 use std::sync::Wait;
 use std::sync::ledger::Ledger;
+use std::thread::Threads;
 
 /// The two parts of words around their first blank.
 pub fn cut(words: &str) -> (&str, &str) {
@@ -27,12 +29,13 @@ pub fn number(word: &str) -> u32 {
 
 /// Does a line, and adds what it gives.
 #[tactic(auto, using(crate::proofs::Seats::stay, crate::proofs::Seats::keep))]
-fn push_row<L: Ledger, R: Wait>(
+fn push_row<L: Ledger, R: Threads + Wait + Sync>(
     rt: &R,
     alloc: Global,
     station: &mut Station<L, Workers>,
     consoles: &mut [Console],
     page: &mut Page,
+    files: &str,
     line: &str,
 )
     requires { AreOf station.old.lanes consoles.old }
@@ -41,20 +44,22 @@ fn push_row<L: Ledger, R: Wait>(
     let (word, words) = cut(line);
     match word {
         "scan" | "once" => push_turn_of(rt, alloc, station, consoles, page, line),
+        "reload" => push_reload(rt, alloc, station, page, files, words),
         "workers" => {}
         "page" => push_page(rt, alloc, &**station.archive(), page, words),
         "journal" => push_compared(rt, alloc, &**station.archive(), station.engine(), page),
-        _ => push_asked(alloc, station.engine().plant(), consoles, page, line),
+        _ => push_asked(alloc, station.engine(), consoles, page, line),
     }
 }
 
-/// Does the rows of a station, and adds each of them and what it gives.
-pub fn push_rows<L: Ledger, R: Wait>(
+/// Does the rows of a station, whose plant is that of these files, and adds each of them and what it gives.
+pub fn push_rows<L: Ledger, R: Threads + Wait + Sync>(
     rt: &R,
     alloc: Global,
     station: &mut Station<L, Workers>,
     consoles: &mut [Console],
     page: &mut Page,
+    files: &str,
     rows: &str,
 )
     requires { AreOf station.old.lanes consoles.old }
@@ -66,6 +71,6 @@ pub fn push_rows<L: Ledger, R: Wait>(
         }
         page.add("> ");
         page.line(line);
-        push_row(rt, alloc, station, consoles, page, line);
+        push_row(rt, alloc, station, consoles, page, files, line);
     }
 }
