@@ -11,8 +11,8 @@ use crate::watching::{Looker, Watching};
 use command_line::Ended;
 use engine::{Alone, Crew, Done, Job, Start};
 use plant_service::{
-    Disk, Ends, PlantFiles, PlantTexts, Reading, RunEnd, ServeFault, Writing, check_from,
-    run, run_from,
+    Disk, Ends, PlantFiles, PlantTexts, Reading, RunEnd, ServeFault, Writing, check_from, run,
+    run_from,
 };
 use std::alloc::Global;
 use std::io;

@@ -282,13 +282,7 @@ impl Session {
 /// The clauses hold where `serve` returns: it waits where its feed or its crew waits, perhaps forever. What they say of bytes holds for a feed and a
 /// sink that tell theirs (`remaining`, `written`), as those in memory do; of standard input and output no contract can say which bytes they
 /// give and take.
-pub fn serve<
-    H: Threads + Wait + Sync,
-    C: Crew<Job, Start, Done, H>,
-    F: Feed,
-    S: Sink,
-    L: Listener,
->(
+pub fn serve<H: Threads + Wait + Sync, C: Crew<Job, Start, Done, H>, F: Feed, S: Sink, L: Listener>(
     rt: &H,
     alloc: Global,
     engine: &mut Engine,
