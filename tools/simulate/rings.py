@@ -6,6 +6,7 @@ import collections
 import re
 
 import protocol
+import reloads
 from server import MOST_EVENTS, Server
 
 PLACES = 64
@@ -24,11 +25,23 @@ def number(word):
     return int(word) if re.fullmatch("[0-9]{1,9}", word) else 0
 
 
-class Station:
-    """What a station's rows have to give. `came` is what a run gave: it says when workers were gone and, where memory may be refused, at which rows of `once` it was."""
+def texts_in(given):
+    """The texts of the files that a table gives, each by a line `file NAME` and its text: the plant file, the alarm file and the sources."""
+    return [part.partition("\n")[2].encode() for part in given.removeprefix("file ").split("\nfile ")]
 
-    def __init__(self, name, plant, said, came=None, refusing=False):
-        self.plant, self.server, self.said, self.came, self.refusing = plant, Server(plant), said, came, refusing
+
+def changed(given, words):
+    """The files of a table after a row `reload OLD => NEW`."""
+    old, _, new = words.partition(" => ")
+    return given.replace(old, new, 1)
+
+
+class Station:
+    """What a station's rows have to give, whose files are these. `came` is what a run gave: it says when workers were gone and, where memory may be refused, at which rows of `once` it was."""
+
+    def __init__(self, name, plant, said, given="", came=None, refusing=False):
+        self.server, self.said, self.given, self.came, self.refusing = Server(plant, reloads.read), said, given, came, refusing
+        self.reloads = 0
         self.consoles = {number: Rings() for number, _ in plant.consoles}
         self.refused, self.stopped = 0, 0
         self.left, self.asked, self.gone = None, 0, False
@@ -50,6 +63,8 @@ class Station:
         rings = self.consoles.get(number(first))
         if word == "workers":
             self.left = number(first)
+        elif word == "reload":
+            self.reload(words)
         elif word in ("scan", "once"):
             self.scan(words if word == "once" else row, word == "once")
         elif word == "page":
@@ -63,17 +78,30 @@ class Station:
                 rings.answers.popleft()
         elif word == "repeat":
             self.submit(second, number(first))
-        elif word not in ("answer", "board", "room"):
+        elif word not in ("answer", "board", "room", "reloads"):
             self.submit(row)
         elif rings is None:
             self.say("NO CONSOLE")
         elif word == "answer":
-            self.say(f"ANSWER {rings.answers.popleft()}" if rings.answers else "NO ANSWER")
+            self.answer(rings)
+        elif word == "reloads":
+            self.say(f"RELOADS {self.reloads}")
         elif word == "room":
             self.say(f"ROOM {PLACES - len(rings.orders)}")
         else:
             codes = [it.state for it in self.server.alarms if it.row.tag == second]
             self.say(f"BOARD {self.server.events} {codes[0] if codes else '?'}")
+
+    def answer(self, rings):
+        if not rings.answers:
+            return self.say("NO ANSWER")
+        order, reply = rings.answers.popleft()
+        self.say(f"ANSWER {self.named(order)} {reply}")
+
+    def reload(self, words):
+        line = self.server.reload(*texts_in(changed(self.given, words)))[0]
+        self.reloads += line.startswith("RELOADED")
+        self.say("NO PLANT" if line.startswith("CONFIG") else line)
 
     def page(self, first, count):
         for at, row in enumerate(self.server.rows, 1):
@@ -89,7 +117,7 @@ class Station:
         room = 0 if rings is None else PLACES - len(rings.orders)
         submitted = min(room, 1 if times is None else times)
         for _ in range(submitted):
-            rings.orders.append(asked)
+            rings.orders.append((self.reloads, asked))
         if times is not None:
             self.say(f"SUBMITTED {submitted} HANDED BACK {times - submitted}")
         elif rings is None:
@@ -139,18 +167,30 @@ class Station:
                     break
                 if taken == most or self.server.events == MOST_EVENTS:
                     return taken, True
-                asked = rings.orders.popleft()
-                rings.answers.append(f"{self.named(asked)} {replied(self.server.order(asked[0], console, *asked[2:]))}")
+                order = rings.orders.popleft()
+                rings.answers.append((order, replied(self.ordered(console, order))))
                 taken += 1
         return taken, False
 
-    def named(self, asked):
-        """An order, with its target as it is declared."""
-        verb, target = asked[0], asked[2]
+    def ordered(self, console, order):
+        """What the server answers an order: O6 to one for a plant before the present one, which is an event without a target."""
+        count, (verb, _, target, *time) = order
+        if count == self.reloads:
+            return self.server.order(verb, console, target, *time)
+        self.server.events += 1
+        self.server.note_order(console, verb, "?", time[0] if time else None, "O6")
+        return ["REPLY O6"]
+
+    def named(self, order):
+        """An order, with its target as it is declared; `?` where it is for a plant before the present one."""
+        count, (verb, _, target, *_) = order
+        plant = self.server.plant
         if verb == "restart":
-            names = [it.name for it in self.plant.programs if it.name.lower() == target.lower()]
+            names = [it.name for it in plant.programs if it.name.lower() == target.lower()]
         else:
-            names = [it.tag for it in self.plant.alarms if it.tag == target]
+            names = [it.tag for it in plant.alarms if it.tag == target]
+        if count != self.reloads:
+            names = []
         return f"{verb} {names[0] if names else '?'}"
 
     # ---- the end
@@ -190,7 +230,7 @@ def unbalanced(lines, named):
             words = line.split(" ")
             order = row.split(" ", 2)[2] if words[1:] else row
             asked = protocol.command(order.encode())
-            submitted[asked[1]] += [named(asked)] * int(words[1] if words[1:] else 1)
+            submitted[asked[1]] += [named((0, asked))] * int(words[1] if words[1:] else 1)
         elif line.startswith("ANSWER "):
             verb, target, *reply = line.split(" ")[1:]
             answers[number(row.split(" ")[1])].append((f"{verb} {target}", reply[1] if reply[0] == "REFUSED" else "OK"))

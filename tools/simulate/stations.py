@@ -17,6 +17,7 @@ write nothing.
 | `--seed S` | the first seed | 1 |
 | `--rows N` | about how many rows for each | 60 |
 | `--refuse K`, `--each` | memory is refused, as said above. Needs gcc | it isn't |
+| `--reload` | plants are reloaded, with a word of their files changed | they aren't |
 | `--full` | one station more, whose history is filled with 1,000,000 events | none |
 | `--keep DIR` | where the table and the output of a difference are kept | `simulate-kept` in the folder for temporary files |
 | `--jobs J` | how many at once | 1 |
@@ -36,12 +37,13 @@ import time
 HERE = os.path.dirname(os.path.abspath(__file__))
 sys.path += [os.path.join(HERE, "..", "reference"), os.path.join(HERE, "..", "refusals")]
 
+import files
 import folders
 import runs
 from lines import Lines
 from plants import Writer
 from refused import Refuser
-from rings import PLACES, Station, unbalanced
+from rings import PLACES, Station, changed, texts_in, unbalanced
 from server import MOST_EVENTS
 
 NO_ROWS = ["say 1 T1", "list", "ack 1", "once list", "scan x", "once ack 1 T", "shelve 1 T", "repeat 3 list", "room 0", "board 0 T", "answer 0", "answers 0 5", "repeat 5 ack 0 T"]
@@ -51,11 +53,12 @@ ORDER = ["stations", "rows", "turns that took orders", "runs", "runs with memory
 class Schedule:
     """A random plant, and random rows for a station of it. A model goes along, so that orders and moments fit."""
 
-    def __init__(self, seed, count, refusing):
+    def __init__(self, seed, count, refusing, has_reloads):
         self.some = some = random.Random(f"station {seed}")
-        self.name, self.plant, self.rows, self.refusing = f"seed {seed}", folders.made(some), [], refusing
+        self.name, self.plant, self.rows, self.refusing, self.has_reloads = f"seed {seed}", folders.made(some), [], refusing, has_reloads
         self.files = Writer(some).files(self.plant)
-        self.model = Station(self.name, self.plant, [])
+        self.given = given_files(self.files)
+        self.model = Station(self.name, self.plant, [], self.given)
         self.lines = Lines(some, self.plant, self.model.server, 0)
         self.numbers = list(self.model.consoles) or [1]
         # How gladly each console takes its answers, and how many orders come between turns.
@@ -77,7 +80,38 @@ class Schedule:
     def add_some(self):
         some = self.some
         kinds = {self.turn: 3, self.order: 4 * self.busy, self.repeat: 0.6, self.answer: 1.5, self.answers: 0.4, self.board: 1, self.room: 0.5, self.page: 0.3, self.nothing: 0.2}
+        kinds[self.reload] = 0.5 if self.has_reloads else 0
         some.choices(list(kinds), list(kinds.values()))[0]()
+
+    def reload(self):
+        """A reload with a word changed, mostly one that is taken; and now and then how many a board shows."""
+        wanted = self.some.random() < 0.8
+        for _ in range(20):
+            words = self.change()
+            line = self.reloaded(words)
+            if line is not None and (line.startswith("RELOADED") or not wanted):
+                self.add(f"reload {words}".rstrip())
+                self.lines.serve(self.model.server.plant)
+                break
+        if self.some.random() < 0.5:
+            self.add(f"reloads {self.console()}")
+
+    def change(self):
+        """The words of a reload: a word of the files, and what stands in its place."""
+        some, words = self.some, re.findall("[A-Za-z_0-9]+", self.given)
+        word = some.choice(words)
+        other = some.choice([word.swapcase(), f"{word}1", some.choice(words), some.choice(words), {"TRUE": "FALSE", "FALSE": "TRUE", "DINT": "TIME"}.get(word.upper(), word)])
+        return some.choice(["", f"{word} => {other}", f"{word} => {other}", f"{word} => {other}", "FALSE => TRUE", "TRUE => FALSE"])
+
+    def reloaded(self, words):
+        """What such a reload would be answered; None where the second reading doesn't know, or the plant file would list other files."""
+        given = texts_in(changed(self.given, words))
+        try:
+            if files.plant_file(given[0])["sources"] != [name for name in self.files if name.endswith(".st")]:
+                return None
+            return self.model.server.copy().reload(*given)[0]
+        except (files.Refused, files.Unknown):
+            return None
 
     def turn(self):
         some, line = self.some, re.sub("^scan[ \t]+", "scan ", self.lines.scan().decode().strip(" \t"))
@@ -106,7 +140,7 @@ class Schedule:
             self.add(f"answers {number} {self.some.choice([1, 5, PLACES - 1, PLACES, PLACES + 1])}")
 
     def board(self):
-        tags = [row.tag for row in self.plant.alarms] + ["nobody"]
+        tags = [row.tag for row in self.model.server.plant.alarms] + ["nobody"]
         self.add(f"board {self.console()} {self.some.choice(tags)}")
 
     def room(self):
@@ -158,17 +192,22 @@ class Flood:
     add = Schedule.add
 
 
+def given_files(texts):
+    """Files as a table gives them."""
+    names = ["plant.toml", "alarms.csv", *(name for name in texts if name.endswith(".st"))]
+    return "\n".join(f"file {name}\n{texts[name]}" for name in names)
+
+
 def table(schedule):
     """The station's part of a table."""
-    files = {name: schedule.files[name] for name in ["plant.toml", "alarms.csv", *(name for name in schedule.files if name.endswith(".st"))]}
-    given = "\n".join(f"file {name}\n{text}" for name, text in files.items())
+    given = given_files(schedule.files)
     return f"\nstation {schedule.name}\n{given}\nbegin\n" + "".join(f"{row}\n" for row in schedule.rows)
 
 
 def wanted(schedule, came, refused):
     """The lines that have to come, by what came; and the model then."""
     said = []
-    model = Station(schedule.name, schedule.plant, said, came, refused)
+    model = Station(schedule.name, schedule.plant, said, given_files(schedule.files), came, refused)
     for row in schedule.rows:
         model.do(row)
     model.end()
@@ -214,7 +253,10 @@ class Trial:
         self.counts["turns refused for memory"] += model.refused
         self.counts["turns stopped for memory"] += model.stopped if refused else 0
         self.counts["turns that took orders"] += sum(bool(re.fullmatch("TAKEN [1-9].*", line)) for line in came)
-        where = difference(said, came) or unbalanced(came, model.named) if isinstance(self.schedule, Schedule) else difference(said, came)
+        where = difference(said, came)
+        # (After a reload an order's target may have no name, or another one.)
+        if isinstance(self.schedule, Schedule) and model.reloads == 0:
+            where = where or unbalanced(came, model.named)
         if ran.status != 0:
             where = where or "the output is as wanted"
         if where:
@@ -249,6 +291,7 @@ def read_options():
     reads.add_argument("--rows", type=int, default=60)
     reads.add_argument("--refuse", type=int, default=0)
     reads.add_argument("--each", action="store_true")
+    reads.add_argument("--reload", action="store_true")
     reads.add_argument("--full", action="store_true")
     reads.add_argument("--keep", default=os.path.join(tempfile.gettempdir(), "simulate-kept"))
     reads.add_argument("--jobs", type=int, default=1)
@@ -263,7 +306,7 @@ def tried(options, seed):
     try:
         some = random.Random(f"rows {seed}")
         count = max(1, some.choice([options.rows // 4, options.rows // 2, options.rows, options.rows, options.rows * 2]))
-        return Trial(options, Flood(options.seed) if seed is None else Schedule(seed, count, refusing), refuser).go()
+        return Trial(options, Flood(options.seed) if seed is None else Schedule(seed, count, refusing, options.reload), refuser).go()
     finally:
         if refuser:
             refuser.close()
