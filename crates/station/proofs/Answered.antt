@@ -11,7 +11,6 @@ use Rattle.plant_config.specs.Plants.{PlainPlant}
 use Rattle.plant_system.specs.declared.event.Reply.{Reply}
 use Rattle.plant_system.specs.System.{System, opening_system, after_event}
 use Rattle.boards.specs.declared.entry.Answer.{Answer as Shown}
-use Rattle.boards.specs.declared.entry.Entry.{Entry}
 use Rattle.boards.specs.Counts.{answers_of as answers_shown}
 use Rattle.boards.proofs.Counting.{counted, answers_begin}
 use Rattle.boards.proofs.Prefixes.{prefix_of_both}

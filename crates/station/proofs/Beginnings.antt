@@ -1,5 +1,5 @@
 -- What consoles saw of the board, and the entries of the history, as beginnings of one list.
-use Rattle.std.proofs.Common.{◌≡◌, ℕ, zero, suc, ◌<◌, ◌≤◌, ◌==◌, nat_le, Bool, true, false, List, [], ◌∷◌, ◌++◌, length, take, slice_index_or, All, Option, Some, None, if◌then◌else◌, refl, sym, ◌∙◌, ap, subst, append_assoc, inl, inr, arith}
+use Rattle.std.proofs.Common.{◌≡◌, ℕ, suc, ◌≤◌, ◌==◌, nat_le, Bool, true, List, [], ◌∷◌, ◌++◌, length, take, slice_index_or, All, Option, Some, None, if◌then◌else◌, refl, sym, ◌∙◌, ap, subst, append_assoc, inl, inr, arith}
 use Rattle.std.proofs.lemmas.Bool.{cases_Bool}
 use Rattle.std.proofs.lemmas.Bool.Decides.{nat_tests}
 use Rattle.std.proofs.lemmas.List.Elements.{All-nil, All-head, All-tail, All-cons}
@@ -12,7 +12,7 @@ use Rattle.plant_config.specs.Plants.{PlainPlant}
 use Rattle.plant_system.specs.declared.event.Reply.{Reply}
 use Rattle.boards.specs.declared.entry.Entry.{Entry}
 use Rattle.boards.specs.declared.writer.BoardWriter.{BoardWriter}
-use Rattle.boards.specs.Stories.{Story, Begins}
+use Rattle.boards.specs.Stories.{Begins}
 use Rattle.boards.specs.Readers.{published, laid}
 use Rattle.boards.proofs.Prefixes.{prefix_of_both}
 use Rattle.board_entries.specs.Entries.{entries_of, history_story}

@@ -9,9 +9,7 @@ use Rattle.logbook.specs.Pages.{Book}
 use Rattle.console_link.specs.declared.console.Console.{Console}
 use Rattle.console_link.specs.declared.lane.Lane.{Lane}
 use Rattle.console_link.specs.Seats.{IsConsoleOf}
-use Rattle.event_history.specs.declared.event.Event.{Event}
 use Rattle.operator_orders.specs.declared.order.Order.{Order}
-use Rattle.board_entries.specs.Entries.{history_story}
 use Rattle.operator_console.specs.Sights.{BoardStory}
 use Rattle.plant_file.specs.declared.console.Console.{Console as Listed}
 use Rattle.operator_console.specs.declared.console.Console.{Console as Operator}

@@ -4,11 +4,10 @@ use Rattle.console_link.specs.declared.console.Console.{Console}
 use Rattle.console_link.specs.declared.console.Finished.{Finished}
 use Rattle.console_link.specs.declared.lane.Lane.{Lane}
 use Rattle.console_link.specs.Seats.{orders_taken, answers_given, submitted, taken as answers_taken, known_room, IsConsoleOf, IsEndOf, IsOpen, left_of, seen_by}
-use Rattle.event_history.specs.declared.event.Event.{Event}
 use Rattle.operator_orders.specs.declared.order.Order.{Order}
 use Rattle.plant_config.specs.Plants.{PlainPlant, IsPlant}
 use Rattle.plant_system.specs.System.{opening_system}
-use Rattle.board_entries.specs.Entries.{picture_of, history_story}
+use Rattle.board_entries.specs.Entries.{picture_of}
 use Rattle.boards.specs.Stories.{is_lawful}
 use Rattle.boards.specs.Replies.{after, allows}
 use Rattle.logbook.specs.Pages.{Book}
