@@ -61,7 +61,8 @@ fn led_to(alloc: Global, place: Place<'_>, opened: Place<'_>) -> Result<String, 
 
 /// What is said where something is open that should be closed before a token: at that, or at the word before it, with which a call begins.
 fn unclosed(alloc: Global, place: Place<'_>, opened: Place<'_>) -> Result<Cause, AllocError> {
-    let (line, open, closing) = (opened.line(), opened.word(), closing_of(opened.sign()));
+    let (line, open) = (opened.line(), opened.sign());
+    let closing = closing_of(open);
     let behind = led_to(alloc, place, opened)?;
     let said = format!(in alloc; "{closing} is missing for the {open} of line {line}{behind}")?;
     let is_call = place.sign() == "(";

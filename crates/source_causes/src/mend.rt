@@ -152,6 +152,16 @@ fn past_word(place: Place<'_>, way: &'static str) -> Option<Mend> {
     }
 }
 
+/// What is put before a token that lacks something there: of a call whose `(` nothing closes before the next `;` its end, so that no more is told of that.
+fn missing(place: Place<'_>) -> &'static str {
+    let (lacking, end) = (place.lacking().0, next_end(place));
+    if lacking == "," && end.sign() == ";" && end.parenthesis().is_some() {
+        ");"
+    } else {
+        lacking
+    }
+}
+
 /// How to read on behind a token with which no source can go on; `None` where that isn't certain.
 pub fn way_on(place: Place<'_>) -> Option<Mend> {
     let (here, previous) = (place.number, place.previous().number);
@@ -160,7 +170,7 @@ pub fn way_on(place: Place<'_>) -> Option<Mend> {
         _ => {}
     }
     match (place.stand(), place.sign()) {
-        _ if place.lacks_end() => Some(with(here, here, place.lacking().0)),
+        _ if place.lacks_end() => Some(with(here, here, missing(place))),
         ("declared", "(") => Some(with(previous, previous, "END_VAR")),
         ("declaration", "IF" | "CASE" | "FOR") => Some(with(here, here, "END_VAR")),
         _ if place.is_declared() => past_statement(place),
