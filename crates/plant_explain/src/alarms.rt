@@ -69,7 +69,7 @@ impl<'t> Refused<'t> {
     }
 
     fn misheaded(&mut self, fields: &[Mark]) -> Result<(), AllocError> {
-        let (all, first) = (self.texts.alarms, field_of(fields, 0));
+        let (all, first) = (self.alarms, field_of(fields, 0));
         if is_wide(all) {
             return self.say(FileOf::Alarms, None, WIDE, &[]);
         }
@@ -104,7 +104,7 @@ impl<'t> Refused<'t> {
 
     /// Tells of a row that hasn't as many fields as are wanted.
     fn uneven(&mut self, fields: &[Mark], wanted: usize) -> Result<(), AllocError> {
-        let (all, last, count) = (self.texts.alarms, last_of(fields), fields.len());
+        let (all, last, count) = (self.alarms, last_of(fields), fields.len());
         if let Some(first) = fields.iter().find_map(|field| first_line(all, *field)) {
             return self.say_at(first, GOES_ON, &[]);
         }
@@ -124,7 +124,7 @@ impl<'t> Refused<'t> {
     }
 
     fn malformed(&mut self, field: Mark, column: Column) -> Result<(), AllocError> {
-        let all = self.texts.alarms;
+        let all = self.alarms;
         if let Some(first) = first_line(all, field) {
             return self.say_at(first, GOES_ON, &[]);
         }
@@ -146,12 +146,13 @@ impl<'t> Refused<'t> {
         } else {
             "% %"
         };
-        self.say_at(field, text, &[column.name(), form_of(column), len.as_str()])
+        let words = [column.name(), form_of(column), len.as_str()];
+        self.say_at(field, text, &words)
     }
 
     /// Tells of a mistake in a row of a plant of units.
     pub fn in_row(&mut self, units: &[Unit], wrong: &RowMistake) -> Result<(), AllocError> {
-        let (alloc, all) = (self.alloc, self.texts.alarms);
+        let (alloc, all) = (self.alloc, self.alarms);
         let fields = fields_of_row(alloc, all, wrong.at)?;
         let field = field_of(fields.as_slice(), wrong.field.unwrap_or(0));
         let name = str::from_utf8(unquoted(all, field)).unwrap_or("");
@@ -162,11 +163,12 @@ impl<'t> Refused<'t> {
             RowFault::Again { first } => {
                 let line = place_at(all, row_start(all, first)).line.to_string(alloc)?;
                 let text = "the tag '%' stands in line % already";
-                self.say_at(field, text, &[name, line.as_str()])
+                let words = [name, line.as_str()];
+                self.say_at(field, text, &words)
             }
             RowFault::Unknown(column) => {
                 let said = match column {
-                    Column::Area => strange_area(alloc, self.texts.plant, name)?,
+                    Column::Area => strange_area(alloc, self.plant, name)?,
                     _ => no_bool_global(alloc, units, name)?,
                 };
                 self.say_at(field, "%", &[said.as_str()])
@@ -176,7 +178,7 @@ impl<'t> Refused<'t> {
 
     /// Tells of the mistakes in rows for which the plant is refused, whose sources are right.
     pub fn in_rows(&mut self, mistakes: &[RowMistake]) -> Result<(), AllocError> {
-        let sources = sources_of(self.alloc, self.texts.sources)?;
+        let sources = sources_of(self.alloc, self.sources)?;
         let units = units_of(self.alloc, sources.as_slice())?;
         for wrong in mistakes {
             self.in_row(units.as_slice(), wrong)?;

@@ -54,7 +54,7 @@ pub fn strange_area(alloc: Global, plant: &[u8], area: &str) -> Result<String, A
 }
 
 /// The key that there is and that an unknown one nearly is; empty where none is.
-fn near_key(unknown: &Mistake) -> &'static str {
+fn near_key(unknown: &Mistake) -> &str {
     let known: &[&'static str] = match unknown.console {
         0 => &["name", "epoch", "areas", "sources", "alarms", "console"],
         _ => &["number", "areas"],
@@ -140,7 +140,7 @@ fn mark_of(keys: &Keys<'_>, wrong: &Mistake) -> Result<Option<Mark>, AllocError>
 impl<'t> Refused<'t> {
     /// Tells of bytes that are no TOML document: where they aren't any more, and why, as the reader says.
     pub fn not_toml(&mut self, unread: &Unread) -> Result<(), AllocError> {
-        let (plant, mark) = (self.texts.plant, unread.bytes());
+        let (plant, mark) = (self.plant, unread.bytes());
         if is_wide(plant) {
             return self.say(FileOf::Plant, None, WIDE, &[]);
         }
@@ -151,9 +151,7 @@ impl<'t> Refused<'t> {
         let rest = part(plant, mark.0, plant.len());
         if rest.starts_with(b"[console]") || rest.starts_with(b"[[console]]") {
             let keys = keys_of(self.alloc, plant)?;
-            let mut entries = keys.entries.iter();
-            let header = entries.find(|entry| keys.has(entry.value, "[console]"));
-            let mark = header.map_or(mark, |header| header.value);
+            let mark = keys.header("[console]").unwrap_or(mark);
             return self.say(FileOf::Plant, Some(mark), ONE_CONSOLE, &[]);
         }
         let mut reasons = REASONS.lines().filter_map(|line| line.split_once("| "));
@@ -166,17 +164,18 @@ impl<'t> Refused<'t> {
     /// Tells of a document that isn't that of a plant file, in the order of the text; what has no place comes first.
     pub fn in_keys(&mut self, mistakes: &[Mistake]) -> Result<(), AllocError> {
         let (alloc, file) = (self.alloc, FileOf::Plant);
-        let keys = keys_of(alloc, self.texts.plant)?;
+        let keys = keys_of(alloc, self.plant)?;
         for wrong in mistakes {
             let (mark, key) = (mark_of(&keys, wrong)?, wrong.key.as_str());
             match wrong.why {
                 _ if is_told(&keys, mistakes, wrong) => {}
                 Why::UnknownKey => {
                     let text = said_of_unknown(&keys, mistakes, wrong);
-                    self.say(file, mark, text, &[key, near_key(wrong)])?;
+                    let words = [key, near_key(wrong)];
+                    self.say(file, mark, text, &words)?;
                 }
                 Why::StrangeArea => {
-                    let said = strange_area(alloc, self.texts.plant, wrong.text.as_str())?;
+                    let said = strange_area(alloc, self.plant, wrong.text.as_str())?;
                     self.say(file, mark, "%", &[said.as_str()])?;
                 }
                 Why::Length { bytes, most } => {
@@ -202,7 +201,7 @@ impl<'t> Refused<'t> {
     }
 
     pub fn no_epoch(&mut self) -> Result<(), AllocError> {
-        let keys = keys_of(self.alloc, self.texts.plant)?;
+        let keys = keys_of(self.alloc, self.plant)?;
         let mark = keys.find(0, "epoch").map(|entry| entry.value);
         let text =
             "the epoch is no second of the years 1970 to 2399 in the form YYYY-MM-DDTHH:MM:SSZ";

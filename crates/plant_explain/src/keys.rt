@@ -117,6 +117,13 @@ impl<'t> Keys<'t> {
         entries.find(|entry| entry.owner == owner && self.has(entry.key, key))
     }
 
+    /// The bytes of the first header that is written so, of tables that are in no list.
+    pub fn header(&self, header: &str) -> Option<Mark> {
+        let mut entries = self.entries.iter();
+        let entry = entries.find(|entry| self.has(entry.value, header));
+        entry.map(|entry| entry.value)
+    }
+
     /// The bytes of what stands under a key, or of an item where it is a list.
     pub fn under(&self, entry: &Entry, item: Option<usize>) -> Result<Option<Mark>, AllocError> {
         let Some(number) = item else {

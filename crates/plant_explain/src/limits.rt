@@ -32,13 +32,13 @@ impl<'t> Refused<'t> {
     /// The text that is too long: the source with which all sources together are, else the plant file, or the alarm database.
     fn long_file(&self) -> FileOf {
         let mut size = 0usize;
-        let past = self.texts.sources.iter().position(|source| {
+        let past = self.sources.iter().position(|source| {
             size = size.saturating_add(source.1.len());
             size > MOST_SOURCE_BYTES
         });
         match past {
             Some(number) => FileOf::Source(number),
-            None if self.texts.plant.len() > MOST_PLANT_BYTES => FileOf::Plant,
+            None if self.plant.len() > MOST_PLANT_BYTES => FileOf::Plant,
             None => FileOf::Alarms,
         }
     }
@@ -46,14 +46,14 @@ impl<'t> Refused<'t> {
     /// The file that is past a limit, and the bytes of what is one too many: a header of a console, or the first field of a row of alarms; else of the list
     /// that has too much of something.
     fn place_past(&self, limit: Limit) -> Result<(FileOf, Option<Mark>), AllocError> {
-        let keys = keys_of(self.alloc, self.texts.plant)?;
+        let keys = keys_of(self.alloc, self.plant)?;
         let value = |key: &str| keys.find(0, key).map(|entry| entry.value);
         Ok(match limit {
             Limit::Sources => (FileOf::Plant, value("sources")),
             Limit::Areas => (FileOf::Plant, value("areas")),
             Limit::Consoles => (FileOf::Plant, keys.consoles.get(MOST_CONSOLES).copied()),
             Limit::Alarms => {
-                let mut rows = Rows::new(self.alloc, self.texts.alarms)?;
+                let mut rows = Rows::new(self.alloc, self.alarms)?;
                 let first = rows.field(MOST_ALARMS.saturating_add(1), 0)?;
                 (FileOf::Alarms, Some(first))
             }
@@ -78,7 +78,7 @@ impl<'t> Refused<'t> {
                 return self.tell(file, Cause { mark, said, page });
             }
         };
-        for (source, cause) in where_past(self.alloc, self.texts.sources, measure)? {
+        for (source, cause) in where_past(self.alloc, self.sources, measure)? {
             self.tell(FileOf::Source(source), cause)?;
         }
         Ok(())

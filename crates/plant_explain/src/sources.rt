@@ -6,7 +6,6 @@ use alarm_db::{Column, DatabaseRow, RowFault, RowMistake, examine};
 use body_uses::swallower;
 use explain_bodies::{Rule, mistakes};
 use plant_file::{PlantFile, PlantFileFault, TextSet, read};
-use plant_places::text_of;
 use plant_types::{Kind, Text};
 use source_causes::{Reading, misspelled_at, tell, ungrammatical};
 use source_trees::{entries_of, sources_of, units_of};
@@ -44,9 +43,20 @@ fn unknown_in(areas: &TextSet, bools: &Names, row: &DatabaseRow) -> Option<Colum
 
 impl<'t> Refused<'t> {
     pub fn source_of(&self, name: &Text) -> FileOf {
-        let mut sources = self.texts.sources.iter();
+        let mut sources = self.sources.iter();
         let number = sources.position(|source| source.0 == name.as_str());
-        FileOf::Source(number.unwrap_or(self.texts.sources.len()))
+        FileOf::Source(number.unwrap_or(self.sources.len()))
+    }
+
+    /// The text of a source; empty where there is none.
+    fn text_of(&self, file: FileOf) -> &'t [u8] {
+        match file {
+            FileOf::Source(number) => self
+                .sources
+                .get(number)
+                .map_or(b"".as_slice(), |source| source.1),
+            _ => b"",
+        }
     }
 
     /// Tells what is wrong in the spelling and the grammar of the sources of a plant that is refused for it: first at the place of the refusal, by a line and a
@@ -57,7 +67,7 @@ impl<'t> Refused<'t> {
         is_spelling: bool,
     ) -> Result<(), AllocError> {
         let (alloc, file) = (self.alloc, self.source_of(name));
-        let text = text_of(self.texts, file);
+        let text = self.text_of(file);
         let at = byte_at(text, line, column);
         let cause = if is_spelling {
             misspelled_at(alloc, text, at)?
@@ -69,7 +79,7 @@ impl<'t> Refused<'t> {
         let mut starts = Vec::new(alloc);
         let (causes, tokens) = (MOST_FAULTS, LEAST_TOKENS);
         let mut left = Reading { causes, tokens };
-        for (number, source) in self.texts.sources.iter().enumerate() {
+        for (number, source) in self.sources.iter().enumerate() {
             left.tokens = left.tokens.saturating_add(source.1.len());
             let told = tell(alloc, source.1, left)?;
             left = told.left;
@@ -88,7 +98,7 @@ impl<'t> Refused<'t> {
     fn in_rows_beside(&mut self, file: &PlantFile, units: &[Unit]) -> Result<(), AllocError> {
         let areas = file.area_set(self.alloc)?;
         let bools = bools_of(self.alloc, units)?;
-        let examined = examine(self.alloc, self.texts.alarms)?;
+        let examined = examine(self.alloc, self.alarms)?;
         let mut mistakes = Vec::from_slice(self.alloc, examined.mistakes.as_slice())?;
         for (at, row) in &examined.rows {
             if let Some(column) = unknown_in(&areas, &bools, row) {
@@ -109,7 +119,7 @@ impl<'t> Refused<'t> {
     /// globals may be at fault themselves.
     fn in_rows_behind(&mut self, starts: &[Option<usize>]) -> Result<(), AllocError> {
         let mut heads = Vec::new(self.alloc);
-        for (source, start) in self.texts.sources.iter().zip(starts) {
+        for (source, start) in self.sources.iter().zip(starts) {
             heads.push((source.0, part(source.1, 0, start.unwrap_or(0))))?;
         }
         let sources = sources_of(self.alloc, heads.as_slice())?;
@@ -117,7 +127,7 @@ impl<'t> Refused<'t> {
         if units.len() < heads.len() || starts.contains(&None) {
             return Ok(());
         }
-        match read(self.alloc, self.texts.plant) {
+        match read(self.alloc, self.plant) {
             Ok(file) => self.in_rows_beside(&file, units.as_slice()),
             Err(PlantFileFault::Memory) => Err(AllocError),
             Err(_) => Ok(()),
@@ -127,7 +137,7 @@ impl<'t> Refused<'t> {
     /// Tells what is wrong in the units of a plant that is refused for one by a rule: first why it is refused, by the name of the unit where no more of it is
     /// known, and then others in order of text. Where a name is missing, comments that swallow what follows come second, the first of each source.
     pub fn in_units(&mut self, rule: Rule, name: &Text, unit: &Text) -> Result<(), AllocError> {
-        let found = mistakes(self.alloc, self.texts.sources, rule)?;
+        let found = mistakes(self.alloc, self.sources, rule)?;
         if found.first().map(|first| first.rule) != Some(rule) {
             let (file, unit) = (self.source_of(name), unit.as_str());
             let said = format!(in self.alloc; "what the line above says stands in {unit}")?;
@@ -139,7 +149,7 @@ impl<'t> Refused<'t> {
         if rule != Rule::Names {
             return Ok(());
         }
-        for (number, source) in self.texts.sources.iter().enumerate() {
+        for (number, source) in self.sources.iter().enumerate() {
             if let Some(cause) = swallower(self.alloc, source.1)? {
                 let (second, file) = (self.told.len().min(1), FileOf::Source(number));
                 self.told.insert(second, Spot { file, cause })?;

@@ -19,11 +19,14 @@ pub const MOST_FAULTS: usize = 20;
 /// Where it stands what a refusal is mostly for.
 pub const REFUSALS: &str = "docs/PLANT.md, \"To find the fault\"";
 
-/// A refused plant, and what was found in it.
+/// The texts of a refused plant, and what was found in them.
 #[derive(Drop)]
 pub struct Refused<'t> {
     pub alloc: Global,
-    pub texts: &'t PlantTexts<'t>,
+    pub plant: &'t [u8],
+    /// The names and texts of the sources.
+    pub sources: &'t [(&'t str, &'t [u8])],
+    pub alarms: &'t [u8],
     pub told: Vec<Spot>,
 }
 
@@ -85,8 +88,13 @@ fn find_all(
     ensures least { IfOk result (λ found. 1 ≤ length found.items) }
     ensures most { IfOk result (λ found. length found.items ≤ 20) }
 {
-    let told = Vec::new(alloc);
-    let mut refused = Refused { alloc, texts, told };
+    let mut refused = Refused {
+        alloc,
+        plant: texts.plant,
+        sources: texts.sources,
+        alarms: texts.alarms,
+        told: Vec::new(alloc),
+    };
     refused.find(fault)?;
     let mut spots = refused.told;
     if spots.is_empty() {
