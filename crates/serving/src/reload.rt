@@ -113,9 +113,10 @@ fn reload_texts<H: Threads + Sync, L: Listener>(
     ensures ok { OnOk result (HasReloaded texts.now engine.old engine.new text.old.items text.new.items) }
     ensures err { OnErr result (MayHaveReloaded texts.now engine.old engine.new) }
 {
-    match verdict(rt, alloc, texts, listener)? {
-        (Some(plant), _) => reload_plant(alloc, engine, text, plant),
-        (None, line) => text.extend_from_slice(line.as_bytes()),
+    let (accepted, line) = verdict(rt, alloc, texts, listener)?;
+    match accepted {
+        Some(plant) => reload_plant(alloc, engine, text, plant),
+        None => text.extend_from_slice(line.as_bytes()),
     }
 }
 
