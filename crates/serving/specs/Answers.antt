@@ -19,11 +19,12 @@ pub record IsReload (plant : PlainPlant) (history : List Event) (sizes : PlainSi
   pub after_is : after ≡ history ++ events
   pub answer : IsReloadAnswer (system plant history) sizes body events text
 
--- a request may be answered a text after a history, and leaves another history then: by the sizes that its line gives it is a reload, and else it is the command of its line
+-- the same, by the sizes that the request's line gives, if it gives any
 abbrev pub IsAnswerBy : Option PlainSizes → PlainPlant → List Event → Request → List Event → List ℕ → Type 0
 IsAnswerBy None plant history request after text = (after ≡ after_command plant history (asked_by request)) × (text ≡ answer_after plant history (asked_by request))
 IsAnswerBy (Some sizes) plant history request after text = IsReload plant history sizes request.body after text
 
+-- a request may be answered a text after a history, and leaves another history then: where its line gives sizes it is a reload, and else it is the command of its line
 abbrev pub IsAnswered : PlainPlant → List Event → Request → List Event → List ℕ → Type 0
 IsAnswered plant history request after text = IsAnswerBy (reload_sizes request.line) plant history request after text
 
