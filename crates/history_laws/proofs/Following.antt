@@ -3,7 +3,6 @@ use Rattle.std.proofs.Common.{◌≡◌, ℕ, suc, ◌+◌, ◌<◌, ◌≤◌, 
 use Rattle.plant_types.specs.declared.values.Trap.{Trap}
 use Rattle.st_tree.specs.Meaning.{Spot}
 use Rattle.alarm_machine.specs.declared.states.Code.{Code}
-use Rattle.alarm_machine.specs.declared.states.Code.TheVariants as code
 use Rattle.alarm_machine.specs.Codes.{PlainChange, code_of, same_code}
 use Rattle.alarm_machine.specs.Alarms.{PlainAlarm}
 use Rattle.alarm_bank.specs.Moves.{changes_from}

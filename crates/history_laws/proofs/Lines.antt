@@ -1,9 +1,9 @@
 -- Where an input without bodies ends at the end of a line, no request has begun.
-use Rattle.std.proofs.Common.{◌≡◌, ℕ, zero, suc, ◌<◌, Bool, true, false, ◌&&◌, cond, List, [], ◌∷◌, ◌++◌, length, refl, ap, sym, ◌∙◌, subst, arith, eqb}
+use Rattle.std.proofs.Common.{◌≡◌, ℕ, zero, suc, ◌<◌, Bool, true, false, ◌&&◌, cond, List, [], ◌∷◌, ◌++◌, refl, ap, sym, ◌∙◌, subst, arith, eqb}
 use Rattle.std.specs.List.{list_all}
 use Rattle.std.proofs.lemmas.Bool.Decides.{nat_tests}
 use Rattle.command_text.specs.Reloads.{reload_size}
-use Rattle.requests.specs.Requests.{Request, is_lf, has_lf, line_in, without_cr, is_whole, request_in, last_request, ended_from, begun_from, begun_request, requests_of}
+use Rattle.requests.specs.Requests.{Request, is_lf, has_lf, line_in, without_cr, is_whole, request_in, last_request, ended_from, begun_from, begun_request}
 use Rattle.requests.proofs.RequestLaws.{line_in-none, line_in-more}
 use Rattle.requests.proofs.Beginnings.{no_lf, not_whole, lf_there, lf_stays, lf_whole}
 use Rattle.requests.proofs.HeldLaws.{last_body}

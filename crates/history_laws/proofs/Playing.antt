@@ -14,7 +14,7 @@ use Rattle.requests.specs.Requests.{Request, has_lf, without_cr, begun_request, 
 use Rattle.requests.proofs.RequestLaws.{cut}
 use Rattle.requests.proofs.Beginnings.{requests_end}
 use Rattle.serving.specs.Reloads.{IsReloadAnswer}
-use Rattle.serving.specs.Answers.{asked_by, IsReload, IsAnswerBy, IsAnswered, AreAnswered}
+use Rattle.serving.specs.Answers.{asked_by, IsAnswerBy, IsAnswered, AreAnswered}
 use Rattle.serving.proofs.AnswerLaws.{together, apart, answers-one}
 use Rattle.history_laws.specs.Records.{IsPlayed, GoesOn, LeaveAlike, IsPlayedAlike, only_asks, request_with, AddsNothing, AddsNothingAfter, CanBeLeftOut}
 
@@ -71,7 +71,7 @@ answer_alike plant h k Listing alike = ap list_text alike.state_is
 answer_alike plant h k Journal alike = ap (λ (rows : List NamedRow). with_end (map (named_line plant.epoch) rows)) alike.journal_is
 
 -- a request, by what it may be answered after the other history
-AnsweredAlike : Option PlainSizes → (plant : PlainPlant) (k after : List Event) (request : Request) (text : List ℕ) → Type 0
+abbrev AnsweredAlike : Option PlainSizes → (plant : PlainPlant) (k after : List Event) (request : Request) (text : List ℕ) → Type 0
 AnsweredAlike sizes plant k after request text = (end : List Event) × IsAnswerBy sizes plant k request end text × LeaveAlike plant after end
 
 request_alike : (sizes : Option PlainSizes) (plant : PlainPlant) (h k after : List Event) (request : Request) (text : List ℕ) → LeaveAlike plant h k → IsAnswerBy sizes plant h request after text
