@@ -15,7 +15,7 @@ const HEAD: usize = 10;
 const HINTS: &[(&str, &str)] = &[
     (
         "REFUSED L1",
-        "L1: no command; these are: scan MOMENT NAME=VALUE ..; ack, reset, unshelve, remove or return, and CONSOLE TAG; shelve CONSOLE TAG MS; restart CONSOLE PROGRAM; list; journal. In small letters, and no blank beside = (docs/PROTOCOL.md). Ctrl-D ends\n",
+        "L1: no command; these are: scan MOMENT NAME=VALUE ..; ack, reset, unshelve, remove or return, and CONSOLE TAG; shelve CONSOLE TAG MS; restart CONSOLE PROGRAM; list; journal; reload and sizes, with a plant's texts behind it. In small letters, and no blank beside = (docs/PROTOCOL.md). Ctrl-D ends\n",
     ),
     (
         "REFUSED E1",
