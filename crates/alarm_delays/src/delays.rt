@@ -6,7 +6,7 @@ ghost use Rattle.alarm_bank.specs.Banks.{scan_each};
 ghost use Rattle.alarm_bank.specs.Moves.{AreMovesOf};
 ghost use Rattle.alarm_delays.specs.Delays.{AreMet, ConditionsStay, DelaysAgree, Follows, IsFirstMark, FollowsOn, KeptAgree, RawStay, after_conditions, after_met, delayed, delayed_each, delays_reloaded, have_none, kept_since, last_conditions, put_since, since_after};
 
-use alarm_bank::{Bank, Shelf, Signals, next_mark};
+use alarm_bank::{Bank, Marks, Shelf, Signals};
 use alarm_machine::{Alarm, Change};
 use std::alloc::{AllocError, Global};
 use std::marker::Model;
@@ -304,7 +304,7 @@ impl Delays {
     fn list_met<S: Signals>(
         &self,
         raw: &S,
-        marks: &[bool],
+        marks: &Marks,
         first: usize,
         met: &mut Vec<(u32, bool)>,
     ) -> Result<usize, AllocError>
@@ -320,14 +320,10 @@ impl Delays {
         let mut end = first;
         let mut at = first;
         while at < marks.len() {
-            if marks[at] {
-                let number = at as u32;
-                met.push((number, raw.condition(number)))?;
-                at += 1;
-                end = at;
-            } else {
-                at = next_mark(marks, at + 1);
-            }
+            let number = at as u32;
+            met.push((number, raw.condition(number)))?;
+            end = at + 1;
+            at = marks.next(end);
         }
         Ok(end)
     }
@@ -340,7 +336,7 @@ impl Delays {
         bank: &Bank,
         raw: &S,
         moment: u64,
-        marks: &mut [bool],
+        marks: &mut Marks,
         met: &mut Vec<(u32, bool)>,
         moved: &mut Vec<(u32, Alarm)>,
         changes: &mut Vec<(u32, Change)>,
@@ -355,7 +351,7 @@ impl Delays {
         ensures met { OnOk result (after_met met.new.items moment moved.new.items self.now ≡ after_conditions (S.conditions raw.now) moment self.now) }
     {
         self.due.mark_most(moment, marks);
-        let first = next_mark(marks, 0);
+        let first = marks.next(0);
         let end = self.list_met(raw, marks, first, met)?;
         let counted = Counting {
             raw,
@@ -373,7 +369,7 @@ impl Delays {
         bank: &Bank,
         raw: &S,
         moment: u64,
-        marks: &[bool],
+        marks: &Marks,
         met: &mut Vec<(u32, bool)>,
         moved: &mut Vec<(u32, Alarm)>,
         changes: &mut Vec<(u32, Change)>,
@@ -391,7 +387,7 @@ impl Delays {
     {
         let _last = self.last;
         met.clear();
-        let first = next_mark(marks, 0);
+        let first = marks.next(0);
         bank.list_moved_among(marks, first, marks.len(), raw, moment, moved, changes)?;
         Ok(())
     }
