@@ -55,7 +55,7 @@ pub marks_none : (count : ℕ) (words : List ℕ) → count < 64 * length words 
 marks_none count words room none = record { room = room; rest = λ n h. bit_none words n (none (n / 64)) }
 
 module _ (words : List ℕ) (n word : ℕ) (within : n < 64 * length words) (read : word ≡ get_or words (n / 64) 0) where
-  new : ℕ
+  abbrev pub new : ℕ
   new = bit_or word (1 * 2 ^ (n % 64) % 2 ^ 64)
 
   -- a bit that was set
@@ -114,7 +114,7 @@ module _ (words : List ℕ) (from index low word left : ℕ) (row : from / 64 �
   rest_clear none n above under = bit_here n above under ∙ ap (λ x. eqb (bit_at x (n - from)) 1) none ∙ ap (λ x. eqb x 1) (bit_at-zero (n - from))
 
   module _ (some : 0 < left) (small : word < 2 ^ 64) (below : left < 2 ^ 64) where
-    first : ℕ
+    abbrev pub first : ℕ
     first = trailing_zeros w64 left
 
     is_lowest : (first < 64) × (bit_at left first ≡ 1) × ((i : ℕ) → i < first → bit_at left i ≡ 0)
