@@ -1,8 +1,7 @@
 //! The alarms of a plant.
 
-ghost use Rattle.std.specs.Prelude.{◌≡◌, ℕ, ◌+◌, ◌≤◌, ◌<◌, ◌^◌, List, length, slice_get, IfSome, IfNone, IfOk, OnOk, All, Some, slice_set, slice_index, map, true, false};
+ghost use Rattle.std.specs.Prelude.{◌≡◌, ℕ, ◌≤◌, ◌<◌, ◌^◌, List, length, slice_get, IfSome, IfNone, IfOk, OnOk, All, Some, slice_set, slice_index, map, true, false};
 ghost use Rattle.std.specs.Option.{option_map};
-ghost use Rattle.std.specs.Int.{bit_at};
 ghost use Rattle.alarm_machine.specs.declared.limits.TheConstants.{LAST_MOMENT};
 ghost use Rattle.alarm_machine.specs.Alarms.{PlainAlarm, end_of, EndsInRange};
 ghost use Rattle.alarm_bank.specs.Banks.{IsSite, scan_each, after_event, reply_of, counted, end_or_never, IsNextEnd, NoneShelved, IsSettled};
@@ -389,34 +388,10 @@ impl Bank {
         Ok(())
     }
 
-    /// Adds the marked alarms of a word, whose first bit is the mark of a place, to lists as `list_move` does. Fails if allocation fails.
-    // Bits are taken off one by one, which is a shorter way to the next mark than `Marks::next`.
-    #[inline(always)]
-    fn list_word<S: Signals>(
-        &self,
-        word: u64,
-        from: usize,
-        signals: &S,
-        moment: u64,
-        moved: &mut Vec<(u32, Alarm)>,
-        changes: &mut Vec<(u32, Change)>,
-    ) -> Result<(), AllocError>
-        requires there { (b : ℕ) → b < 64 → bit_at word b ≡ 1 → from + b < length self.now.alarms }
-        requires conditions { length (S.conditions signals.now) ≡ length self.now.alarms }
-        requires suppressions { length (S.suppressions signals.now) ≡ length self.now.alarms }
-    {
-        let mut left = word;
-        while left != 0 {
-            let at = from + left.trailing_zeros() as usize;
-            self.list_move(at as u32, signals, moment, moved, changes)?;
-            left &= left - 1;
-        }
-        Ok(())
-    }
-
     /// Lists the alarms that a scan moves, and the changes of their codes, as `list_moved` does. It looks at the marked alarms alone, which lie from
     /// a first place up to before an end, unless a shelf ends by the scan's moment: each of the others has the condition and the suppression that it had in the
     /// last scan. Fails if allocation fails.
+    // The bits of a word are taken off one by one, lowest first, which is the shortest way from one mark to the next.
     pub fn list_moved_among<S: Signals>(
         &self,
         marks: &Marks,
@@ -442,9 +417,14 @@ impl Bank {
         moved.clear();
         changes.clear();
         let words = marks.words();
-        let end = words.len().min(end / BITS + 1);
-        for index in first / BITS..end {
-            self.list_word(words[index], index * BITS, signals, moment, moved, changes)?;
+        let end = end.min(self.alarms.len());
+        for index in first / BITS..end / BITS + 1 {
+            let mut left = words[index];
+            while left != 0 {
+                let at = index * BITS + left.trailing_zeros() as usize;
+                self.list_move(at as u32, signals, moment, moved, changes)?;
+                left &= left - 1;
+            }
         }
         Ok(())
     }

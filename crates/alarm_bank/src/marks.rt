@@ -1,4 +1,4 @@
-//! Marks, of which few are set, and a fast way to the next one.
+//! Marks, of which few are set.
 
 ghost use Rattle.std.specs.Prelude.{◌≡◌, ◌*◌, ◌<◌, ◌≤◌, ℕ, Some, true, false, length, slice_get, slice_index, slice_set, replicate, IfOk, OnErr};
 ghost use Rattle.alarm_bank.specs.Marks.{bit_of, flags_of, AreMarks};
@@ -48,24 +48,6 @@ fn clear_words(alloc: Global, words: &mut Vec<u64>, many: usize) -> Result<(), A
     Ok(())
 }
 
-/// The place of the first bit that is set from that of a word on; the number of places where there is none.
-fn next_from_word(words: &[u64], count: usize, from: usize) -> usize
-    requires marks { AreMarks count words.now }
-    ensures within { result ≤ count }
-    ensures clear { (n : ℕ) → from * 64 ≤ n → n < result → bit_of words.now n ≡ false }
-    ensures set { result < count → (from * 64 ≤ result) × (bit_of words.now result ≡ true) }
-{
-    let mut index = from;
-    while index < words.len() {
-        let word = words[index];
-        if word != 0 {
-            return index * BITS + word.trailing_zeros() as usize;
-        }
-        index += 1;
-    }
-    count
-}
-
 impl Marks {
     /// No marks. Fails if allocation fails.
     pub fn new(alloc: Global) -> Result<Marks, AllocError>
@@ -109,23 +91,25 @@ impl Marks {
         requires { at < length self.old }
         ensures { self.new ≡ slice_set self.old at true }
     {
-        let word = self.words[at / BITS];
-        self.words[at / BITS] = word | 1u64 << (at % BITS);
+        let index = at / BITS;
+        let word = self.words[index];
+        self.words[index] = word | 1u64 << (at % BITS);
     }
 
-    /// The first place from one on whose mark is set; the number of marks where there is none.
-    #[inline(always)]
-    pub fn next(&self, from: usize) -> usize
-        requires { from ≤ length self.now }
-        ensures within { (from ≤ result) × (result ≤ length self.now) }
-        ensures clear { (n : ℕ) → from ≤ n → n < result → slice_get self.now n ≡ Some false }
+    /// The first place whose mark is set; the number of marks where there is none.
+    pub fn first(&self) -> usize
+        ensures within { result ≤ length self.now }
+        ensures clear { (n : ℕ) → n < result → slice_get self.now n ≡ Some false }
         ensures set { result < length self.now → slice_get self.now result ≡ Some true }
     {
-        let index = from / BITS;
-        let word = self.words[index] >> (from % BITS);
-        if word != 0 {
-            return from + word.trailing_zeros() as usize;
+        let count = self.count;
+        let words = self.words();
+        for index in 0..words.len() {
+            let word = words[index];
+            if word != 0 {
+                return index * BITS + word.trailing_zeros() as usize;
+            }
         }
-        next_from_word(self.words.as_slice(), self.count, index + 1)
+        count
     }
 }

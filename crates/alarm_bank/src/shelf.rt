@@ -55,6 +55,7 @@ fn mark_below(tree: &[u64], count: usize, node: usize, most: u64, marks: &mut Ma
     requires node { (1 ≤ node) × (node < 2 * count) }
     requires few { count < 2 ^ 32 }
     requires marks { length marks.old ≡ count }
+    ensures size { length marks.new ≡ length marks.old }
     ensures kept { (n : ℕ) → slice_get marks.new n ≡ Some false → slice_get marks.old n ≡ Some false }
     ensures marked { (k n : ℕ) → n < count → IsUnder k node (count + n) → slice_index tree.now (count + n) ≤ most → slice_get marks.new n ≡ Some false → ⊥ }
     ensures others { (n : ℕ) → n < count → most < slice_index tree.now (count + n) → slice_get marks.new n ≡ slice_get marks.old n }
@@ -110,6 +111,7 @@ impl Shelf {
     pub fn mark_most(&self, most: u64, marks: &mut Marks)
         requires few { length self.now < 2 ^ 32 }
         requires marks { length marks.old ≡ length self.now }
+        ensures size { length marks.new ≡ length marks.old }
         ensures kept { (n : ℕ) → slice_get marks.new n ≡ Some false → slice_get marks.old n ≡ Some false }
         ensures marked { (n : ℕ) → n < length self.now → slice_index self.now n ≤ most → slice_get marks.new n ≡ Some false → ⊥ }
         ensures others { (n : ℕ) → n < length self.now → most < slice_index self.now n → slice_get marks.new n ≡ slice_get marks.old n }
