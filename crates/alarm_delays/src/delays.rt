@@ -6,7 +6,7 @@ ghost use Rattle.alarm_bank.specs.Banks.{scan_each};
 ghost use Rattle.alarm_bank.specs.Moves.{AreMovesOf};
 ghost use Rattle.alarm_delays.specs.Delays.{AreMet, ConditionsStay, DelaysAgree, Follows, IsFirstMark, FollowsOn, KeptAgree, RawStay, after_conditions, after_met, delayed, delayed_each, delays_reloaded, have_none, kept_since, last_conditions, put_since, since_after};
 
-use alarm_bank::{Bank, Marks, Shelf, Signals};
+use alarm_bank::{BITS, Bank, Marks, Shelf, Signals};
 use alarm_machine::{Alarm, Change};
 use std::alloc::{AllocError, Global};
 use std::marker::Model;
@@ -301,6 +301,7 @@ impl Delays {
 
     /// Lists the marked alarms, of which none comes before a first place, in order, each by its number with its condition, in place of what was listed
     /// before. Returns a place before which all of them are. Fails if allocation fails.
+    // The bits of a word are taken off one by one, lowest first, which is the shortest way from one mark to the next.
     fn list_met<S: Signals>(
         &self,
         raw: &S,
@@ -317,13 +318,17 @@ impl Delays {
         ensures end { IfOk result (λ end. (n : ℕ) → end ≤ n → n < length marks.now → slice_get marks.now n ≡ Some false) }
     {
         met.clear();
+        let words = marks.words();
         let mut end = first;
-        let mut at = first;
-        while at < marks.len() {
-            let number = at as u32;
-            met.push((number, raw.condition(number)))?;
-            end = at + 1;
-            at = marks.next(end);
+        for index in first / BITS..words.len() {
+            let mut left = words[index];
+            while left != 0 {
+                let at = index * BITS + left.trailing_zeros() as usize;
+                let number = at as u32;
+                met.push((number, raw.condition(number)))?;
+                end = at + 1;
+                left &= left - 1;
+            }
         }
         Ok(end)
     }
@@ -351,7 +356,7 @@ impl Delays {
         ensures met { OnOk result (after_met met.new.items moment moved.new.items self.now ≡ after_conditions (S.conditions raw.now) moment self.now) }
     {
         self.due.mark_most(moment, marks);
-        let first = marks.next(0);
+        let first = marks.first();
         let end = self.list_met(raw, marks, first, met)?;
         let counted = Counting {
             raw,
@@ -387,7 +392,7 @@ impl Delays {
     {
         let _last = self.last;
         met.clear();
-        let first = marks.next(0);
+        let first = marks.first();
         bank.list_moved_among(marks, first, marks.len(), raw, moment, moved, changes)?;
         Ok(())
     }
