@@ -194,6 +194,7 @@ pub fn mark_changed(
 )
     requires conditions { AreRanges (length marks.old) conditions.now.starts.items conditions.now.alarms.items }
     requires suppressions { AreRanges (length marks.old) suppressions.now.starts.items suppressions.now.alarms.items }
+    ensures size { length marks.new ≡ length marks.old }
     ensures conditions { (keys : List (Option ℕ)) → HaveRanges keys conditions.now.starts.items conditions.now.alarms.items → ChangesAreMarked keys (value_at before.now) (value_at now.now) marks.new }
     ensures suppressions { (keys : List (Option ℕ)) → HaveRanges keys suppressions.now.starts.items suppressions.now.alarms.items → ChangesAreMarked keys (value_at before.now) (value_at now.now) marks.new }
 {

@@ -69,6 +69,7 @@ fn suppress_keys(alloc: Global, watches: &[Watch]) -> Result<Vec<Option<u32>>, A
 
 /// Sets all marks, unless the alarms follow what they watch; then those that are set stay.
 fn mark_all_unless(follows: bool, marks: &mut Marks)
+    ensures size { length marks.new ≡ length marks.old }
     ensures kept { (n : ℕ) → slice_get marks.new n ≡ Some false → slice_get marks.old n ≡ Some false }
     ensures all { follows ≡ false → (n : ℕ) → slice_get marks.new n ≡ Some false → ⊥ }
 {
@@ -113,6 +114,7 @@ impl Watches {
     /// Marks the alarms one of whose globals holds another number in other cells.
     fn mark(&self, before: &Cells, now: &Cells, marks: &mut Marks)
         requires { length marks.old ≡ length self.now }
+        ensures size { length marks.new ≡ length marks.old }
         ensures conditions { ChangesAreMarked (condition_keys self.now) (value_at before.now) (value_at now.now) marks.new }
         ensures suppressions { ChangesAreMarked (suppress_keys self.now) (value_at before.now) (value_at now.now) marks.new }
     {
