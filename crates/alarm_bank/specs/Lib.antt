@@ -1,5 +1,6 @@
 pub mod Banks
 pub mod Counts
+pub mod Marks
 pub mod Moves
 pub mod Reloads
 pub mod Shelves

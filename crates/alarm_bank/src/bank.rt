@@ -9,7 +9,7 @@ ghost use Rattle.alarm_bank.specs.Reloads.{all_fit, bank_reloaded, sites_of};
 ghost use Rattle.alarm_bank.specs.Moves.{AreMoved, AddsMove, AreMovesOf, UnmarkedStay, NoShelfEnds, put_all};
 
 use crate::event::BankEvent;
-use crate::marks::next_mark;
+use crate::marks::{BITS, Marks};
 use crate::news::{alarms_of, all_fit, sites_of};
 use crate::rows::{Counted, NewAlarm, Site};
 use crate::shelf::Shelf;
@@ -391,9 +391,10 @@ impl Bank {
     /// Lists the alarms that a scan moves, and the changes of their codes, as `list_moved` does. It looks at the marked alarms alone, which lie from
     /// a first place up to before an end, unless a shelf ends by the scan's moment: each of the others has the condition and the suppression that it had in the
     /// last scan. Fails if allocation fails.
+    // The bits of a word are taken off one by one, lowest first, which is the shortest way from one mark to the next.
     pub fn list_moved_among<S: Signals>(
         &self,
-        marks: &[bool],
+        marks: &Marks,
         first: usize,
         end: usize,
         signals: &S,
@@ -415,14 +416,14 @@ impl Bank {
         }
         moved.clear();
         changes.clear();
+        let words = marks.words();
         let end = end.min(self.alarms.len());
-        let mut at = first;
-        while at < end {
-            if marks[at] {
+        for index in first / BITS..end / BITS + 1 {
+            let mut left = words[index];
+            while left != 0 {
+                let at = index * BITS + left.trailing_zeros() as usize;
                 self.list_move(at as u32, signals, moment, moved, changes)?;
-                at += 1;
-            } else {
-                at = next_mark(marks, at + 1);
+                left &= left - 1;
             }
         }
         Ok(())

@@ -17,7 +17,7 @@ mod summary;
 pub use annunciator::Annunciator;
 pub use bank::Bank;
 pub use event::BankEvent;
-pub use marks::next_mark;
+pub use marks::{BITS, Marks};
 pub use rows::{Counted, NewAlarm, Site};
 pub use shelf::Shelf;
 pub use signals::Signals;

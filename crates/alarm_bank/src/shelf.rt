@@ -3,6 +3,7 @@
 ghost use Rattle.std.specs.Prelude.{◌≡◌, ℕ, ◌+◌, ◌*◌, ◌≤◌, ◌^◌, ◌<◌, length, drop, slice_set, slice_index, slice_get, replicate, IfOk, Some, false};
 ghost use Rattle.alarm_bank.specs.Shelves.{IsTree, IsTreeBut, IsLeastOf, IsUnder};
 
+use crate::marks::Marks;
 use std::alloc::{AllocError, Global};
 use std::marker::Model;
 
@@ -49,11 +50,12 @@ fn mend(tree: &mut [u64], count: usize, place: usize)
 }
 
 /// Marks the places below a node that have at most a number. It looks only at nodes below which there is such a place, and at those beside them.
-fn mark_below(tree: &[u64], count: usize, node: usize, most: u64, marks: &mut [bool])
+fn mark_below(tree: &[u64], count: usize, node: usize, most: u64, marks: &mut Marks)
     requires tree { IsTree tree.now count }
     requires node { (1 ≤ node) × (node < 2 * count) }
     requires few { count < 2 ^ 32 }
     requires marks { length marks.old ≡ count }
+    ensures size { length marks.new ≡ length marks.old }
     ensures kept { (n : ℕ) → slice_get marks.new n ≡ Some false → slice_get marks.old n ≡ Some false }
     ensures marked { (k n : ℕ) → n < count → IsUnder k node (count + n) → slice_index tree.now (count + n) ≤ most → slice_get marks.new n ≡ Some false → ⊥ }
     ensures others { (n : ℕ) → n < count → most < slice_index tree.now (count + n) → slice_get marks.new n ≡ slice_get marks.old n }
@@ -62,7 +64,7 @@ fn mark_below(tree: &[u64], count: usize, node: usize, most: u64, marks: &mut [b
         return;
     }
     if node >= count {
-        marks[node - count] = true;
+        marks.set(node - count);
         return;
     }
     mark_below(tree, count, 2 * node, most, marks);
@@ -106,9 +108,10 @@ impl Shelf {
 
     /// Marks the places that have at most a number, of marks for all places, and leaves the others as they are. It looks only at the places that it
     /// marks, and at the nodes on the way to them.
-    pub fn mark_most(&self, most: u64, marks: &mut [bool])
+    pub fn mark_most(&self, most: u64, marks: &mut Marks)
         requires few { length self.now < 2 ^ 32 }
         requires marks { length marks.old ≡ length self.now }
+        ensures size { length marks.new ≡ length marks.old }
         ensures kept { (n : ℕ) → slice_get marks.new n ≡ Some false → slice_get marks.old n ≡ Some false }
         ensures marked { (n : ℕ) → n < length self.now → slice_index self.now n ≤ most → slice_get marks.new n ≡ Some false → ⊥ }
         ensures others { (n : ℕ) → n < length self.now → most < slice_index self.now n → slice_get marks.new n ≡ slice_get marks.old n }

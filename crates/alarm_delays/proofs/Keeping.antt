@@ -1,5 +1,5 @@
 -- Delays of new alarms that keep the scans of old ones.
-use Rattle.std.proofs.Common.{◌≡◌, ℕ, zero, suc, ◌++◌, ◌+◌, ◌<◌, ◌≤◌, Option, Some, None, List, [], ◌∷◌, length, map, take, drop, slice_set, slice_index_or, replicate, arith, refl, ap, ◌∙◌}
+use Rattle.std.proofs.Common.{◌≡◌, ℕ, zero, suc, ◌++◌, ◌<◌, Option, Some, None, List, [], ◌∷◌, length, map, take, drop, slice_set, slice_index_or, replicate, arith, refl, ap, ◌∙◌}
 use Rattle.std_blocks.specs.Calls.{Call}
 use Rattle.alarm_delays.specs.Delays.{KeptAgree, PlainDelays, kept_since, kept_scans, since_of}
 

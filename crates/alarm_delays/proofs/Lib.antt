@@ -1,3 +1,4 @@
 pub mod DelayLaws
 mod Examples
 pub mod Keeping
+pub mod MetLaws

@@ -6,7 +6,7 @@ ghost use Rattle.alarm_bank.specs.Banks.{scan_each};
 ghost use Rattle.alarm_bank.specs.Moves.{AreMovesOf};
 ghost use Rattle.alarm_delays.specs.Delays.{AreMet, ConditionsStay, DelaysAgree, Follows, IsFirstMark, FollowsOn, KeptAgree, RawStay, after_conditions, after_met, delayed, delayed_each, delays_reloaded, have_none, kept_since, last_conditions, put_since, since_after};
 
-use alarm_bank::{Bank, Shelf, Signals, next_mark};
+use alarm_bank::{BITS, Bank, Marks, Shelf, Signals};
 use alarm_machine::{Alarm, Change};
 use std::alloc::{AllocError, Global};
 use std::marker::Model;
@@ -301,10 +301,11 @@ impl Delays {
 
     /// Lists the marked alarms, of which none comes before a first place, in order, each by its number with its condition, in place of what was listed
     /// before. Returns a place before which all of them are. Fails if allocation fails.
+    // The bits of a word are taken off one by one, lowest first, which is the shortest way from one mark to the next.
     fn list_met<S: Signals>(
         &self,
         raw: &S,
-        marks: &[bool],
+        marks: &Marks,
         first: usize,
         met: &mut Vec<(u32, bool)>,
     ) -> Result<usize, AllocError>
@@ -317,16 +318,16 @@ impl Delays {
         ensures end { IfOk result (λ end. (n : ℕ) → end ≤ n → n < length marks.now → slice_get marks.now n ≡ Some false) }
     {
         met.clear();
+        let words = marks.words();
         let mut end = first;
-        let mut at = first;
-        while at < marks.len() {
-            if marks[at] {
+        for index in first / BITS..words.len() {
+            let mut left = words[index];
+            while left != 0 {
+                let at = index * BITS + left.trailing_zeros() as usize;
                 let number = at as u32;
                 met.push((number, raw.condition(number)))?;
-                at += 1;
-                end = at;
-            } else {
-                at = next_mark(marks, at + 1);
+                end = at + 1;
+                left &= left - 1;
             }
         }
         Ok(end)
@@ -340,7 +341,7 @@ impl Delays {
         bank: &Bank,
         raw: &S,
         moment: u64,
-        marks: &mut [bool],
+        marks: &mut Marks,
         met: &mut Vec<(u32, bool)>,
         moved: &mut Vec<(u32, Alarm)>,
         changes: &mut Vec<(u32, Change)>,
@@ -355,7 +356,7 @@ impl Delays {
         ensures met { OnOk result (after_met met.new.items moment moved.new.items self.now ≡ after_conditions (S.conditions raw.now) moment self.now) }
     {
         self.due.mark_most(moment, marks);
-        let first = next_mark(marks, 0);
+        let first = marks.first();
         let end = self.list_met(raw, marks, first, met)?;
         let counted = Counting {
             raw,
@@ -373,7 +374,7 @@ impl Delays {
         bank: &Bank,
         raw: &S,
         moment: u64,
-        marks: &[bool],
+        marks: &Marks,
         met: &mut Vec<(u32, bool)>,
         moved: &mut Vec<(u32, Alarm)>,
         changes: &mut Vec<(u32, Change)>,
@@ -391,7 +392,7 @@ impl Delays {
     {
         let _last = self.last;
         met.clear();
-        let first = next_mark(marks, 0);
+        let first = marks.first();
         bank.list_moved_among(marks, first, marks.len(), raw, moment, moved, changes)?;
         Ok(())
     }

@@ -5,6 +5,7 @@ ghost use Rattle.plant_cells.specs.Cells.{value_at};
 ghost use Rattle.alarm_watch.specs.Chains.{AreChains, GoesDown, HaveTops, HasKey, AreRanges, StandsIn, HaveRanges, IsLonger, ChangesAreMarked, ChangesOfAreMarked};
 
 use crate::watched::number_at;
+use alarm_bank::Marks;
 use plant_cells::Cells;
 use std::alloc::{AllocError, Global};
 use std::mem::replace;
@@ -113,7 +114,7 @@ pub fn ranges_of(alloc: Global, chains: &Chains) -> Result<Ranges, AllocError>
 
 /// Marks the alarms of a list from one place up to before another.
 #[inline(always)]
-fn mark_between(alarms: &[u32], start: usize, stop: usize, marks: &mut [bool])
+fn mark_between(alarms: &[u32], start: usize, stop: usize, marks: &mut Marks)
     requires stop { stop ≤ length alarms.now }
     requires numbers { (p : ℕ) → p < length alarms.now → slice_index alarms.now p < length marks.old }
     ensures size { length marks.new ≡ length marks.old }
@@ -121,13 +122,13 @@ fn mark_between(alarms: &[u32], start: usize, stop: usize, marks: &mut [bool])
     ensures marked { (n : ℕ) → StandsIn alarms.now start stop n → slice_get marks.new n ≡ Some false → ⊥ }
 {
     for place in start..stop {
-        marks[alarms[place] as usize] = true;
+        marks.set(alarms[place] as usize);
     }
 }
 
 /// Marks the alarms of a global that holds another number in other cells.
 #[inline(always)]
-fn mark_global(ranges: &Ranges, before: &Cells, now: &Cells, at: usize, marks: &mut [bool])
+fn mark_global(ranges: &Ranges, before: &Cells, now: &Cells, at: usize, marks: &mut Marks)
     requires ranges { AreRanges (length marks.old) ranges.now.starts.items ranges.now.alarms.items }
     requires at { at + 1 < length ranges.now.starts.items }
     ensures size { length marks.new ≡ length marks.old }
@@ -150,7 +151,7 @@ fn mark_globals(
     now: &Cells,
     from: usize,
     end: usize,
-    marks: &mut [bool],
+    marks: &mut Marks,
 )
     requires ranges { AreRanges (length marks.old) ranges.now.starts.items ranges.now.alarms.items }
     ensures size { length marks.new ≡ length marks.old }
@@ -189,10 +190,11 @@ pub fn mark_changed(
     suppressions: &Ranges,
     before: &Cells,
     now: &Cells,
-    marks: &mut [bool],
+    marks: &mut Marks,
 )
     requires conditions { AreRanges (length marks.old) conditions.now.starts.items conditions.now.alarms.items }
     requires suppressions { AreRanges (length marks.old) suppressions.now.starts.items suppressions.now.alarms.items }
+    ensures size { length marks.new ≡ length marks.old }
     ensures conditions { (keys : List (Option ℕ)) → HaveRanges keys conditions.now.starts.items conditions.now.alarms.items → ChangesAreMarked keys (value_at before.now) (value_at now.now) marks.new }
     ensures suppressions { (keys : List (Option ℕ)) → HaveRanges keys suppressions.now.starts.items suppressions.now.alarms.items → ChangesAreMarked keys (value_at before.now) (value_at now.now) marks.new }
 {

@@ -9,7 +9,7 @@ ghost use Rattle.alarm_delays.specs.Delays.{after_conditions, after_met};
 
 use crate::chains::{Ranges, chains_of, mark_changed, ranges_of};
 use crate::watched::{Watch, Watched};
-use alarm_bank::Bank;
+use alarm_bank::{Bank, Marks};
 use alarm_delays::Delays;
 use alarm_machine::{Alarm, Change};
 use plant_cells::Cells;
@@ -67,22 +67,9 @@ fn suppress_keys(alloc: Global, watches: &[Watch]) -> Result<Vec<Option<u32>>, A
     Ok(keys)
 }
 
-/// So many flags, none of them set, in the room of other flags. Fails if allocation fails.
-fn clear_marks(alloc: Global, marks: &mut Vec<bool>, count: usize) -> Result<(), AllocError>
-    ensures { IfOk result (λ r. length marks.new.items ≡ count) }
-{
-    if marks.len() != count {
-        *marks = vec![in alloc; false; count]?;
-        return Ok(());
-    }
-    for mark in marks.iter_mut() {
-        *mark = false;
-    }
-    Ok(())
-}
-
 /// Sets all marks, unless the alarms follow what they watch; then those that are set stay.
-fn mark_all_unless(follows: bool, marks: &mut [bool])
+fn mark_all_unless(follows: bool, marks: &mut Marks)
+    ensures size { length marks.new ≡ length marks.old }
     ensures kept { (n : ℕ) → slice_get marks.new n ≡ Some false → slice_get marks.old n ≡ Some false }
     ensures all { follows ≡ false → (n : ℕ) → slice_get marks.new n ≡ Some false → ⊥ }
 {
@@ -90,7 +77,7 @@ fn mark_all_unless(follows: bool, marks: &mut [bool])
         return;
     }
     for at in 0..marks.len() {
-        marks[at] = true;
+        marks.set(at);
     }
 }
 
@@ -125,8 +112,9 @@ impl Watches {
     }
 
     /// Marks the alarms one of whose globals holds another number in other cells.
-    fn mark(&self, before: &Cells, now: &Cells, marks: &mut [bool])
+    fn mark(&self, before: &Cells, now: &Cells, marks: &mut Marks)
         requires { length marks.old ≡ length self.now }
+        ensures size { length marks.new ≡ length marks.old }
         ensures conditions { ChangesAreMarked (condition_keys self.now) (value_at before.now) (value_at now.now) marks.new }
         ensures suppressions { ChangesAreMarked (suppress_keys self.now) (value_at before.now) (value_at now.now) marks.new }
     {
@@ -143,7 +131,7 @@ impl Watches {
         last: &LastScan<'_>,
         now: &Cells,
         moment: u64,
-        marks: &mut Vec<bool>,
+        marks: &mut Marks,
         met: &mut Vec<(u32, bool)>,
         moved: &mut Vec<(u32, Alarm)>,
         changes: &mut Vec<(u32, Change)>,
@@ -166,8 +154,7 @@ impl Watches {
             watches,
             cells: now,
         };
-        clear_marks(alloc, marks, watches.len())?;
-        let marks = marks.as_mut_slice();
+        marks.clear(alloc, watches.len())?;
         self.mark(cells, now, marks);
         mark_all_unless(follows, marks);
         if follows && delays.is_plain() {

@@ -14,7 +14,7 @@ ghost use Rattle.plant_system.specs.States.{IsReport, delays_in};
 
 use crate::journal::{keep_names, line_text, push_order, push_scan, row_count};
 use crate::reload::{PreparedReload, ReloadRefused, Reloaded};
-use alarm_bank::Summary;
+use alarm_bank::{Marks, Summary};
 use alarm_delays::Delays;
 use alarm_machine::{AlarmState, Verb};
 use crew::Crew;
@@ -90,7 +90,7 @@ fn opening(alloc: Global, plant: &Plant) -> Result<(State, Room), AllocError>
     let state = opening_state(alloc, plant)?;
     let run = RunRoom {
         space: Workspace::new(alloc),
-        marks: Vec::new(alloc),
+        marks: Marks::new(alloc)?,
     };
     let room = Room {
         alloc,

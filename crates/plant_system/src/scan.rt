@@ -15,6 +15,7 @@ use crate::event::{EngineFault, Report};
 use crate::image::{Input, taken_image};
 use crate::state::{ScanEffect, State, copy_cells, copy_flags, empty_effect};
 use crate::steps::{list_changed, renew, set_inputs, step_alarms};
+use alarm_bank::Marks;
 use crew::Crew;
 use plant_config::Plant;
 use plant_types::{Pair, Value};
@@ -78,7 +79,7 @@ pub struct RunRoom {
     /// For the programs' runs.
     pub space: Workspace,
     /// For the marks of the alarms that may move.
-    pub marks: Vec<bool>,
+    pub marks: Marks,
 }
 
 /// What a scan begins from.

@@ -12,7 +12,7 @@ ghost use Rattle.alarm_bank.specs.Moves.{put_all, changes_from};
 ghost use Rattle.plant_system.specs.Steps.{with_cell, output_in, differs, IsShowable, AreShowable};
 
 use crate::state::State;
-use alarm_bank::Site;
+use alarm_bank::{Marks, Site};
 use alarm_machine::{Alarm, Change};
 use alarm_watch::{LastScan, Watch, value_at};
 use plant_cells::Cells;
@@ -91,7 +91,7 @@ pub fn step_alarms(
     old: &State,
     cells: &Cells,
     moment: u64,
-    marks: &mut Vec<bool>,
+    marks: &mut Marks,
     met: &mut Vec<(u32, bool)>,
     moved: &mut Vec<(u32, Alarm)>,
     changes: &mut Vec<(u32, Change)>,

@@ -1,4 +1,4 @@
-use Rattle.std.proofs.Common.{◌≡◌, ◌≤◌, ◌<◌, ◌+◌, ◌-◌, ℕ, List, Some, true, length, slice_get, slice_set, arith, ap, subst, sym, ◌∙◌}
+use Rattle.std.proofs.Common.{◌≡◌, ◌<◌, ◌-◌, ℕ, List, Some, true, length, slice_get, slice_set, arith, ap, subst, sym, ◌∙◌}
 use Rattle.std.proofs.lemmas.Option.{same_Some, slice_get-get_or}
 use Rattle.alarm_delays.specs.Delays.{PlainDelays, IsDelays, have_none}
 use Rattle.alarm_delays.proofs.DelayLaws.{none_at, put_delays, put_none}

@@ -1,74 +1,94 @@
-use Rattle.std.proofs.Common.{inl, inr, ◌≡◌, ℕ, false, Some, slice_get, ◌≤◌, ◌<◌, ◌+◌, ◌-◌, ◌++◌, ◌∷◌, [], drop, length, arith, ap, sym, ◌∙◌, subst, refl}
-use Rattle.std.proofs.lemmas.List.{append_assoc, append-nil, drop_all}
+use Rattle.std.proofs.Common.{inl, inr, ◌≡◌, ℕ, ◌≤◌, ◌<◌, ◌+◌, ◌*◌, ◌/◌, min, false, Some, slice_get, [], length, w64, arith, refl}
+use Rattle.std.specs.Int.{trailing_zeros}
 use Rattle.std.proofs.lemmas.Bool.{cases_lt}
-use Rattle.std.proofs.lemmas.Option.{slice_get-get_or}
-use Rattle.alarm_delays.specs.Delays.{AreMet}
-use Rattle.alarm_delays.proofs.DelayLaws.{listed_one, passed_over}
+use Rattle.alarm_bank.proofs.MarkLaws.{left_all, none_left, first_low, first_set, first_clear, left_next, set_within, mark_bit}
+use Rattle.alarm_delays.proofs.MetLaws.{MetOn, met_first, met_over, met_one, met_all}
 use Rattle.alarm_delays.proofs.delays.Delays.list_met.Goals as goal
 
-pub loop-at-init : goal.loop-at-init
-loop-at-init g c =
-    let marks = c.args.marks.now in
-    let cs = g.S.Signals.conditions c.args.raw.now in
-    let since = c.args.self.now.since in
-    let first = c.args.first in
+pub loop-index-init : goal.loop-index-init
+loop-index-init g c =
     let is = c.requires.first in
+    let within : min (c.args.first / 64 * 64) (length c.args.marks.now) ≤ length c.args.self.now.since = omega (arith, c.requires.marks) in
     record {
-      listed = λ rest h. rw c.clear.ensures.items (passed_over first 0 first marks cs since rest (omega arith) c.requires.each (rw c.requires.marks at is.within) c.requires.unmarked (λ n low less. is.clear n less) h);
-      within = is.within;
+      listed = rw c.clear.ensures.items (met_over c.args.marks.now 0 (min (c.args.first / 64 * 64) (length c.args.marks.now)) (g.S.Signals.conditions c.args.raw.now) c.args.self.now.since [] (omega arith) within c.requires.each c.requires.unmarked (λ n low less. is.clear n (omega (arith, less))) (met_first (g.S.Signals.conditions c.args.raw.now) c.args.self.now.since));
       clear = λ n low less. absurd (omega (arith, low, less));
     }
 
-pub loop-at-preserved-then-marks-at : goal.loop-at-preserved-then-marks-at
-loop-at-preserved-then-marks-at g c =
+pub loop-left-init : goal.loop-left-init
+loop-left-init g c =
+    let room = c.words-words.ensures.marks.room in
+    let within : c.loop-index.index * 64 ≤ length c.args.marks.now = omega (arith, c.loop-index-test.true, room) in (
+      c.loop-index.index * 64,
+      record {
+        left = left_all c.words-words.result.now c.loop-index.index _ refl;
+        within = within;
+        listed = met_over c.args.marks.now (min (c.loop-index.index * 64) (length c.args.marks.now)) (c.loop-index.index * 64) (g.S.Signals.conditions c.args.raw.now) c.args.self.now.since c.loop-index.met.items (omega arith) (omega (arith, within, c.requires.marks)) c.requires.each c.requires.unmarked (λ n low less. absurd (omega (arith, low, less, within))) c.loop-index.invariant.listed;
+        clear = λ n low less. c.loop-index.invariant.clear n low (omega (arith, less, within));
+      },
+    )
+
+pub overflow_cast-number : goal.overflow_cast-number
+overflow_cast-number g c =
+    let set = first_set c.words-words.result.now c.loop-index.index c.loop-left.left c.loop-left.invariant.0 c.loop-left.invariant.1.left (omega (arith, c.loop-left-test.true)) c.loop-left.auto.left-fits.fits in
+    let there = set_within (length c.args.marks.now) c.words-words.result.now (c.loop-index.index * 64 + trailing_zeros w64 c.loop-left.left) c.words-words.ensures.marks set in
+    record { fits = omega (arith, there, c.requires.marks, c.requires.few) }
+
+pub condition-requires : goal.condition-requires
+condition-requires g c =
+    let set = first_set c.words-words.result.now c.loop-index.index c.loop-left.left c.loop-left.invariant.0 c.loop-left.invariant.1.left (omega (arith, c.loop-left-test.true)) c.loop-left.auto.left-fits.fits in
+    let there = set_within (length c.args.marks.now) c.words-words.result.now (c.loop-index.index * 64 + trailing_zeros w64 c.loop-left.left) c.words-words.ensures.marks set in
+    omega (arith, there, c.requires.marks, c.requires.each)
+
+pub loop-left-preserved : goal.loop-left-preserved
+loop-left-preserved g c =
+    let words = c.words-words.result.now in
+    let left = c.loop-left.left in
+    let place = c.loop-left.invariant.0 in
+    let is = c.loop-left.invariant.1.left in
     let cs = g.S.Signals.conditions c.args.raw.now in
     let since = c.args.self.now.since in
-    let here = c.loop-at.at in
-    let below : here < length since = rw c.requires.marks at c.loop-at-test.true in
-    record {
-      listed = λ rest h.
-          subst (λ l. AreMet 0 cs since l) (sym (append_assoc c.loop-at.met.items ((here, c.condition.result) ∷ []) rest) ∙ ap (λ l. l ++ rest) (sym c.in_ok-push.ensures.items))
-          (c.loop-at.invariant.listed ((here, c.condition.result) ∷ rest) (listed_one here c.condition.result cs since rest c.requires.each below c.condition.ensures h));
-      within = omega (arith, c.loop-at-test.true);
-      clear = λ n low less. absurd (omega (arith, low, less));
-    }
+    let some : 0 < left = omega (arith, c.loop-left-test.true) in
+    let small = c.loop-left.auto.left-fits.fits in
+    let at : ℕ = c.loop-index.index * 64 + trailing_zeros w64 left in
+    let there : at < length c.args.marks.now = set_within (length c.args.marks.now) words at c.words-words.ensures.marks (first_set words c.loop-index.index left place is some small) in
+    let within : at < length since = omega (arith, there, c.requires.marks) in
+    let listed : MetOn at cs since c.loop-left.met.items =
+    met_over c.args.marks.now place at cs since c.loop-left.met.items (first_low words c.loop-index.index left place is some small) (omega (arith, within)) c.requires.each c.requires.unmarked
+    (λ n above before. mark_bit c.args.marks.now words n false c.words-words.ensures.flags (omega (arith, before, there)) (first_clear words c.loop-index.index left place is some small n above before))
+    c.loop-left.invariant.1.listed in (
+      at + 1,
+      record {
+        left = left_next words c.loop-index.index left place is some small;
+        within = omega (arith, there);
+        listed = met_one at c.condition.result cs since c.loop-left.met.items _ c.requires.each within c.condition.ensures c.in_ok-push.ensures.items listed;
+        clear = λ n low less. absurd (omega (arith, low, less));
+      },
+    )
 
-pub loop-at-preserved : goal.loop-at-preserved
-loop-at-preserved g c =
+pub loop-index-preserved : goal.loop-index-preserved
+loop-index-preserved g c =
     let marks = c.args.marks.now in
-    let cs = g.S.Signals.conditions c.args.raw.now in
-    let since = c.args.self.now.since in
-    let here = c.loop-at.at in
-    let next = c.next_mark-at.result in
-    let low = c.next_mark-at.ensures.within.0 in
-    let high : next ≤ length since = rw c.requires.marks at c.next_mark-at.ensures.within.1 in
-    let below : here < length since = rw c.requires.marks at c.loop-at-test.true in
-    let unmarked : slice_get marks here ≡ Some false = slice_get-get_or marks here false c.loop-at-test.true ∙ ap Some c.if-marks-at.false in
+    let place = c.loop-left.invariant.0 in
+    let is = c.loop-left.invariant.1.left in
+    let high = is.high in
+    let within = c.loop-left.invariant.1.within in
+    let none = none_left c.words-words.result.now c.loop-index.index c.loop-left.left place is (omega (arith, c.loop-left-test.false)) in
+    let past : (n : ℕ) → place ≤ n → n < min ((c.loop-index.index + 1) * 64) (length marks) → slice_get marks n ≡ Some false =
+    λ n above before. mark_bit marks c.words-words.result.now n false c.words-words.ensures.flags (omega (arith, before)) (none n above (omega (arith, before))) in
     record {
-      listed = λ rest h.
-          let others = passed_over (next - (here + 1)) (here + 1) next marks cs since rest (omega (arith, low)) c.requires.each high c.requires.unmarked c.next_mark-at.ensures.clear h in
-          c.loop-at.invariant.listed rest (passed_over 1 here (here + 1) marks cs since rest (omega arith) c.requires.each (omega (arith, below)) c.requires.unmarked (λ n from to. ap (slice_get marks) (same here n from to) ∙ unmarked) others);
-      within = c.next_mark-at.ensures.within.1;
-      clear = λ n from less. elim (cases_lt n here) [
-        | inl before ↦ c.loop-at.invariant.clear n from before
-        | inr past ↦ elim (cases_lt here n) [
-          | inl after ↦ c.next_mark-at.ensures.clear n (omega (arith, after)) less
-          | inr not_past ↦ ap (slice_get marks) (same here n past (omega (arith, not_past))) ∙ unmarked
-        ]
+      listed = met_over marks place (min ((c.loop-index.index + 1) * 64) (length marks)) (g.S.Signals.conditions c.args.raw.now) c.args.self.now.since c.loop-left.met.items (omega (arith, high, within)) (omega (arith, c.requires.marks)) c.requires.each c.requires.unmarked past c.loop-left.invariant.1.listed;
+      clear = λ n low less. elim (cases_lt n place) [
+        | inl before ↦ c.loop-left.invariant.1.clear n low before
+        | inr after ↦ past n after less
       ];
     }
-  where
-    same : (here n : ℕ) → here ≤ n → n < here + 1 → n ≡ here
-    same here n from to = omega (arith, from, to)
 
 pub returns-clause-met : goal.returns-clause-met
 returns-clause-met g c =
-    let cs = g.S.Signals.conditions c.args.raw.now in
-    let since = c.args.self.now.since in
-    let end : length since ≤ c.loop-at.at = let marks = c.requires.marks in let stop = c.loop-at-test.false in omega (arith, marks, stop) in
-    let done : AreMet c.loop-at.at (drop c.loop-at.at cs) (drop c.loop-at.at since) [] =
-    subst (λ l. AreMet c.loop-at.at l (drop c.loop-at.at since) []) (sym (drop_all c.loop-at.at cs (let each = c.requires.each in omega (arith, each, end)))) (subst (λ l. AreMet c.loop-at.at [] l []) (sym (drop_all c.loop-at.at since end)) refl) in
-    subst (λ l. AreMet 0 cs since l) (append-nil c.loop-at.met.items) (c.loop-at.invariant.listed [] done)
+    let room = c.words-words.ensures.marks.room in
+    met_all (min (c.loop-index.index * 64) (length c.args.marks.now)) (g.S.Signals.conditions c.args.raw.now) c.args.self.now.since c.loop-index.met.items (omega (arith, room, c.requires.marks, c.loop-index-test.false)) c.requires.each c.loop-index.invariant.listed
 
 pub returns-clause-end : goal.returns-clause-end
-returns-clause-end g c = λ n low less. c.loop-at.invariant.clear n low (omega (arith, less, c.loop-at-test.false))
+returns-clause-end g c = λ n low less.
+    let room = c.words-words.ensures.marks.room in
+    c.loop-index.invariant.clear n low (omega (arith, room, less, c.loop-index-test.false))

@@ -1,4 +1,4 @@
-use Rattle.std.proofs.Common.{arith, sym, ◌∙◌, subst}
+use Rattle.std.proofs.Common.{sym, ◌∙◌, subst}
 use Rattle.alarm_delays.specs.Delays.{PlainDelays, IsDelays}
 use Rattle.alarm_delays.proofs.DelayLaws.{each_length, none_comes, told_all, unmarked_stay}
 use Rattle.alarm_delays.proofs.delays.Delays.list_moved.Goals as goal
@@ -17,10 +17,10 @@ list_moved_among-requires-clause-conditions g c =
     each_length _ c.args.moment d.delays d.since c.requires.conditions is.each ∙ sym c.requires.each
 
 pub list_met-requires-clause-first : goal.list_met-requires-clause-first
-list_met-requires-clause-first g c = record { within = c.next_mark-first.ensures.within.1; clear = λ n less. c.next_mark-first.ensures.clear n (omega arith) less; set = c.next_mark-first.ensures.set }
+list_met-requires-clause-first g c = record { within = c.first-first.ensures.within; clear = c.first-first.ensures.clear; set = c.first-first.ensures.set }
 
 pub list_moved_among-requires-clause-clear : goal.list_moved_among-requires-clause-clear
-list_moved_among-requires-clause-clear g c = λ n less. c.next_mark-first.ensures.clear n (omega arith) less
+list_moved_among-requires-clause-clear g c = c.first-first.ensures.clear
 
 pub list_moved_among-requires-clause-rest : goal.list_moved_among-requires-clause-rest
 list_moved_among-requires-clause-rest g c = c.in_ok-end.ensures.end

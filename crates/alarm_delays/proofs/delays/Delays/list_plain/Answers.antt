@@ -16,7 +16,7 @@ list_moved_among-requires-clause-unmarked g c =
     (unmarked_stay d c.args.marks.now c.args.marks.now cs ss c.args.moment alarms is.each is.past c.requires.later c.requires.each (λ n h. h) (none_awaited d c.args.marks.now c.args.moment c.requires.plain) c.requires.unmarked)
 
 pub list_moved_among-requires-clause-clear : goal.list_moved_among-requires-clause-clear
-list_moved_among-requires-clause-clear g c = λ n less. c.next_mark-first.ensures.clear n (omega arith) less
+list_moved_among-requires-clause-clear g c = c.first-first.ensures.clear
 
 pub list_moved_among-requires-clause-rest : goal.list_moved_among-requires-clause-rest
 list_moved_among-requires-clause-rest g c = λ n low less. absurd (omega (arith, low, less))

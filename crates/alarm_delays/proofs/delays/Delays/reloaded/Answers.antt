@@ -1,4 +1,4 @@
-use Rattle.std.proofs.Common.{◌≡◌, ◌<◌, ◌≤◌, ◌+◌, ◌++◌, suc, [], Option, None, ℕ, length, map, take, drop, replicate, slice_set, slice_index_or, arith, ap, rules, sym, ◌∙◌}
+use Rattle.std.proofs.Common.{◌≡◌, ◌<◌, ◌≤◌, ◌+◌, ◌++◌, suc, Option, None, ℕ, length, map, take, drop, replicate, slice_set, slice_index_or, arith, ap, rules, sym, ◌∙◌}
 use Rattle.std.proofs.lemmas.List.{append-nil, drop_all, take_all}
 use Rattle.alarm_delays.specs.Delays.{PlainDelays, kept_since}
 use Rattle.alarm_delays.proofs.Keeping.{keep_more, none_met, none_yet, made_of}

@@ -1,4 +1,4 @@
-use Rattle.std.proofs.Common.{◌≡◌, ◌++◌, None, map, take, drop}
+use Rattle.std.proofs.Common.{◌≡◌, ◌++◌, map, take, drop}
 use Rattle.alarm_delays.specs.Delays.{kept_since}
 use Rattle.alarm_delays.proofs.Keeping.{none_met}
 use Rattle.alarm_delays.proofs.delays.Delays.reloaded.Given as goal

@@ -1,9 +1,6 @@
-use Rattle.std.proofs.Common.{◌≡◌, ◌∙◌, List, inl, inr, subst}
-use Rattle.std.specs.Prelude.{OnOk}
+use Rattle.std.proofs.Common.{◌≡◌, ◌∙◌, inl, inr}
 use Rattle.std.proofs.lemmas.Bool.{cases_Bool}
 use Rattle.plant_cells.specs.Cells.{value_at}
-use Rattle.alarm_delays.specs.Delays.{after_conditions, after_met}
-use Rattle.alarm_watch.specs.declared.watched.Watch.{Watch}
 use Rattle.alarm_watch.specs.Watched.{watched_conditions, watched_suppressions}
 use Rattle.alarm_watch.proofs.WatchLaws.{none_unmarked, raw_stays, stays_raw}
 use Rattle.alarm_watch.proofs.watches.Watches.list_moved.Goals as goal
