@@ -6,23 +6,12 @@ use Rattle.std.proofs.lemmas.Bool.Decides.{nat_tests}
 use Rattle.plant_config.specs.Plants.{PlainPlant}
 use Rattle.event_history.specs.declared.event.Event.{Event}
 use Rattle.plant_system.specs.System.{System, opening_system, after_event}
-use Rattle.journal_core.specs.declared.row.Row.{Row}
-use Rattle.engine.specs.Journal.{NamedEntry, NamedRow, named_text, rows_from, added_entries, added_rows, journal_from, journal_of, row_plants, named_rows, AreNamed, IsJournal, IsLine}
+use Rattle.engine.specs.Journal.{NamedEntry, NamedRow, named_text, rows_from, added_entries, added_rows, journal_from, journal_of, IsLine}
 use Rattle.archive.specs.Pages.{is_on_page, IsPage}
 use Rattle.archive.proofs.Numbered.{NumberedFrom, is_between, numbered_append, none_kept, same_kept, one_more, on_page}
 
 abbrev pub number_of : NamedRow → ℕ
 number_of row = row.number
-
--- ---- as many rows in a log as in the journal that they are
-many_rows : (plants : List PlainPlant) (rows : List Row) → AreNamed plants rows → length (named_rows plants rows) ≡ length rows
-many_rows [] [] named = refl
-many_rows [] (row ∷ rows) named = absurd named
-many_rows (plant ∷ plants) [] named = absurd named
-many_rows (plant ∷ plants) (row ∷ rows) named = ap suc (many_rows plants rows named.1)
-
-pub as_many_rows : (plant : PlainPlant) (history : List Event) (rows : List Row) → IsJournal plant history rows → length rows ≡ length (journal_of plant history)
-as_many_rows plant history rows held = sym (many_rows (row_plants plant history) rows held.named) ∙ ap length held.rows_are
 
 -- ---- the journal is numbered from 1
 length_rows : (n moment : ℕ) (entries : List NamedEntry) → length (rows_from n moment entries) ≡ length entries

@@ -8,8 +8,7 @@ use Rattle.std.proofs.lemmas.Option.{none-some, get_or_from_slice_get}
 use Rattle.command_text.specs.Lines.{row_line}
 use Rattle.plant_config.specs.Plants.{PlainPlant}
 use Rattle.event_history.specs.declared.event.Event.{Event}
-use Rattle.journal_core.specs.declared.row.Row.{Row}
-use Rattle.engine.specs.Journal.{journal_of, row_plants, named_rows, AreNamed, IsJournal, IsLine}
+use Rattle.engine.specs.Journal.{journal_of, IsLine}
 use Rattle.command_answers.specs.Listings.{HasListed, HasRow, text_of, named_line}
 
 -- no lines
@@ -34,16 +33,6 @@ pub listed_take : {X : Type 0} (f : X → List (List ℕ)) (xs : List X) (i : �
 listed_take f xs i x old mid new n m within is p q = rw (← flat_take f xs i x within is) (listed_more old mid new n m (flat_map f (take i xs)) (f x) p q)
 
 -- ---- rows of the journal
-
-many_rows : (plants : List PlainPlant) (rows : List Row) → AreNamed plants rows → length (named_rows plants rows) ≡ length rows
-many_rows [] [] p = refl
-many_rows [] (row ∷ rows) p = absurd p
-many_rows (plant ∷ plants) [] p = absurd p
-many_rows (plant ∷ plants) (row ∷ rows) p = ap suc (many_rows plants rows p.1)
-
--- as many rows in a log as in the journal that they are
-pub as_many_rows : (plant : PlainPlant) (history : List Event) (rows : List Row) → IsJournal plant history rows → length rows ≡ length (journal_of plant history)
-as_many_rows plant history rows held = sym (many_rows (row_plants plant history) rows held.named) ∙ ap length held.rows_are
 
 -- the line of a number is that of its row
 pub row_there : (plant : PlainPlant) (history : List Event) (number : ℕ) (text old new : List ℕ) → IsLine plant.epoch (journal_of plant history) number text → new ≡ old ++ row_line text → HasRow plant history number old new

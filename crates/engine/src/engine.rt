@@ -200,6 +200,7 @@ impl Engine {
     /// The journal: the rows that the events so far added, numbered from 1.
     pub fn journal(&self) -> &Log
         ensures journal { IsJournal self.now.plant self.now.history result.now.rows }
+        ensures rows { length result.now.rows ≡ length (journal_of self.now.plant self.now.history) }
         ensures row_room { result.now.room ≡ self.now.row_room }
     {
         &self.log

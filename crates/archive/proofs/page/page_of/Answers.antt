@@ -2,7 +2,7 @@ use Rattle.std.proofs.Common.{◌≡◌, ◌∙◌, ◌-◌, ◌≤◌, map, [],
 use Rattle.std.specs.Prelude.{string_bytes}
 use Rattle.std.proofs.lemmas.List.{map-append}
 use Rattle.engine.specs.Journal.{journal_of}
-use Rattle.archive.proofs.Pages.{as_many_rows, page_none, page_more, page_whole}
+use Rattle.archive.proofs.Pages.{page_none, page_more, page_whole}
 use Rattle.archive.proofs.page.page_of.Goals as goal
 
 pub loop-before-init : goal.loop-before-init
@@ -24,7 +24,7 @@ pub returns : goal.returns
 returns c =
     let e = c.args.engine.now in
     let start : c.args.from - 1 ≤ c.loop-before.before = omega (arith, c.saturating_sub-before.ensures, c.loop-before.auto.before) in
-    let many : c.len-rows.result ≡ length (journal_of e.plant e.history) = c.len-rows.ensures.count ∙ as_many_rows e.plant e.history c.journal.result.now.rows c.journal.ensures.journal in
+    let many : c.len-rows.result ≡ length (journal_of e.plant e.history) = c.len-rows.ensures.count ∙ c.journal.ensures.rows in
     page_whole e.plant e.history c.args.from c.args.n c.len-rows.result c.page_end-before-end.result c.loop-before.before (map string_bytes c.loop-before.lines.items)
     many c.page_end-before-end.ensures c.loop-before-test.false start
     (λ h. omega (arith, h, c.saturating_sub-before.ensures, c.loop-before.auto.before-end)) c.loop-before.invariant
@@ -32,5 +32,5 @@ returns c =
 pub line-requires-clause-last : goal.line-requires-clause-last
 line-requires-clause-last c =
     let e = c.args.engine.now in
-    let many : c.len-rows.result ≡ length (journal_of e.plant e.history) = c.len-rows.ensures.count ∙ as_many_rows e.plant e.history c.journal.result.now.rows c.journal.ensures.journal in
+    let many : c.len-rows.result ≡ length (journal_of e.plant e.history) = c.len-rows.ensures.count ∙ c.journal.ensures.rows in
     omega (arith, many, c.page_end-before-end.ensures, c.loop-before-test.true)
