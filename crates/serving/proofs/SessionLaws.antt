@@ -135,6 +135,13 @@ pub stopped-unwritten : (plant : PlainPlant) (request : Request) (line body : Li
 stopped-unwritten plant request line body h₀ h₁ w none same (inl h) = stopped-none plant (request ∷ []) h₀ h₁ w h
 stopped-unwritten plant request line body h₀ h₁ w none same (inr h) = stopped-line plant request line body [] (answer_after plant h₀ (command_of line)) h₀ h₁ w w none same h refl (Appends-nil w)
 
+-- a reload to which nothing is written, and that may have taken effect
+pub stopped-reload : (plant : PlainPlant) (request : Request) (line body : List ℕ) (sizes : PlainSizes) (h₀ h₁ : List Event) (w : Option (List ℕ)) → reload_sizes line ≡ Some sizes → AsksAlike (record { line = line; body = body }) request
+    → (h₁ ≡ h₀) ⊎ ((text : List ℕ) × IsReload plant h₀ sizes body h₁ text) → Stopped plant (request ∷ []) h₀ h₁ w w
+stopped-reload plant request line body sizes h₀ h₁ w is same (inl h) = stopped-none plant (request ∷ []) h₀ h₁ w h
+stopped-reload plant request line body sizes h₀ h₁ w is same (inr r) =
+    stopped-request plant request [] r.0 h₀ h₁ w w (is_reload plant request line body r.0 sizes h₀ h₁ is same r.1) (Appends-nil w)
+
 -- ---- requests that ask alike
 
 none_asked : (requests : List Request) → AskAlike [] requests → requests ≡ []
@@ -142,8 +149,8 @@ none_asked [] same = refl
 none_asked (r ∷ rs) same = absurd same
 
 -- nothing was asked
-pub serves-none : (requests : List Request) (e : PlainEngine) (w : Option (List ℕ)) → AskAlike [] requests → Serves (Ok tt) requests e e w w
-serves-none requests e w same = subst (λ (rs : List Request). Serves (Ok tt) rs e e w w) (sym (none_asked requests same)) (answered-none e.plant e.history w, tt)
+pub serves-none : (requests : List Request) (e : PlainEngine) (w : Option (List ℕ)) → AskAlike [] requests → Serves {T = Unit} (Ok tt) requests e e w w
+serves-none requests e w same = subst (λ (rs : List Request). Serves {T = Unit} (Ok tt) rs e e w w) (sym (none_asked requests same)) (answered-none e.plant e.history w, tt)
 
 one_asked : (x : Request) (requests : List Request) → AskAlike (x ∷ []) requests → (r : Request) × (requests ≡ r ∷ []) × AsksAlike x r
 one_asked x [] same = absurd same

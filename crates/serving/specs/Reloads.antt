@@ -1,5 +1,5 @@
 -- What a reload may be answered, and which history it leaves.
-use Rattle.std.specs.Prelude.{◌≡◌, ◌⊎◌, ℕ, nat_lt, false, if◌then◌else◌, List, [], ◌∷◌, ◌++◌, length, take, drop, codes, Option, Some, None}
+use Rattle.std.specs.Prelude.{◌≡◌, ◌⊎◌, ℕ, nat_lt, false, cond, List, [], ◌∷◌, ◌++◌, length, take, drop, codes, Option, Some, None}
 use Rattle.plant_file.specs.Read.{plant_file_in}
 use Rattle.plant_config.specs.Files.{Texts, texts_of}
 use Rattle.plant_config.specs.Plants.{PlainPlant}
@@ -63,7 +63,7 @@ pub record IsReloaded (sys : System) (texts : Texts) (events : List Event) (text
 -- so may a reload with a body that has as many bytes as its line tells of; with fewer it is refused by L2
 abbrev pub IsReloadAnswer : System → PlainSizes → (body : List ℕ) → List Event → List ℕ → Type 0
 IsReloadAnswer sys sizes body events text =
-    if nat_lt (length body) (total_size sizes) then (events ≡ []) × (text ≡ refused_line (codes "L2")) else IsReloaded sys (handed_texts sizes body) events text
+    cond (nat_lt (length body) (total_size sizes)) ((events ≡ []) × (text ≡ refused_line (codes "L2"))) (IsReloaded sys (handed_texts sizes body) events text)
 
 -- a reload of these texts was answered: its events were added to an engine's history, and its answer to a text
 pub record HasReloaded (texts : Texts) (e₀ e₁ : PlainEngine) (t₀ t₁ : List ℕ) : Type 0 where

@@ -65,13 +65,13 @@ fn named_sources<'a>(
     ensures texts { IfOk result (λ v. map (λ s. s.1.now) v.items ≡ texts_in sizes.now bytes.now) }
 {
     let mut sources = Vec::with_capacity(alloc, sizes.len())?;
-    let mut names = names;
+    let mut listed = names;
     let mut rest = bytes;
     for size in sizes {
         let (text, after) = split_behind(rest, *size);
-        let (name, others) = first_name(names);
+        let (name, others) = first_name(listed);
         sources.push((name, text))?;
-        names = others;
+        listed = others;
         rest = after;
     }
     Ok(sources)

@@ -32,10 +32,9 @@ fn answer<H, C: Crew<Job, Start, Done, H>, S: Sink>(
     line: &[u8],
 ) -> Result<(), ServeFault>
     requires asked { C.asks }
-    requires plain { reload_sizes line.now ≡ None }
     ensures continues { Continues result engine.old engine.new (S.broken sink.old) (S.broken sink.new) }
     ensures crew { C.faulted crew.new ≡ crew_faults (C.faulted crew.old) result }
-    ensures serves { (request : Request) (body : List ℕ) → AsksAlike (record { line = line.now; body = body }) request
+    ensures serves { reload_sizes line.now ≡ None → (request : Request) (body : List ℕ) → AsksAlike (record { line = line.now; body = body }) request
         → Serves result (request ∷ []) engine.old engine.new (S.written sink.old) (S.written sink.new) }
 {
     text.clear();
@@ -110,11 +109,10 @@ impl Kept {
         listener: &mut L,
     ) -> Result<(), ServeFault>
         requires asked { C.asks }
-        requires plain { IsPlain ended }
         ensures continues { Continues result engine.old engine.new (S.broken sink.old) (S.broken sink.new) }
         ensures crew { C.faulted crew.new ≡ crew_faults (C.faulted crew.old) result }
         ensures splitter { self.new.splitter ≡ self.old.splitter }
-        ensures serves { (requests : List Request) → AskAlike (given_requests ended) requests
+        ensures serves { IsPlain ended.entry → (requests : List Request) → AskAlike (given_requests ended.entry) requests
             → Serves result requests engine.old engine.new (S.written sink.old) (S.written sink.new) }
     {
         match ended {

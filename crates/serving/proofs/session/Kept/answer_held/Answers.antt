@@ -12,4 +12,4 @@ pub returns-in-Some-clause-crew : goal.returns-in-Some-clause-crew
 returns-in-Some-clause-crew g c = none_counted _ c.answer_reload.result c.answer_reload.ensures.crew
 
 pub returns-in-None-clause-serves : goal.returns-in-None-clause-serves
-returns-in-None-clause-serves g c = λ request same. c.answer.ensures.serves request c.request.result.1.now (subst (λ (r : Request). AsksAlike r request) c.request.ensures same)
+returns-in-None-clause-serves g c = λ request same. c.answer.ensures.serves c.in-None.ensures request c.request.result.1.now (subst (λ (r : Request). AsksAlike r request) c.request.ensures same)

@@ -24,7 +24,7 @@ loop-rest-preserved g c =
             let now = begun_from begun front in
             let takes = taken.takes now before.holds in
             gone-more _ _ begun front _ _ _ _ _ _ _ inv.plant before taken.part _ (record {
-              answered = (after.serves (ended_from now taken.part) takes.given).0;
+              answered = (after.serves takes.plain (ended_from now taken.part) takes.given).0;
               holds = subst (λ (xs : List ℕ). IsHeld (begun_from now taken.part) xs) (sym after.splitter) takes.holds;
             }),
       );
@@ -53,5 +53,5 @@ returns-in_err-answer_ended-clause-gone g c =
     let before = inv.so_far.2 begun k in
     let now = begun_from begun front in
     let takes = taken.takes now before.holds in
-    let stopped = (c.in_err-answer_ended.ensures.serves (ended_from now taken.part) takes.given).1 in
+    let stopped = (c.in_err-answer_ended.ensures.serves takes.plain (ended_from now taken.part) takes.given).1 in
     (tt, gone-stopped _ _ begun front _ _ _ _ _ _ _ inv.plant before _ (stopped-part _ now _ taken.part _ _ _ _ _ taken.cut stopped)))
