@@ -16,5 +16,5 @@ returns-clause-serves g c =
     λ request line is same. (
       on_ok_weaker c.put_all.result (λ w. answered-request old.plant request c.reload_body.new.text.items _ _ _ _ (is_reload _ request line c.args.body.now _ c.args.sizes.now _ _ is same reloaded) w) (rw c.as_slice.ensures.value at c.put_all.ensures.ok),
       on_err_weaker c.put_all.result (λ e. stopped-request old.plant request e.0 e.1 _ _ _ _ (is_reload _ request line c.args.body.now (e.0 ++ e.1) c.args.sizes.now _ _ is same
-      (subst (λ (t : List ℕ). IsReload old.plant old.history c.args.sizes.now c.args.body.now c.reload_body.new.engine.history t) (sym c.as_slice.ensures.value ∙ e.2) reloaded)) e.3) c.put_all.ensures.err,
+          (subst (λ (t : List ℕ). IsReload old.plant old.history c.args.sizes.now c.args.body.now c.reload_body.new.engine.history t) (sym c.as_slice.ensures.value ∙ e.2) reloaded)) e.3) c.put_all.ensures.err,
     )
