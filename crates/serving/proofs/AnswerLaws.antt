@@ -1,7 +1,6 @@
 -- Requests that are answered, and more after them.
 use Rattle.std.proofs.Common.{◌≡◌, ◌⊎◌, inl, inr, ℕ, Bool, true, false, cond, List, [], ◌∷◌, ◌++◌, Option, Some, None, ap, refl, sym, ◌∙◌, subst, append_assoc, append-nil, ltb, length}
 use Rattle.event_history.specs.declared.event.Event.{Event}
-use Rattle.plant_config.specs.declared.fault.ConfigFault.{ConfigFault}
 use Rattle.plant_config.specs.Files.{Texts}
 use Rattle.plant_config.specs.Plants.{PlainPlant}
 use Rattle.plant_config.proofs.OneAnswer.{one_plant, apart as accepted_apart}
@@ -14,9 +13,9 @@ use Rattle.std.specs.Prelude.{codes}
 use Rattle.command_text.specs.Lines.{refused_line}
 use Rattle.command_answers.specs.Answers.{after_command, answer_after, event_added}
 use Rattle.requests.specs.Requests.{Request, requests_of}
-use Rattle.serving.specs.Reloads.{handed_texts, reload_answer, IsFollowed, IsReloaded, IsReloadAnswer}
-use Rattle.serving.specs.Answers.{asked_by, IsReload, IsAnswerBy, IsAnswered, AreAnswered}
-use Rattle.serving.specs.Laws.{AreRefusals, AreSame, AnswersAreOne, AnswersAreThere, OutTextIsOne}
+use Rattle.serving.specs.Reloads.{handed_texts, reload_answer, IsFollowed, IsReloaded}
+use Rattle.serving.specs.Answers.{asked_by, IsAnswerBy, IsAnswered, AreAnswered}
+use Rattle.serving.specs.Laws.{AreRefusals, AnswersAreOne, AnswersAreThere, OutTextIsOne}
 
 -- two lists of requests were answered, the one after the other
 pub record AreBoth (plant : PlainPlant) (h : List Event) (xs ys : List Request) (after : List Event) (text : List ℕ) : Type 0 where

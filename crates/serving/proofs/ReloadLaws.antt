@@ -1,5 +1,5 @@
 -- What a reload was answered.
-use Rattle.std.proofs.Common.{◌≡◌, ℕ, Bool, true, false, cond, List, [], ◌∷◌, ◌++◌, refl, sym, ◌∙◌, subst, append-nil, length}
+use Rattle.std.proofs.Common.{◌≡◌, ℕ, Bool, false, cond, List, [], ◌∷◌, ◌++◌, refl, sym, ◌∙◌, subst, append-nil, length}
 use Rattle.std.specs.Prelude.{nat_lt, codes, ◌⊎◌, Option, Some, None, ◌+◌, ◌<◌, get_or, take, drop}
 use Rattle.std.proofs.Common.{inl, inr, ap, append_assoc, arith, Result, Ok, Err, ◌≤◌}
 use Rattle.std.specs.Prelude.{OnOk, is_ok}
@@ -9,7 +9,6 @@ use Rattle.plant_config.specs.Plants.{PlainPlant}
 use Rattle.plant_folder.specs.Verdicts.{IsVerdict}
 use Rattle.plant_system.specs.System.{reload_event}
 use Rattle.command_answers.specs.Answers.{event_added}
-use Rattle.event_history.specs.declared.event.Event.{Event}
 use Rattle.plant_config.specs.Files.{Texts, texts_of}
 use Rattle.engine.specs.Engines.{PlainEngine, state_of}
 use Rattle.command_text.specs.Reloads.{PlainSizes, total_size}

@@ -1,4 +1,4 @@
-use Rattle.std.proofs.Common.{[], ◌∷◌, List, ℕ, map, ap, ◌∙◌, refl, Bor}
+use Rattle.std.proofs.Common.{List, ℕ, map, ap, ◌∙◌, refl, Bor}
 use Rattle.std.proofs.lemmas.List.{map-append}
 use Rattle.serving.proofs.ReloadLaws.{more_texts, more_names, all_texts, all_names}
 use Rattle.serving.proofs.reload.named_sources.Goals as goal
