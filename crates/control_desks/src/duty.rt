@@ -29,9 +29,9 @@ pub fn look(console: &mut Console, post: &mut Post) -> bool
     let Some(view) = console.board() else {
         return false;
     };
+    post.follow(view.reloads());
     show(&view, post.lamps.as_mut_slice());
     let events = view.events();
-    post.plant = view.reloads();
     drop(view);
     post.look(events);
     true
@@ -50,19 +50,41 @@ pub fn take_answers(console: &mut Console, post: &mut Post)
     }
 }
 
-/// Submits orders of the drill, as many as have a place.
+/// Submits orders of the drill, as many as may be under way and have a place.
 #[tactic(auto, using(crate::proofs::Seats::same_link, crate::proofs::Seats::same_console, crate::proofs::Seats::same_on))]
-fn drill(console: &mut Console, post: &mut Post)
+fn submit_drill(console: &mut Console, post: &mut Post, is_held: bool)
     ensures { SameConsole console.old.link console.new.link }
 {
     for _ in 0..MOST_ANSWERS {
-        let Some(order) = post.drill_order() else {
+        let Some(order) = post.drill_order(is_held) else {
             return;
         };
         if console.submit(order).is_err() {
             return;
         }
         post.add_drilled();
+    }
+}
+
+/// Goes on with the drill, and tells the owner once its orders are under way for a plant that is to change.
+#[tactic(auto, using(crate::proofs::Seats::same_link, crate::proofs::Seats::same_console, crate::proofs::Seats::same_on))]
+fn drill(console: &mut Console, post: &mut Post, watch: &Watch)
+    ensures { SameConsole console.old.link console.new.link }
+{
+    let was_waiting = post.is_waiting();
+    submit_drill(console, post, watch.is_held());
+    if !was_waiting && post.is_waiting() {
+        watch.add_waiting();
+    }
+}
+
+/// Tells the owner how far the drill is, where a round brought it there.
+fn tell_progress(post: &Post, watch: &Watch, was_halved: bool, was_drilled: bool) {
+    if !was_halved && post.is_halved() {
+        watch.add_halved();
+    }
+    if !was_drilled && post.is_drilled() {
+        watch.add_drilled();
     }
 }
 
@@ -96,17 +118,16 @@ fn acknowledge(console: &mut Console, post: &mut Post)
 pub fn go_round(console: &mut Console, post: &mut Post, watch: &Watch)
     ensures { SameConsole console.old.link console.new.link }
 {
-    let was_drilled = post.is_drilled();
+    let (was_halved, was_drilled) = (post.is_halved(), post.is_drilled());
     take_answers(console, post);
     let sees = look(console, post);
-    if !post.is_drilled() {
-        drill(console, post);
+    tell_progress(post, watch, was_halved, was_drilled);
+    if !sees {
         return;
     }
-    if !was_drilled {
-        watch.add_drilled();
-    }
-    if sees {
+    if post.is_drilled() {
         acknowledge(console, post);
+    } else {
+        drill(console, post, watch);
     }
 }

@@ -7,10 +7,9 @@ ghost use Rattle.plant_system.specs.declared.event.Reply.{Reply};
 ghost use Rattle.station.specs.Lanes.{IsConsoleIn};
 ghost use Rattle.control_desks.specs.Seated.{AreSeated, SeatsAll};
 
-use crate::post::Post;
+use crate::post::{Plants, Post};
 use crate::stand::{Stint, stand};
 use crate::watch::Watch;
-use engine::Plant;
 use station::Console;
 use std::alloc::{AllocError, Global};
 use std::snapshot::Snapshot;
@@ -36,14 +35,14 @@ pub type Seated = PromisedHandle<Stint, Seat>;
 fn start<R: Threads>(
     rt: &R,
     alloc: Global,
-    plant: &Plant,
+    plants: &Plants<'_>,
     console: Console,
     watch: &Arc<Watch>,
 ) -> Result<Seated, AllocError>
     ensures { IfOk result (λ t. t.promise.0.value ≡ console) }
 {
     let theirs = Arc::try_clone(watch)?;
-    let post = Post::new(alloc, plant, console.number())?;
+    let post = Post::new(alloc, plants, console.number())?;
     let seat = Seat(Snapshot::of(&console));
     Ok(thread::spawn_with(rt, seat, move || stand(console, post, &*theirs))?)
 }
@@ -52,14 +51,14 @@ fn start<R: Threads>(
 fn seat_one<R: Threads>(
     rt: &R,
     alloc: Global,
-    plant: &Plant,
+    plants: &Plants<'_>,
     console: Console,
     watch: &Arc<Watch>,
     threads: &mut Vec<Seated>,
 )
     ensures { (lanes : List (Lane Order Reply)) → IsConsoleIn lanes console.link → AreSeated lanes threads.old.items → AreSeated lanes threads.new.items }
 {
-    if let Ok(thread) = start(rt, alloc, plant, console, watch) {
+    if let Ok(thread) = start(rt, alloc, plants, console, watch) {
         match threads.push(thread) {
             Ok(()) => {}
             Err(_) => {}
@@ -71,7 +70,7 @@ fn seat_one<R: Threads>(
 pub fn seat_all<R: Threads>(
     rt: &R,
     alloc: Global,
-    plant: &Plant,
+    plants: &Plants<'_>,
     mut consoles: Vec<Console>,
     watch: &Arc<Watch>,
 ) -> Vec<Seated>
@@ -79,7 +78,7 @@ pub fn seat_all<R: Threads>(
 {
     let mut threads = Vec::new(alloc);
     while let Some(console) = consoles.pop() {
-        seat_one(rt, alloc, plant, console, watch, &mut threads);
+        seat_one(rt, alloc, plants, console, watch, &mut threads);
     }
     threads
 }

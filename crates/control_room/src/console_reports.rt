@@ -3,7 +3,7 @@
 use crate::crews::Workers;
 use crate::events::Events;
 use control_desks::Post;
-use engine::{Engine, Entry, Log};
+use engine::{Engine, Entry, Log, OrderFault};
 use row_text::Page;
 use shift_report::{Note, Orders, are_told, count};
 use station::Closing;
@@ -62,6 +62,17 @@ fn states_apart(engine: &Engine, post: &Post) -> u32 {
     apart
 }
 
+/// How many of a console's orders were refused since they were for an older plant.
+fn outdated(notes: &[Note]) -> u32 {
+    let mut count = 0u32;
+    for note in notes {
+        if note.refused == Some(OrderFault::OldPlant) {
+            count = count.saturating_add(1);
+        }
+    }
+    count
+}
+
 /// Adds a console's number, and a word.
 fn push_head(page: &mut Page, post: &Post, word: &str) {
     page.add("CONSOLE");
@@ -80,8 +91,11 @@ fn push_orders(page: &mut Page, log: &Log, post: &Post, left: u32) {
     page.add("\n");
 }
 
-/// Adds how many answers a console took, and whether they are those that the history has.
+/// Adds how many of a console's orders were for an older plant, how many answers it took, and whether they are those that the history has.
 fn push_answers(page: &mut Page, log: &Log, post: &Post) {
+    push_head(page, post, "ORDERS FOR AN OLDER PLANT");
+    page.number(i128::from(outdated(post.notes.as_slice())));
+    page.add("\n");
     push_head(page, post, "ANSWERS");
     page.number(post.notes.len() as i128);
     page.word("AS IN THE HISTORY");

@@ -2,11 +2,12 @@
 
 ghost use Rattle.station.specs.Lanes.{KeepsConsoles};
 
+use crate::change::{change, is_due};
 use crate::crews::Workers;
 use crate::events::Events;
 use command_text::{Command, Pool, read_command};
 use control_desks::Watch;
-use engine::{AlarmState, Engine, EngineFault, Pair};
+use engine::{AlarmState, Engine, EngineFault, Pair, Plant};
 use station::Station;
 use std::alloc::{AllocError, Global};
 use std::sync::Wait;
@@ -31,6 +32,8 @@ pub enum DayFault {
     Memory,
     /// A turn was refused.
     Refused(EngineFault),
+    /// The reload was refused.
+    NotReloaded(EngineFault),
     /// An order was refused as an event.
     Stopped,
     /// Something still waits after so many turns as the owner takes at most.
@@ -98,6 +101,27 @@ fn take_turn<L: Ledger, R: Threads + Wait>(
     }
 }
 
+/// Changes the plant, where one is left that is to come and its time has come.
+#[tactic(auto, using(station::proofs::Ends::keeps_equal, control_desks::proofs::Seats::keeps_on))]
+fn change_once<L: Ledger, R: Threads + Wait + Clock>(
+    rt: &R,
+    alloc: Global,
+    station: &mut Station<L, Workers>,
+    events: &mut Events,
+    watch: &Watch,
+    later: &mut Option<Plant>,
+) -> Result<(), DayFault>
+    ensures { KeepsConsoles station.old.lanes station.new.lanes }
+{
+    if !is_due(station.engine(), watch) {
+        return Ok(());
+    }
+    match later.take() {
+        Some(plant) => change(rt, alloc, station, events, watch, plant),
+        None => Ok(()),
+    }
+}
+
 /// Takes turns at the moment of the last scan until nothing waits.
 #[tactic(auto, using(station::proofs::Ends::keeps_equal, control_desks::proofs::Seats::keeps_on))]
 fn settle<L: Ledger, R: Threads + Wait + Clock>(
@@ -106,6 +130,7 @@ fn settle<L: Ledger, R: Threads + Wait + Clock>(
     station: &mut Station<L, Workers>,
     events: &mut Events,
     watch: &Watch,
+    later: &mut Option<Plant>,
 ) -> Result<(), DayFault>
     ensures { KeepsConsoles station.old.lanes station.new.lanes }
 {
@@ -113,6 +138,7 @@ fn settle<L: Ledger, R: Threads + Wait + Clock>(
         if turns >= LEAST_TURNS && is_settled(station.engine(), watch) {
             return Ok(());
         }
+        change_once(rt, alloc, station, events, watch, later)?;
         let moment = station.engine().moment();
         let taken = take_turn(rt, alloc, station, events, &[], moment)?;
         if taken == 0 {
@@ -130,6 +156,7 @@ fn go_on<L: Ledger, R: Threads + Wait + Clock>(
     station: &mut Station<L, Workers>,
     events: &mut Events,
     watch: &Watch,
+    later: &mut Option<Plant>,
     line: &str,
 ) -> Result<(), DayFault>
     ensures { KeepsConsoles station.old.lanes station.new.lanes }
@@ -140,13 +167,13 @@ fn go_on<L: Ledger, R: Threads + Wait + Clock>(
         Command::Scan(moment, pairs) => {
             take_turn(rt, alloc, station, events, pairs, moment)?;
             events.scripted = events.scripted.saturating_add(1);
-            settle(rt, alloc, station, events, watch)
+            settle(rt, alloc, station, events, watch, later)
         }
         _ => Err(DayFault::NoScan),
     }
 }
 
-/// Goes through the script.
+/// Goes through the script. The plant that is to come takes the place of the station's in the middle of the drill.
 #[tactic(auto, using(station::proofs::Ends::keeps_equal, control_desks::proofs::Seats::keeps_on))]
 pub fn go_through<L: Ledger, R: Threads + Wait + Clock>(
     rt: &R,
@@ -154,12 +181,13 @@ pub fn go_through<L: Ledger, R: Threads + Wait + Clock>(
     station: &mut Station<L, Workers>,
     events: &mut Events,
     watch: &Watch,
+    later: &mut Option<Plant>,
     script: &str,
 ) -> Result<(), DayFault>
     ensures { KeepsConsoles station.old.lanes station.new.lanes }
 {
     for line in script.lines() {
-        go_on(rt, alloc, station, events, watch, line)?;
+        go_on(rt, alloc, station, events, watch, later, line)?;
     }
     Ok(())
 }

@@ -1,4 +1,4 @@
-//! The plant, read from its files.
+//! The plants, read from their files.
 
 use engine::Plant;
 use plant_folder::{Deaf, Disk, FetchFault, Fetched, PlantFiles, PlantTexts, fetch, verdict};
@@ -6,6 +6,19 @@ use row_text::Page;
 use std::alloc::{AllocError, Global};
 use std::rt::Files;
 use std::thread::Threads;
+
+/// The plant file of the house.
+const FIRST: &str = "house/plant.toml";
+
+/// That of the house as it is changed: the alarms have other numbers, and there is one more.
+const SECOND: &str = "house/changed.toml";
+
+/// The plant with which the day begins, and the one that takes its place.
+#[derive(Drop)]
+pub struct Houses {
+    pub first: Plant,
+    pub second: Plant,
+}
 
 /// Names and texts of sources, lent. Fails if memory was refused.
 fn lent(alloc: Global, fetched: &Fetched) -> Result<Vec<(&str, &[u8])>, AllocError> {
@@ -70,7 +83,7 @@ fn push_fault(page: &mut Page, fault: FetchFault) {
 }
 
 /// The plant of a plant file's path. Where it is refused, or a file isn't found, there is none, and a line that says so is added.
-pub fn read_house<R: Files + Threads + Sync>(
+fn read_house<R: Files + Threads + Sync>(
     rt: &R,
     alloc: Global,
     path: &str,
@@ -91,4 +104,16 @@ pub fn read_house<R: Files + Threads + Sync>(
             None
         }
     }
+}
+
+/// The plant of the house, and that of the house as it is changed. Where one of them is refused, or a file isn't found, there are none, and a line that
+/// says so is added.
+pub fn read_houses<R: Files + Threads + Sync>(
+    rt: &R,
+    alloc: Global,
+    page: &mut Page,
+) -> Option<Houses> {
+    let first = read_house(rt, alloc, FIRST, page)?;
+    let second = read_house(rt, alloc, SECOND, page)?;
+    Some(Houses { first, second })
 }

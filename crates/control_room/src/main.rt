@@ -8,11 +8,15 @@
 //! shelve and unshelve its own alarms. Then it goes by its board: it looks, acknowledges and resets what waits in its areas, takes answers, and looks
 //! again, until the owner's day is over. The keeper has the archive, and takes page after page of it until then.
 //!
+//! In the middle of the drill the plant is changed: its alarms get other numbers, and there is one more. The owner takes no turn until each console has ten orders
+//! under way, and reloads the plant of the station. So just these are refused, and given again for the plant that came.
+//!
 //! What is printed doesn't depend on how threads take turns: a console orders only what its board shows after the answers that it took, so each alarm
 //! is acknowledged once; the last scans of the script are of one console's areas, so the last page is always the same; and the keeper has every line
 //! where the day is whole. How many turns the owner took, and how many pages the keeper, is never printed.
 #![tactic(auto)]
 
+mod change;
 mod console_reports;
 mod crews;
 mod day;
@@ -25,7 +29,7 @@ mod shift;
 
 use control_desks::Watch;
 use crews::workers;
-use house::read_house;
+use house::read_houses;
 use room::run;
 use shift::Shift;
 use std::alloc::Global;
@@ -38,13 +42,10 @@ use std::sync::Wait;
 use std::sync::ledger::Blank;
 use std::thread::Threads;
 
-/// The plant file of the house.
-const PLANT: &str = "house/plant.toml";
-
-/// How many workers run its programs, of which the owner is one.
+/// How many workers run the programs of the plant, of which the owner is one.
 const WORKERS: u32 = 2;
 
-/// Makes the crew and the plant, and lets a station live by the script. Tells whether the day was whole.
+/// Makes the crew and the plants, and lets a station live by the script. Tells whether the day was whole.
 fn run_shift<R: Runtime + Threads + Wait + AllocGlobal + Send + Sync + 'static>(
     rt: &R,
     alloc: Global,
@@ -54,8 +55,8 @@ fn run_shift<R: Runtime + Threads + Wait + AllocGlobal + Send + Sync + 'static>(
         shift.page.line("NO WORKERS");
         return false;
     };
-    match read_house(rt, alloc, PLANT, &mut shift.page) {
-        Some(plant) => run::<Brand, R>(rt, alloc, plant, crew, shift, Blank::new(1)),
+    match read_houses(rt, alloc, &mut shift.page) {
+        Some(houses) => run::<Brand, R>(rt, alloc, houses, crew, shift, Blank::new(1)),
         None => {
             crew.close(rt);
             false

@@ -3,7 +3,7 @@
 use crate::day::DayFault;
 use crate::events::Events;
 use crate::keeper::Kept;
-use engine::{Engine, Verb};
+use engine::{Engine, Entry, Log, Verb};
 use row_text::Page;
 use shift_report::{Orders, count};
 use station::Archive;
@@ -13,6 +13,9 @@ use std::sync::ledger::Ledger;
 
 /// How many rows the last page has.
 const PAGE: u32 = 12;
+
+/// How many rows are told from that of the reload on.
+const AT_RELOAD: u32 = 2;
 
 /// Adds how many programs, alarms and consoles the plant has.
 fn push_plant(engine: &Engine, page: &mut Page) {
@@ -26,14 +29,13 @@ fn push_plant(engine: &Engine, page: &mut Page) {
     page.add("\n");
 }
 
-/// Adds what there is to tell of the events: the scans of the script, all orders, and whether these and the turns are the whole history.
+/// Adds what there is to tell of the events: the scans of the script, all orders, and whether these, the turns and the reloads are the whole history.
 fn push_events(engine: &Engine, events: &Events, page: &mut Page) {
     page.add("SCRIPT SCANS");
     page.number(i128::from(events.scripted));
     let orders = count(engine.journal(), Orders::All);
-    let is_whole = orders == events.orders
-        && engine.events() == events.scans.saturating_add(events.orders);
-    page.add("\nHISTORY OF TURNS AND");
+    let is_whole = orders == events.orders && engine.events() == events.all();
+    page.add("\nHISTORY OF TURNS, RELOADS AND");
     page.number(i128::from(orders));
     page.word("ORDERS");
     page.truth(is_whole);
@@ -120,16 +122,28 @@ pub fn push_kept(alloc: Global, engine: &Engine, before: u64, kept: Kept, page: 
     }
 }
 
-/// Adds the archive's last page.
-fn push_last_page<L: Ledger, R: Wait>(
+/// The number of the row of the last reload; 0 where there was none.
+fn reload_row(log: &Log) -> u64 {
+    let mut found = 0u64;
+    let rows = log.len() as u64;
+    for before in 0..rows {
+        if let Entry::Reload { .. } = log.row(before + 1).entry {
+            found = before + 1;
+        }
+    }
+    found
+}
+
+/// Adds a page of the archive, so many rows from a number on.
+fn push_page<L: Ledger, R: Wait>(
     rt: &R,
     alloc: Global,
     archive: &Archive<L>,
-    rows: u64,
+    from: u64,
+    rows: u32,
     page: &mut Page,
 ) {
-    let from = rows.saturating_sub(u64::from(PAGE)).saturating_add(1);
-    let Ok(lines) = archive.page(rt, alloc, from, PAGE) else {
+    let Ok(lines) = archive.page(rt, alloc, from, rows) else {
         return page.refuse();
     };
     for line in &lines {
@@ -150,7 +164,10 @@ pub fn push_history<L: Ledger, R: Wait>(
     push_events(engine, events, page);
     push_verbs(engine, page);
     push_journal(rt, alloc, archive, engine, page);
-    push_last_page(rt, alloc, archive, engine.journal().len() as u64, page);
+    let log = engine.journal();
+    push_page(rt, alloc, archive, reload_row(log), AT_RELOAD, page);
+    let last = (log.len() as u64).saturating_sub(u64::from(PAGE));
+    push_page(rt, alloc, archive, last.saturating_add(1), PAGE, page);
 }
 
 /// Adds how the day ended.
@@ -159,6 +176,11 @@ pub fn push_end(page: &mut Page, day: Result<(), DayFault>) {
         Ok(()) => page.line("THE SCRIPT IS OVER"),
         Err(DayFault::Refused(fault)) => {
             page.add("A TURN WAS REFUSED");
+            page.word(fault.text());
+            page.add("\n");
+        }
+        Err(DayFault::NotReloaded(fault)) => {
+            page.add("THE RELOAD WAS REFUSED");
             page.word(fault.text());
             page.add("\n");
         }
