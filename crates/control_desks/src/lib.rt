@@ -19,7 +19,7 @@ mod starts;
 mod watch;
 
 pub use endings::{Ended, join_all};
-pub use post::{DRILL, Lamp, Plants, Post};
+pub use post::{DRILL, Lamp, Plants, Post, is_outdated};
 pub use stand::Stint;
 pub use starts::{Seat, Seated, seat_all};
 pub use watch::Watch;

@@ -61,6 +61,14 @@ pub struct Post {
     pub is_short: bool,
 }
 
+/// Whether an order was refused since it was for an older plant.
+pub fn is_outdated(refused: Option<OrderFault>) -> bool {
+    match refused {
+        Some(OrderFault::OldPlant) => true,
+        _ => false,
+    }
+}
+
 /// Whether an area is one of those of the console of a number.
 fn has_area(plant: &Plant, number: u32, area: u32) -> bool {
     for console in plant.consoles() {
@@ -229,7 +237,7 @@ impl Post {
             Reply::Done(_) => None,
             Reply::Refused(fault) => Some(fault),
         };
-        if refused == Some(OrderFault::OldPlant) && !self.is_drilled() {
+        if is_outdated(refused) && !self.is_drilled() {
             self.outdated = self.outdated.saturating_add(1);
         }
         let note = Note {

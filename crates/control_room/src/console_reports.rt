@@ -2,8 +2,8 @@
 
 use crate::crews::Workers;
 use crate::events::Events;
-use control_desks::Post;
-use engine::{Engine, Entry, Log, OrderFault};
+use control_desks::{Post, is_outdated};
+use engine::{Engine, Entry, Log};
 use row_text::Page;
 use shift_report::{Note, Orders, are_told, count};
 use station::Closing;
@@ -66,7 +66,7 @@ fn states_apart(engine: &Engine, post: &Post) -> u32 {
 fn outdated(notes: &[Note]) -> u32 {
     let mut count = 0u32;
     for note in notes {
-        if note.refused == Some(OrderFault::OldPlant) {
+        if is_outdated(note.refused) {
             count = count.saturating_add(1);
         }
     }
