@@ -133,6 +133,17 @@ impl<'a> Looker<'a> {
     }
 }
 
+/// What is said of a line to whoever looks on, who has other sources by RELOADED; and whether it tells of an event.
+fn judged_by(looker: Option<Looker<'_>>, head: &[u8]) -> (bool, &'static str) {
+    let Some(looker) = looker else {
+        return judged(head, false);
+    };
+    if head.starts_with(b"RELOADED ") {
+        looker.kept.take_place();
+    }
+    judged(head, true)
+}
+
 /// The answers so far: the beginning of the last line, and how many events there were.
 #[derive(Drop)]
 struct Answers<'a> {
@@ -171,25 +182,15 @@ impl<'a> Answers<'a> {
         said
     }
 
-    /// Judges a line by its beginning: whether it tells of an event, and what is said of it. By RELOADED whoever looks on has other sources.
-    fn judge(&self, head: &[u8]) -> (bool, &'static str) {
-        if let Some(looker) = self.looker {
-            if head.starts_with(b"RELOADED ") {
-                looker.kept.take_place();
-            }
-        }
-        judged(head, self.looker.is_some())
-    }
-
     /// Takes the rest of a line, which is mostly the whole of it and is looked at where it stands, and returns what is said of it.
     fn end_line(&mut self, rest: &[u8]) -> &'static str {
         if self.len == 0 {
-            let (is_event, said) = self.judge(rest);
+            let (is_event, said) = judged_by(self.looker, rest);
             return self.counted(is_event, said);
         }
         self.add(rest);
         let head = self.head.get(..self.len).unwrap_or(b"");
-        let (is_event, said) = self.judge(head);
+        let (is_event, said) = judged_by(self.looker, head);
         self.len = 0;
         self.counted(is_event, said)
     }
