@@ -42,7 +42,7 @@ pub struct Engine {
     began: Shown<Plant>,
     /// The plant now.
     plant: Plant,
-    /// The plant whose place it took, until the next reload is made ready: to free it takes time.
+    /// The plant whose place it took, where a commit left it: to free it takes time.
     left: Option<Plant>,
     history: History,
     log: Log,
@@ -394,7 +394,7 @@ impl Engine {
         Reloaded { kept, fresh }
     }
 
-    /// Makes a reload ready and commits it. The refusals are those of `prepare_reload`.
+    /// Makes a reload ready, commits it, and frees the plant whose place it took. The refusals are those of `prepare_reload`.
     pub fn reload(&mut self, alloc: Global, plant: Plant) -> Result<Reloaded, ReloadRefused>
         ensures plant { self.new.plant ≡ self.old.plant }
         ensures ok { OnOk result (self.new.history ≡ self.old.history ++ Event.Reload plant ∷ []) }
@@ -405,7 +405,9 @@ impl Engine {
         ensures row_room { OnErr result (self.old.row_room ≤ self.new.row_room) }
     {
         let prepared = self.prepare_reload(alloc, plant)?;
-        Ok(self.commit_reload(prepared))
+        let reloaded = self.commit_reload(prepared);
+        self.left = None;
+        Ok(reloaded)
     }
 
     /// Gives a report back, so that the next scan's lists take its memory and none of their own. The report is lost; the engine stays as it is.
