@@ -8,7 +8,9 @@ ghost use Rattle.code_slices.specs.Parts.{IsPart, IsPartOf, HasPart, AreSlots, A
 ghost use Rattle.code_slices.specs.Puts.{PutsAt};
 
 use crate::noting::{note_clocks, note_read, note_written};
-use crate::pieces::{Piece, pick_values, pieces_at, pieces_of, put_pieces};
+use crate::pieces::{
+    Piece, pick_values, pieces_at, pieces_of, put_pieces, read_pieces, same_pieces,
+};
 use crate::printed_code::PrintedCode;
 use crate::renaming::renamed_all;
 use acc_vm::{Code, FlatInstr};
@@ -218,12 +220,31 @@ impl Part {
         put_pieces(left.as_slice(), &self.written_pieces, values);
     }
 
+    /// One number of the values of the slots that the code writes, as they were left in the part's cells. It reads no others.
+    pub fn read_written(&self, left: &Cells) -> i64
+        requires { length self.now.slots ≤ length left.now.values }
+    {
+        read_pieces(left.as_slice(), &self.written_pieces)
+    }
+
+    /// Whether another part has the same slots, and writes the same of them: so where their pieces are the same, which may be far fewer.
+    fn same_slots(&self, other: &Part) -> bool
+        ensures { IsTrue result ↔ ((self.now.slots ≡ other.now.slots) × (self.now.written ≡ other.now.written)) }
+    {
+        if same_pieces(&self.pieces, &other.pieces)
+            && same_pieces(&self.written_pieces, &other.written_pieces)
+        {
+            return true;
+        }
+        self.slots.as_slice() == other.slots.as_slice()
+            && self.written.as_slice() == other.written.as_slice()
+    }
+
     /// Whether another part is the same.
     pub fn same(&self, other: &Part) -> bool
         ensures { IsTrue result ↔ (self.now ≡ other.now) }
     {
-        self.written.as_slice() == other.written.as_slice()
-            && self.slots.as_slice() == other.slots.as_slice()
+        self.same_slots(other)
             && self.clocks.as_slice() == other.clocks.as_slice()
             && self.code.same(&other.code)
     }

@@ -1,6 +1,6 @@
 //! The pieces of a part's slots, those that stand one after another both in the part and among all, and values that are copied by pieces.
 
-ghost use Rattle.std.specs.Prelude.{◌≡◌, ◌<◌, ◌+◌, ◌++◌, ℕ, pos, Some, map, length, slice_get, slice_index_or, IfOk, OnOk, IsTrue};
+ghost use Rattle.std.specs.Prelude.{◌≡◌, ◌↔◌, ◌<◌, ◌+◌, ◌++◌, ℕ, pos, Some, map, length, slice_get, slice_index_or, IfOk, OnOk, IsTrue};
 ghost use Rattle.code_slices.specs.Pieces.{piece_slots, slots_in, AddsSlot, ArePiecesAt, PutsPiece, HaveOnePlace, PutsPieces};
 
 use std::alloc::{AllocError, Global};
@@ -135,4 +135,47 @@ pub(crate) fn put_pieces(items: &[i64], pieces: &[Piece], row: &mut [i64])
     for piece in pieces {
         put_piece(items, *piece, row);
     }
+}
+
+/// Whether two pieces are the same.
+fn same_piece(a: Piece, b: Piece) -> bool
+    ensures { IsTrue result ↔ (a ≡ b) }
+{
+    a.place == b.place && a.first == b.first && a.more == b.more
+}
+
+/// Whether two rows of pieces are the same.
+pub(crate) fn same_pieces(a: &[Piece], b: &[Piece]) -> bool
+    ensures { IsTrue result ↔ (a.now ≡ b.now) }
+{
+    if a.len() != b.len() {
+        return false;
+    }
+    for (i, piece) in a.iter().enumerate() {
+        if !same_piece(*piece, b[i]) {
+            return false;
+        }
+    }
+    true
+}
+
+/// One number of items.
+fn read_items(items: &[i64]) -> i64 {
+    let mut all = 0;
+    for item in items {
+        all ^= *item;
+    }
+    all
+}
+
+/// One number of the items at the places of pieces.
+pub(crate) fn read_pieces(items: &[i64], pieces: &[Piece]) -> i64
+    requires { (i : ℕ) (q : Piece) → slice_get pieces.now i ≡ Some q → q.place + q.more < length items.now }
+{
+    let mut all = 0;
+    for piece in pieces {
+        let past = piece.place + piece.more as usize + 1;
+        all ^= read_items(&items[piece.place..past]);
+    }
+    all
 }

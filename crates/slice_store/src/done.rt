@@ -215,13 +215,18 @@ impl Done {
         faulted[program] = result.is_err();
     }
 
-    /// One number of all that the run left.
+    /// One number of what a store takes of the run: the values that its program wrote, and its clocks.
     fn read(&self) -> i64 {
-        let mut all = i64::from(self.run.result.is_err());
-        for value in self.run.cells.as_slice() {
-            all ^= *value;
-        }
-        for clock in self.run.cells.clocks() {
+        let Run {
+            start,
+            cells,
+            stack: _,
+            cost: _,
+            result,
+            read: _,
+        } = &*self.run;
+        let mut all = i64::from(result.is_err()) ^ start.part().read_written(cells);
+        for clock in cells.clocks() {
             all ^= clock.et;
         }
         all
