@@ -1,7 +1,7 @@
 -- Delays from scan to scan.
 use Rattle.std.proofs.Common.{◌≡◌, ◌≢◌, ℕ, zero, suc, ◌++◌, ◌+◌, ◌-◌, ◌<◌, ◌≤◌, ◌⊎◌, inl, inr, Bool, true, false, not, Option, Some, None, List, [], ◌∷◌, length, slice_get, slice_set, slice_index, slice_index_or, replicate, arith, refl, ap, sym, ◌∙◌, length-set, nat_lt, is_some, fold, map, take, drop, subst, ℤ, ◌^◌}
 use Rattle.std.proofs.lemmas.Bool.{cases_lt}
-use Rattle.std.proofs.lemmas.List.{length-replicate, set_at, get_or_at, length_push, append_assoc, drop_more}
+use Rattle.std.proofs.lemmas.List.{length-replicate, set_at, get_or_at, length_push, append_assoc, append-nil, drop_all, drop_more, take_all}
 use Rattle.std.proofs.lemmas.Bool.Decides.{nat_tests}
 use Rattle.std.proofs.lemmas.Option.{slice_get-get_or, slice_get_within, get_or_from_slice_get, same_Some}
 use Rattle.std_blocks.specs.Calls.{Call}
@@ -116,6 +116,43 @@ after_past true t None r past e = let same : t ≡ r = cc e in omega (arith, sam
 after_past true t (Some q) r past e = past r e
 
 -- ---- the conditions that count
+
+-- ---- conditions that are taken one after another, where no alarm has a delay
+
+get_index : (xs : List (Option ℕ)) (n r : ℕ) → slice_index_or xs n None ≡ Some r → slice_get xs n ≡ Some (Some r)
+get_index [] n r e = absurd (cc e)
+get_index (x ∷ xs) zero r e = ap Some e
+get_index (x ∷ xs) (suc n) r e = get_index xs n r e
+
+past_put : (t : ℕ) (xs : List (Option ℕ)) (one : ℕ × Bool) → ArePast t xs → ArePast t (put_since t xs one)
+past_put t xs one past n r e =
+    let before = slice_index_or xs one.0 None in
+    elim (set_cases xs one.0 n (since_after one.1 t before) (Some r) e) [ inl p ↦ after_past one.1 t before r (λ q is. past one.0 q (get_index xs one.0 q is)) (sym p.1) | inr p ↦ past n r p.1 ]
+
+past_puts : (t : ℕ) (xs : List (Option ℕ)) (met : List (ℕ × Bool)) → ArePast t xs → ArePast t (fold (put_since t) xs met)
+past_puts t xs [] past = past
+past_puts t xs (one ∷ met) past = past_puts t (put_since t xs one) met (past_put t xs one past)
+
+pub length_puts : (t : ℕ) (xs : List (Option ℕ)) (met : List (ℕ × Bool)) → length (fold (put_since t) xs met) ≡ length xs
+length_puts t xs [] = refl
+length_puts t xs (one ∷ met) = length_puts t (put_since t xs one) met ∙ length-set xs one.0 (since_after one.1 t (slice_index_or xs one.0 None))
+
+pub puts_plain : (delays : List ℕ) (since : List (Option ℕ)) (last : ℕ) (due : List ℕ) (is_plain : Bool) (met : List (ℕ × Bool)) → IsDelays delays since last due is_plain → have_none delays ≡ true
+    → IsDelays delays (fold (put_since last) since met) last due is_plain
+puts_plain delays since last due is_plain met is none = record {
+  each = length_puts last since met ∙ is.each;
+  places = is.places;
+  plain = is.plain;
+  few = is.few;
+  in_range = is.in_range;
+  past = past_puts last since met is.past;
+  wakes = λ n delay r d e early. let zero_is : delay ≡ 0 = same_Some delay 0 (sym d ∙ none_at delays n none (slice_get_within delays n delay d)) in absurd (omega (arith, zero_is, early));
+}
+
+-- a list in whose place another of its length was written is that one
+pub written_back : (many : ℕ) (new old : List (Option ℕ)) → many ≡ length old → length new ≡ length old → take many (new ++ drop (length new) old) ≡ new
+written_back many new old size same =
+    ap (λ (l : List (Option ℕ)). take many (new ++ l)) (drop_all (length new) old (omega (arith, same))) ∙ ap (take many) (append-nil new) ∙ take_all many new (omega (arith, size, same))
 
 pub each_within : (cs : List Bool) (t : ℕ) (ds : List ℕ) (rs : List (Option ℕ)) (n : ℕ) → n < length (delayed_each cs t ds rs) → (n < length cs) × (n < length ds) × (n < length rs)
 each_within [] t ds rs n h = absurd (omega arith)

@@ -6,6 +6,7 @@ ghost use Rattle.alarm_bank.specs.Banks.{scan_each};
 ghost use Rattle.alarm_bank.specs.Moves.{AreMovesOf};
 ghost use Rattle.alarm_delays.specs.Delays.{AreMet, ConditionsStay, DelaysAgree, Follows, IsFirstMark, FollowsOn, KeptAgree, RawStay, after_conditions, after_met, delayed, delayed_each, delays_reloaded, have_none, kept_since, last_conditions, put_since, since_after};
 
+use crate::since::Since;
 use alarm_bank::{BITS, Bank, Marks, Shelf, Signals};
 use alarm_machine::{Alarm, Change};
 use std::alloc::{AllocError, Global};
@@ -16,7 +17,7 @@ use std::marker::Model;
 /// since when they have been met is kept for alarms that take the places of these, which may have delays.
 pub struct Delays {
     delays: Vec<u32>,
-    since: Vec<Option<u64>>,
+    since: Vec<Since>,
     last: u64,
     due: Shelf,
     is_plain: bool,
@@ -70,27 +71,27 @@ fn have_none(delays: &[u32]) -> bool
 }
 
 /// Of so many conditions none is met. Fails if allocation fails.
-fn none_yet(alloc: Global, count: usize) -> Result<Vec<Option<u64>>, AllocError>
+fn none_yet(alloc: Global, count: usize) -> Result<Vec<Since>, AllocError>
     ensures { IfOk result (λ since. since.items ≡ replicate count None) }
 {
     let mut since = Vec::new(alloc);
     for at in 0..count {
         let _ = at;
-        since.push(None)?;
+        since.push(Since::never())?;
     }
     Ok(since)
 }
 
-/// Since when a condition has been met after a scan, if it is.
-fn since_after(condition: bool, moment: u64, since: Option<u64>) -> Option<u64>
-    ensures { result ≡ since_after condition moment since }
+/// Takes the last conditions of alarms, by their numbers, in a scan at a moment: since when each has been met. A number that isn't there changes nothing.
+fn put_last(since: &mut [Since], moved: &[(u32, Alarm)], moment: u64)
+    requires { moment ≤ LAST_MOMENT }
+    ensures { since.new ≡ fold (put_since moment) since.old (last_conditions moved.now) }
 {
-    if !condition {
-        return None;
-    }
-    match since {
-        Some(start) => Some(start),
-        None => Some(moment),
+    for (number, alarm) in moved {
+        let at = *number as usize;
+        if at < since.len() {
+            since[at] = since[at].after(alarm.condition(), moment);
+        }
     }
 }
 
@@ -165,18 +166,18 @@ impl Delays {
     }
 
     /// Since when the condition of a new alarm has been met that keeps the scans of the alarm of a number, or of none.
-    fn kept_since(&self, kept: Option<u32>) -> Option<u64>
+    fn kept_since(&self, kept: Option<u32>) -> Since
         ensures since { result ≡ kept_since self.now.since kept }
         ensures past { (r : ℕ) → result ≡ Some r → r ≤ self.now.last }
     {
         match kept {
             Some(number) if (number as usize) < self.since.len() => self.since[number as usize],
-            _ => None,
+            _ => Since::never(),
         }
     }
 
     /// Takes since when the condition of one alarm has been met.
-    fn keep(&mut self, at: usize, since: Option<u64>)
+    fn keep(&mut self, at: usize, since: Since)
         requires there { at < length self.old.delays }
         requires past { (r : ℕ) → since ≡ Some r → r ≤ self.old.last }
         ensures { self.new ≡ record self.old { since = slice_set self.old.since at since } }
@@ -189,7 +190,7 @@ impl Delays {
         if delay == 0 {
             return;
         }
-        self.due.put(at, due_at(self.last, delay, since));
+        self.due.put(at, due_at(self.last, delay, since.start()));
     }
 
     /// Whether no alarm has a delay.
@@ -232,7 +233,7 @@ impl Delays {
         requires { at < length self.now.delays }
         ensures { (delay : ℕ) (r : Option ℕ) → slice_get self.now.delays at ≡ Some delay → slice_get self.now.since at ≡ Some r → result ≡ delayed condition delay moment r }
     {
-        delayed(condition, self.delays[at], moment, self.since[at])
+        delayed(condition, self.delays[at], moment, self.since[at].start())
     }
 
     /// Goes on to a scan's moment.
@@ -251,7 +252,7 @@ impl Delays {
     {
         let last = self.last;
         let before = self.since[at];
-        self.keep(at, since_after(condition, last, before));
+        self.keep(at, before.after(condition, last));
     }
 
     /// Takes the condition of the alarm of a number in the scan of the last moment. A number that isn't there changes nothing.
@@ -274,13 +275,12 @@ impl Delays {
         }
     }
 
-    /// Takes the last conditions of alarms, by their numbers, in the scan of the last moment.
+    /// Takes the last conditions of alarms, by their numbers, in the scan of the last moment, where no alarm has a delay.
     fn put_last(&mut self, moved: &[(u32, Alarm)])
+        requires { have_none self.old.delays ≡ true }
         ensures { self.new ≡ record self.old { since = fold (put_since self.old.last) self.old.since (last_conditions moved.now) } }
     {
-        for (number, alarm) in moved {
-            self.put_at(*number, alarm.condition());
-        }
+        put_last(&mut self.since, moved, self.last);
     }
 
     /// Takes a scan by the alarms whose conditions it changed, or may have, each by its number with its condition, in order, and by the alarms that it moves;

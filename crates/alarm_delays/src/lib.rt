@@ -5,5 +5,6 @@
 #![tactic(auto)]
 
 mod delays;
+mod since;
 
 pub use delays::{Delays, alarms_follow, delays_agree, kept_scans_agree};

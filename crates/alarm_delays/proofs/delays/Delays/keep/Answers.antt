@@ -39,4 +39,4 @@ invariant_of-self-2 c =
     (λ wait r there e early.
     let same : delay ≡ wait = same_Some delay wait (sym at ∙ there) in
     let soon : d.last - r < delay = omega (arith, early, same) in
-    let key = c.due_at.ensures r e soon in omega (arith, key, same)))
+    let key = c.due_at.ensures r (c.start.ensures ∙ e) soon in omega (arith, key, same)))

@@ -13,5 +13,5 @@ keep-requires-clause-past c = λ r e.
     let within : c.args.at < length d.since.items = omega (arith, many, each, c.requires) in
     let before = c.index-before.result.now in
     let at : slice_get d.since.items c.args.at ≡ Some before = slice_get-get_or d.since.items c.args.at before within ∙ ap Some (sym c.index-before.ensures) in
-    let late = after_past c.args.condition d.last before r (λ q is. c.self.invariant.past c.args.at q (at ∙ ap Some is)) (sym c.since_after.ensures ∙ e) in
+    let late = after_past c.args.condition d.last before r (λ q is. c.self.invariant.past c.args.at q (at ∙ ap Some is)) (sym c.after.ensures ∙ e) in
     omega (arith, late, last)
