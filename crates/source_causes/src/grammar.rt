@@ -11,7 +11,7 @@ use token_causes::{Cause, Place, cause_at, closing_of, fits, tokens_of};
 pub const GRAMMAR: &str = "docs/LANGUAGE.md, \"Grammar\"";
 
 /// Whether a comment stands between tokens in which another one begins: the first end of a comment ends it.
-fn has_nested(gap: &[u8]) -> bool {
+pub fn has_nested(gap: &[u8]) -> bool {
     let mut is_open = false;
     for pair in gap.windows(2) {
         match pair {

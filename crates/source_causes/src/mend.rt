@@ -1,6 +1,6 @@
 //! How a source is read on behind a token with which it can't go on: what is left out, and what is put in its place.
 
-use crate::grammar::unopened;
+use crate::grammar::{has_nested, unopened};
 use crate::words::misnomer;
 use plant_types::same_word;
 use std::cmp::Ordering;
@@ -88,6 +88,15 @@ fn past_loop(place: Place<'_>, end: &str) -> Option<Mend> {
     (end.sign() == ";").then_some(with(place.number, end.next().number, ""))
 }
 
+/// Behind a comment that ends too early, since another one stands in it: without what follows up to the next `*)`.
+fn past_comment(place: Place<'_>) -> Option<Mend> {
+    let both = [place.previous(), place];
+    let first = both.into_iter().find(|place| has_nested(place.gap()))?;
+    let mut behind = (first.number..place.tokens.len()).map(|number| place.at(number));
+    let end = behind.find(|place| [place.sign(), place.behind(1)] == ["*", ")"])?;
+    Some(with(first.number, end.next().next().number, ""))
+}
+
 /// In the head of a statement: with one that is right.
 fn past_head(place: Place<'_>, head: Place<'_>) -> Option<Mend> {
     let put = match head.sign() {
@@ -165,6 +174,9 @@ fn missing(place: Place<'_>) -> &'static str {
 /// How to read on behind a token with which no source can go on; `None` where that isn't certain.
 pub fn way_on(place: Place<'_>) -> Option<Mend> {
     let (here, previous) = (place.number, place.previous().number);
+    if let Some(mend) = past_comment(place) {
+        return Some(mend);
+    }
     match misnomer(place) {
         Some((place, way, ..)) if way != "part" => return past_word(place, way),
         _ => {}

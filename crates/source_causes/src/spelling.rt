@@ -91,9 +91,21 @@ fn literal_fault(word: &str, behind: Option<&u8>) -> &'static str {
     }
 }
 
+/// With how many digits a number begins, and single underscores that part them.
+fn digits_len(word: &[u8]) -> usize {
+    let next = |number: usize| word.get(number.saturating_add(1));
+    word.iter()
+        .enumerate()
+        .take_while(|(number, byte)| {
+            let parts = **byte == b'_' && next(*number).is_some_and(|next| next.is_ascii_digit());
+            byte.is_ascii_digit() || parts
+        })
+        .count()
+}
+
 /// Why a literal that begins with a digit isn't allowed.
 fn number_fault(word: &[u8]) -> &'static str {
-    let len = word.iter().take_while(|byte| byte.is_ascii_digit()).count();
+    let len = digits_len(word);
     match (word, part(word, len, word.len())) {
         ([b'0', b'x' | b'X', ..], _) => "' is no number: one to the base 16 is written 16#FF",
         ([b'0', b'b' | b'B', b'0' | b'1', ..], _) =>
@@ -103,7 +115,9 @@ fn number_fault(word: &[u8]) -> &'static str {
             "' is no number: its digits are written out, as 1000 for 1e3",
         (_, behind) if is_unit(behind) =>
             "' is no number; a duration has T# before it, as in T#5s, and no blanks in it",
-        (_, []) => "' is too large: an integer is at most 2147483648",
+        (_, [b'.', b'0'..=b'9', ..]) =>
+            "' is no number: there are no REALs, and an integer is at most 2147483648; 12.5 is written as 125, in tenths",
+        (_, [] | [b'.', ..]) => "' is too large: an integer is at most 2147483648",
         (_, [b'#', ..]) =>
             "' is no number: before a # stand 2, 8 or 16, and behind it digits to that base",
         (_, [first, next, ..])

@@ -66,6 +66,24 @@ impl Told {
         Ok(())
     }
 
+    /// Reads the tokens of a unit once: the number of the one with which it can't go on; `None` where it ends, or no more is read.
+    fn stop_of(
+        &mut self,
+        alloc: Global,
+        text: &[u8],
+        unit: &[Token],
+    ) -> Result<Option<usize>, AllocError> {
+        if self.left.tokens < unit.len() {
+            return Ok(None);
+        }
+        self.left.tokens = self.left.tokens.saturating_sub(unit.len());
+        match parse(alloc, text, unit) {
+            Ok(_) => Ok(None),
+            Err(ParseFault::Memory) => Err(AllocError),
+            Err(ParseFault::At { token }) => Ok(Some(token)),
+        }
+    }
+
     /// Reads a unit, whose tokens stand before some that follow it, as often as it is mended; whether it ends before these. What is behind its end isn't told
     /// where the unit above has none (`is_apart`).
     fn read_unit(
@@ -78,15 +96,9 @@ impl Told {
         let mut last = None;
         for _ in 0..MOST_READINGS {
             let len = tokens.len().saturating_sub(ahead);
-            if self.left.tokens < len {
-                return Ok(true);
-            }
-            self.left.tokens = self.left.tokens.saturating_sub(len);
             let unit = tokens.as_slice().get(..len).unwrap_or(&[]);
-            let number = match parse(alloc, lexed.text, unit) {
-                Ok(_) => return Ok(true),
-                Err(ParseFault::Memory) => return Err(AllocError),
-                Err(ParseFault::At { token }) => token,
+            let Some(number) = self.stop_of(alloc, lexed.text, unit)? else {
+                return Ok(true);
             };
             let place = Place::new(lexed.text, tokens.as_slice(), number);
             if number >= len && (ahead > 0 || !lexed.is_cut) {
