@@ -11,5 +11,5 @@ mod measures;
 mod totals;
 mod weights;
 
-pub use limits::where_past;
+pub use limits::{too_long, where_past};
 pub use measures::Measure;

@@ -6,7 +6,7 @@ use crate::totals::too_much;
 use source_trees::{
     Entry, Form, Source, Step, entries_of, filled, mark_of, sources_of, steps_of, units_of,
 };
-use st_parser::{Pou, SectionKind, Sort};
+use st_parser::{Pou, SectionKind, Sort, Unit};
 use std::alloc::{AllocError, Global};
 use token_causes::{Cause, cause_at, sign_at, span_of};
 
@@ -108,8 +108,22 @@ fn too_deep(alloc: Global, entries: &[Entry<'_>]) -> Result<Option<Found>, Alloc
     Ok(Some((entry.source, cause_at(mark_of(entry.name), said, LIMITS))))
 }
 
-/// With what the sources of a plant are past a limit, in order of text: all FORs with too many turns, all arrays with too many elements, else one place. None
-/// where a source isn't spelled as the grammar says.
+/// All FORs that have too many turns, and then all arrays that have too many elements, of sources with their units.
+pub fn too_long(
+    alloc: Global,
+    sources: &[Source<'_>],
+    units: &[Unit],
+) -> Result<Vec<Found>, AllocError> {
+    let entries = entries_of(alloc, units)?;
+    let mut found = long_fors(alloc, sources, entries.as_slice())?;
+    for array in long_arrays(alloc, entries.as_slice())? {
+        found.push(array)?;
+    }
+    Ok(found)
+}
+
+/// With what the sources of a plant are past a limit, in order of text: all FORs with too many turns and then all arrays with too many elements, all these
+/// arrays, else one place. None where a source isn't spelled as the grammar says.
 pub fn where_past<'a>(
     alloc: Global,
     texts: &[(&'a str, &'a [u8])],
@@ -119,7 +133,7 @@ pub fn where_past<'a>(
     let units = units_of(alloc, sources.as_slice())?;
     let entries = entries_of(alloc, units.as_slice())?;
     let one = match measure {
-        Measure::Turns => return long_fors(alloc, sources.as_slice(), entries.as_slice()),
+        Measure::Turns => return too_long(alloc, sources.as_slice(), units.as_slice()),
         Measure::Elements => return long_arrays(alloc, entries.as_slice()),
         Measure::Depth => too_deep(alloc, entries.as_slice())?,
         _ => too_much(alloc, sources.as_slice(), entries.as_slice(), measure)?,

@@ -73,6 +73,26 @@ fn told_part(
     }
 }
 
+/// What is said of what there is in all, and of the program, or the global, with which that is past a limit.
+fn texts_of(measure: Measure, entry: &Entry<'_>) -> [&'static str; 2] {
+    match measure {
+        Measure::Programs => [
+            "there are % programs, and at most 512 are allowed: with ",
+            "this one they are too many",
+        ],
+        Measure::Slots if entry.is_global(None) => [SLOTS, "this global they are too many"],
+        Measure::Slots => [SLOTS, "the program '%', which has %, they are too many"],
+        Measure::Size => [
+            "the programs together have the size %, and at most 1000000 is allowed: with ",
+            "the program '%', which has %, they are too large",
+        ],
+        _ => [
+            "a scan of the program '%' costs %",
+            ", and at most 2000000 is allowed",
+        ],
+    }
+}
+
 /// What is said of a program, or a global, that is past a limit, by what there is in all, and where most of what it counts stands.
 fn told(
     alloc: Global,
@@ -82,22 +102,7 @@ fn told(
     total: u64,
 ) -> Result<Found, AllocError> {
     let (mark, part, count) = told_part(measure, source, (entry, weight));
-    let (text, more) = match measure {
-        Measure::Programs => (
-            "there are % programs, and at most 512 are allowed: with ",
-            "this one they are too many",
-        ),
-        Measure::Slots if entry.is_global(None) => (SLOTS, "this global they are too many"),
-        Measure::Slots => (SLOTS, "the program '%', which has %, they are too many"),
-        Measure::Size => (
-            "the programs together have the size %, and at most 1000000 is allowed: with ",
-            "the program '%', which has %, they are too large",
-        ),
-        _ => (
-            "a scan of the program '%' costs %",
-            ", and at most 2000000 is allowed",
-        ),
-    };
+    let [text, more] = texts_of(measure, entry);
     let total = written(alloc, total)?;
     let own = written(alloc, weight.total)?;
     let count = written(alloc, count)?;
