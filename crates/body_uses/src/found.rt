@@ -1,5 +1,6 @@
 //! What was found in the sources of a plant.
 
+use crate::comments::has_word;
 use plant_types::Region;
 use source_trees::filled;
 use std::alloc::{AllocError, Global};
@@ -50,6 +51,8 @@ pub struct Found {
     warnings: Vec<Warning>,
     /// Whether memory was refused.
     is_short: bool,
+    /// What comments swallow.
+    swallowed: Vec<u8>,
     /// The globals, arrays too, in order of text.
     pub globals: Vec<Shared>,
     /// The numbers of those that are variables, in order.
@@ -79,6 +82,7 @@ impl Found {
             alloc,
             warnings: Vec::new(alloc),
             is_short: false,
+            swallowed: Vec::new(alloc),
             globals: Vec::new(alloc),
             variables: Vec::new(alloc),
             blocks: Vec::new(alloc),
@@ -96,6 +100,12 @@ impl Found {
         self.is_short || self.warnings.len() >= MOST_WARNINGS
     }
 
+    /// Notes what a comment swallows: of the names in it nothing more is told.
+    pub fn note_swallowed(&mut self, bytes: &[u8]) {
+        let noted = self.swallowed.extend_from_slice(bytes);
+        self.got(noted);
+    }
+
     /// Keeps a warning at bytes of a source, or of the alarm database, where it is told: a text that `filled` fills.
     pub fn warn_in(
         &mut self,
@@ -104,7 +114,7 @@ impl Found {
         text: &str,
         (told, words): (&str, &[&str]),
     ) {
-        if self.is_full() {
+        if self.is_full() || has_word(self.swallowed.as_slice(), told.as_bytes()) {
             return;
         }
         let said = filled(self.alloc, &["warning: ", text], told, words);

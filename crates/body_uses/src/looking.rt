@@ -113,9 +113,10 @@ impl<'p> Looking<'p> {
         self.text = text;
         self.tokens = Vec::new(self.alloc);
         let comment = swallower(self.alloc, text);
-        if let Some(Some(cause)) = self.got(comment) {
-            let mark = cause.mark.unwrap_or((0, 0));
-            self.warn(mark, "%", ("", &[cause.said.as_str()]));
+        if let Some(Some(comment)) = self.got(comment) {
+            let mark = comment.cause.mark.unwrap_or((0, 0));
+            self.warn(mark, "%", ("", &[comment.cause.said.as_str()]));
+            self.found.note_swallowed(comment.swallowed);
         }
         self.unit(unit);
     }
