@@ -1,9 +1,7 @@
 //! All units of a plant are walked.
 
 use crate::teller::Teller;
-use source_trees::{
-    Body, Cursor, Mistake, Rule, Source, Told, Trees, sources_of, steps_of, units_of,
-};
+use source_trees::{Body, Cursor, Mistake, Rule, Source, Told, Trees, steps_of};
 use st_names::SharedNames;
 use st_parser::{Pou, Section, Unit};
 use std::alloc::{AllocError, Global};
@@ -86,8 +84,9 @@ fn in_units(
     mistakes_in(&plant, refused)
 }
 
-/// The mistakes of sources with their units.
-fn in_sources(
+/// What is wrong in the units of the sources of a plant, that is refused by a rule: first the first mistake that breaks this rule, and then the others in
+/// order of text, 20 in all at most.
+pub fn mistakes(
     alloc: Global,
     sources: &[Source<'_>],
     units: &[Unit],
@@ -95,16 +94,4 @@ fn in_sources(
 ) -> Result<Vec<Mistake>, AllocError> {
     let shared = SharedNames::new(alloc, units)?;
     in_units(alloc, sources, units, &shared, refused)
-}
-
-/// What is wrong in the units of the sources of a plant, that is refused by a rule: first the first mistake that breaks this rule, and then the others in
-/// order of text, 20 in all at most. None where a source isn't spelled as the grammar says.
-pub fn mistakes<'a>(
-    alloc: Global,
-    texts: &[(&'a str, &'a [u8])],
-    refused: Rule,
-) -> Result<Vec<Mistake>, AllocError> {
-    let sources = sources_of(alloc, texts)?;
-    let units = units_of(alloc, sources.as_slice())?;
-    in_sources(alloc, sources.as_slice(), units.as_slice(), refused)
 }
