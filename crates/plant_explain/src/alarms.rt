@@ -6,7 +6,7 @@ use crate::keys::Mark;
 use crate::telling::Refused;
 use alarm_db::{Column, RowFault, RowMistake, Version};
 use plant_places::place_at;
-use source_trees::{no_bool_global, sources_of, units_of};
+use source_trees::no_bool_global;
 use st_parser::Unit;
 use std::alloc::AllocError;
 use std::str;
@@ -37,11 +37,21 @@ fn is_column(bytes: &[u8]) -> bool {
     columns.any(|column| name.eq_ignore_ascii_case(column.name().as_bytes()))
 }
 
-/// The columns of the version of which a header of fields nearly is: of the second where it has the name of on-delays, or the one of texts as its ninth.
-fn columns_near(text: &[u8], fields: &[Mark]) -> &'static [Column] {
-    let is = |field: &Mark, name: &str| part(text, field.0, field.1) == name.as_bytes();
-    let has_delays = fields.iter().any(|field| is(field, "on_delay_ms"));
-    if has_delays || fields.get(8).is_some_and(|field| is(field, "text")) {
+/// Whether a field of a header is the name of a column; not where there is no such field or column.
+pub fn names(text: &[u8], field: Option<&Mark>, column: Option<&Column>) -> bool {
+    match (field, column) {
+        (Some(field), Some(column)) => part(text, field.0, field.1) == column.name().as_bytes(),
+        _ => false,
+    }
+}
+
+/// The columns of the version of which a header of fields nearly is: of the second where one of them tells of delays.
+pub fn columns_near(text: &[u8], fields: &[Mark]) -> &'static [Column] {
+    let tells_of_delays = |field: &Mark| {
+        let mut parts = part(text, field.0, field.1).windows(5);
+        parts.any(|part| part.eq_ignore_ascii_case(b"delay"))
+    };
+    if fields.iter().any(tells_of_delays) {
         Version::Second.columns()
     } else {
         Version::First.columns()
@@ -49,14 +59,14 @@ fn columns_near(text: &[u8], fields: &[Mark]) -> &'static [Column] {
 }
 
 /// The first line of a field that has several, by its bytes; `None` where the field has one line.
-fn first_line(text: &[u8], field: Mark) -> Option<Mark> {
+pub fn first_line(text: &[u8], field: Mark) -> Option<Mark> {
     let mut bytes = part(text, field.0, field.1).iter();
     let end = bytes.position(|byte| matches!(*byte, b'\n' | b'\r'))?;
     Some((field.0, field.0.saturating_add(end)))
 }
 
 /// Whether the line that begins at a byte has commas alone.
-fn has_commas_alone(text: &[u8], from: usize) -> bool {
+pub fn has_commas_alone(text: &[u8], from: usize) -> bool {
     let mut rest = part(text, from, text.len()).iter();
     let other = rest.find(|byte| **byte != b',');
     matches!(other, None | Some(b'\n' | b'\r'))
@@ -68,6 +78,40 @@ impl<'t> Refused<'t> {
         self.say(FileOf::Alarms, Some(mark), text, words)
     }
 
+    /// Tells of each field of the header that isn't the name of the column in its place. Where they aren't as many as the columns, or more than two are wrong, one
+    /// that is too many and one that is left out move those behind them.
+    fn misnamed(&mut self, fields: &[Mark]) -> Result<(), AllocError> {
+        let (all, columns) = (self.alarms, columns_near(self.alarms, fields));
+        let pairs = columns.iter().zip(fields);
+        let wrong = pairs.filter(|(column, field)| !names(all, Some(*field), Some(*column)));
+        let are_moved = fields.len() != columns.len() || wrong.count() > 2;
+        let (mut number, mut place) = (0usize, 0usize);
+        for _ in 0..fields.len().saturating_add(columns.len()) {
+            let (Some(field), Some(column)) = (fields.get(number), columns.get(place)) else {
+                break;
+            };
+            let is_right = names(all, Some(field), Some(column));
+            let next = number.saturating_add(1);
+            let is_extra = are_moved && names(all, fields.get(next), Some(column));
+            let next = place.saturating_add(1);
+            let lacks = !is_extra && are_moved && names(all, Some(field), columns.get(next));
+            if !is_right {
+                let text =
+                    "the header has '%' in this place, in small letters, and commas without blanks between its names";
+                self.say_at(*field, text, &[column.name()])?;
+            }
+            number = number.saturating_add(usize::from(is_right || !lacks));
+            place = place.saturating_add(usize::from(is_right || !is_extra));
+        }
+        if number >= fields.len() && place >= columns.len() {
+            return Ok(());
+        }
+        let text =
+            "the header is tag,area,priority,condition,suppress,latch,max_shelve_ms,text, or the same with on_delay_ms before text, and nothing more or less";
+        self.say_at(last_of(fields), text, &[])
+    }
+
+    /// Tells why the first record isn't the header.
     fn misheaded(&mut self, fields: &[Mark]) -> Result<(), AllocError> {
         let (all, first) = (self.alarms, field_of(fields, 0));
         if is_wide(all) {
@@ -90,16 +134,7 @@ impl<'t> Refused<'t> {
             let text = "the first line is the header, and the table has none: tag,area,priority,..";
             return self.say_at(first, text, &[]);
         }
-        for (column, field) in columns_near(all, fields).iter().zip(fields) {
-            if part(all, field.0, field.1) != column.name().as_bytes() {
-                let text =
-                    "the header has '%' in this place, in small letters, and commas without blanks between its names";
-                return self.say_at(*field, text, &[column.name()]);
-            }
-        }
-        let text =
-            "the header is tag,area,priority,condition,suppress,latch,max_shelve_ms,text, or the same with on_delay_ms before text, and nothing more or less";
-        self.say_at(last_of(fields), text, &[])
+        self.misnamed(fields)
     }
 
     /// Tells of a row that hasn't as many fields as are wanted.
@@ -174,15 +209,5 @@ impl<'t> Refused<'t> {
                 self.say_at(field, "%", &[said.as_str()])
             }
         }
-    }
-
-    /// Tells of the mistakes in rows for which the plant is refused, whose sources are right.
-    pub fn in_rows(&mut self, mistakes: &[RowMistake]) -> Result<(), AllocError> {
-        let sources = sources_of(self.alloc, self.sources)?;
-        let units = units_of(self.alloc, sources.as_slice())?;
-        for wrong in mistakes {
-            self.in_row(units.as_slice(), wrong)?;
-        }
-        Ok(())
     }
 }

@@ -1,9 +1,11 @@
 //! What is wrong in the plant file (C1 to C3), as its reader found it.
 
 use crate::keys::{Keys, Mark, NOBODY, keys_of};
-use crate::telling::Refused;
-use plant_file::{Mistake, Unread, Why};
+use crate::telling::{MOST_FAULTS, Refused};
+use plant_file::{Mistake, PlantFileFault, Unread, Why, read};
+use stamps::Epoch;
 use std::alloc::{AllocError, Global};
+use std::str;
 use token_causes::{FileOf, Spot, part, within_one};
 use toml::Value;
 
@@ -137,6 +139,63 @@ fn mark_of(keys: &Keys<'_>, wrong: &Mistake) -> Result<Option<Mark>, AllocError>
     }
 }
 
+/// The bytes of the line in which a byte stands.
+fn line_of(text: &[u8], at: usize) -> Mark {
+    let is_end = |byte: &u8| *byte == b'\n';
+    let before = part(text, 0, at).iter().rev().position(is_end);
+    let from = at.saturating_sub(before.unwrap_or(at));
+    let len = part(text, from, text.len()).iter().position(is_end);
+    (from, len.map_or(text.len(), |len| from.saturating_add(len)))
+}
+
+/// A plant file with a remark in the place of the line in which it is no document any more, for a reason; `None` where the line by itself isn't wrong for this
+/// reason, nor a whole key that is there already, or is that of a header, and so it isn't certain how the file goes on.
+fn without_line(
+    alloc: Global,
+    text: &[u8],
+    at: usize,
+    reason: &str,
+) -> Result<Option<Vec<u8>>, AllocError> {
+    let line = line_of(text, at);
+    let bytes = part(text, line.0, line.1);
+    let is_alone = match read(alloc, bytes) {
+        Err(PlantFileFault::Memory) => return Err(AllocError),
+        Err(PlantFileFault::NotToml(unread)) => {
+            let is_same = unread.message() == Some(reason);
+            is_same && unread.bytes().0.saturating_add(line.0) == at
+        }
+        _ => reason == "duplicate key",
+    };
+    if !is_alone || bytes.trim_ascii_start().starts_with(b"[") {
+        return Ok(None);
+    }
+    let mut rest = Vec::from_slice(alloc, part(text, 0, line.0))?;
+    for _ in bytes {
+        rest.push(b'#')?;
+    }
+    rest.extend_from_slice(part(text, line.1, text.len()))?;
+    Ok(Some(rest))
+}
+
+/// A text with a `?` in the place of each byte that isn't of ASCII.
+fn ascii_of(alloc: Global, text: &[u8]) -> Result<Vec<u8>, AllocError> {
+    let bytes = text.iter();
+    bytes
+        .map(|byte| if byte.is_ascii() { *byte } else { b'?' })
+        .collect(alloc)
+}
+
+/// Whether the epoch of a plant file is a text, and none that an epoch may be.
+fn has_no_epoch(keys: &Keys<'_>, plant: &[u8]) -> bool {
+    let value = keys.find(0, "epoch").map_or((0, 0), |entry| entry.value);
+    match part(plant, value.0, value.1) {
+        [b'"', inner @ .., b'"'] if !inner.contains(&b'\\') => {
+            Epoch::read(str::from_utf8(inner).unwrap_or("")).is_none()
+        }
+        _ => false,
+    }
+}
+
 impl<'t> Refused<'t> {
     /// Tells of bytes that are no TOML document: where they aren't any more, and why, as the reader says.
     pub fn not_toml(&mut self, unread: &Unread) -> Result<(), AllocError> {
@@ -146,7 +205,8 @@ impl<'t> Refused<'t> {
         }
         let Some(message) = unread.message() else {
             let text = "here the plant file isn't UTF-8: an editor can save it so";
-            return self.say(FileOf::Plant, Some(mark), text, &[]);
+            self.say(FileOf::Plant, Some(mark), text, &[])?;
+            return self.in_text_of(ascii_of(self.alloc, plant)?);
         };
         let rest = part(plant, mark.0, plant.len());
         if rest.starts_with(b"[console]") || rest.starts_with(b"[[console]]") {
@@ -154,6 +214,12 @@ impl<'t> Refused<'t> {
             let mark = keys.header("[console]").unwrap_or(mark);
             return self.say(FileOf::Plant, Some(mark), ONE_CONSOLE, &[]);
         }
+        self.unread_at(mark, message)?;
+        self.in_lines_behind(mark.0, message)
+    }
+
+    /// Tells where the plant file is no TOML document any more, and why.
+    fn unread_at(&mut self, mark: Mark, message: &str) -> Result<(), AllocError> {
         let mut reasons = REASONS.lines().filter_map(|line| line.split_once("| "));
         let reason = reasons.find(|reason| reason.0 == message);
         let why = reason.map_or(message, |reason| reason.1);
@@ -161,38 +227,94 @@ impl<'t> Refused<'t> {
         self.say(FileOf::Plant, Some(mark), text, &[why])
     }
 
+    /// Tells what else is wrong in a plant file that is no document any more at a byte: it is read on without the line there, as far as that is certain.
+    fn in_lines_behind(&mut self, at: usize, reason: &str) -> Result<(), AllocError> {
+        match without_line(self.alloc, self.plant, at, reason)? {
+            Some(rest) => self.in_text_of(rest),
+            None => Ok(()),
+        }
+    }
+
+    /// Tells what is wrong in the text of the plant file, in which what was told stands no more.
+    fn in_text_of(&mut self, mut text: Vec<u8>) -> Result<(), AllocError> {
+        for _ in 0..MOST_FAULTS {
+            let unread = match read(self.alloc, text.as_slice()) {
+                Ok(_) => return Ok(()),
+                Err(PlantFileFault::Memory) => return Err(AllocError),
+                Err(PlantFileFault::Wrong(mistakes)) => return self.in_keys_of(
+                    text.as_slice(),
+                    mistakes.as_slice(),
+                    false,
+                ),
+                Err(PlantFileFault::NotToml(unread)) => unread,
+            };
+            let (mark, reason) = (unread.bytes(), unread.message().unwrap_or(""));
+            self.unread_at(mark, reason)?;
+            match without_line(self.alloc, text.as_slice(), mark.0, reason)? {
+                Some(rest) => text = rest,
+                None => return Ok(()),
+            }
+        }
+        Ok(())
+    }
+
     /// Tells of a document that isn't that of a plant file, in the order of the text; what has no place comes first.
     pub fn in_keys(&mut self, mistakes: &[Mistake]) -> Result<(), AllocError> {
+        self.in_keys_of(self.plant, mistakes, true)
+    }
+
+    /// Tells of a mistake in the text of a plant file, in which these are found.
+    fn in_key(
+        &mut self,
+        plant: &[u8],
+        keys: &Keys<'_>,
+        mistakes: &[Mistake],
+        wrong: &Mistake,
+    ) -> Result<(), AllocError> {
         let (alloc, file) = (self.alloc, FileOf::Plant);
-        let keys = keys_of(alloc, self.plant)?;
-        for wrong in mistakes {
-            let (mark, key) = (mark_of(&keys, wrong)?, wrong.key.as_str());
-            match wrong.why {
-                _ if is_told(&keys, mistakes, wrong) => {}
-                Why::UnknownKey => {
-                    let text = said_of_unknown(&keys, mistakes, wrong);
-                    let words = [key, near_key(wrong)];
-                    self.say(file, mark, text, &words)?;
-                }
-                Why::StrangeArea => {
-                    let said = strange_area(alloc, self.plant, wrong.text.as_str())?;
-                    self.say(file, mark, "%", &[said.as_str()])?;
-                }
-                Why::Length { bytes, most } => {
-                    let said = match wrong.item {
-                        None => format!(in alloc; "'{key}' is a text of 1 to {most} bytes")?,
-                        Some(_) => format!(in alloc; "the name of a file has 1 to {most} bytes")?,
-                    };
-                    let bytes = bytes.to_string(alloc)?;
-                    let words = [said.as_str(), bytes.as_str()];
-                    self.say(file, mark, "%, and this one has %", &words)?;
-                }
-                _ => self.say(file, mark, said_of(wrong), &[key])?,
+        let (mark, key) = (mark_of(keys, wrong)?, wrong.key.as_str());
+        match wrong.why {
+            _ if is_told(keys, mistakes, wrong) => Ok(()),
+            Why::UnknownKey => {
+                let text = said_of_unknown(keys, mistakes, wrong);
+                self.say(file, mark, text, &[key, near_key(wrong)])
             }
+            Why::StrangeArea => {
+                let said = strange_area(alloc, plant, wrong.text.as_str())?;
+                self.say(file, mark, "%", &[said.as_str()])
+            }
+            Why::Length { bytes, most } => {
+                let said = match wrong.item {
+                    None => format!(in alloc; "'{key}' is a text of 1 to {most} bytes")?,
+                    Some(_) => format!(in alloc; "the name of a file has 1 to {most} bytes")?,
+                };
+                let bytes = bytes.to_string(alloc)?;
+                let words = [said.as_str(), bytes.as_str()];
+                self.say(file, mark, "%, and this one has %", &words)
+            }
+            _ => self.say(file, mark, said_of(wrong), &[key]),
+        }
+    }
+
+    /// Tells of the mistakes in the text of a plant file, which is whole, or has lines left out: then it isn't told that a key is missing.
+    fn in_keys_of(
+        &mut self,
+        plant: &[u8],
+        mistakes: &[Mistake],
+        is_whole: bool,
+    ) -> Result<(), AllocError> {
+        let keys = keys_of(self.alloc, plant)?;
+        for wrong in mistakes {
+            if is_whole || wrong.why != Why::MissingKey {
+                self.in_key(plant, &keys, mistakes, wrong)?;
+            }
+        }
+        if has_no_epoch(&keys, plant) {
+            self.no_epoch(&keys)?;
         }
         if self.told.is_empty() {
             let text = "the sources that were handed in aren't those that 'sources' lists";
-            self.say(file, None, text, &[])?;
+            self.say(FileOf::Plant, None, text, &[])?;
         }
         self.told.sort_unstable_by_key(|spot: &Spot| {
             spot.cause.mark.map_or(0, |mark| mark.0.saturating_add(1))
@@ -200,11 +322,16 @@ impl<'t> Refused<'t> {
         Ok(())
     }
 
-    pub fn no_epoch(&mut self) -> Result<(), AllocError> {
-        let keys = keys_of(self.alloc, self.plant)?;
+    fn no_epoch(&mut self, keys: &Keys<'_>) -> Result<(), AllocError> {
         let mark = keys.find(0, "epoch").map(|entry| entry.value);
         let text =
             "the epoch is no second of the years 1970 to 2399 in the form YYYY-MM-DDTHH:MM:SSZ";
         self.say(FileOf::Plant, mark, text, &[])
+    }
+
+    /// Tells of an epoch that isn't one.
+    pub fn in_epoch(&mut self) -> Result<(), AllocError> {
+        let keys = keys_of(self.alloc, self.plant)?;
+        self.no_epoch(&keys)
     }
 }

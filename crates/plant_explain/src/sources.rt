@@ -1,45 +1,18 @@
-//! What is wrong in the sources: in their spelling and their grammar (C4, C5), and behind that in the rows of the alarm database (C11 to C14), or in their
-//! units (C6 to C9).
+//! What is wrong in the sources: in their spelling and their grammar (C4, C5), or in their units (C6 to C9); and behind that in the rows of the alarm database
+//! (C11 to C14).
 
 use crate::telling::{MOST_FAULTS, REFUSALS, Refused};
-use alarm_db::{Column, DatabaseRow, RowFault, RowMistake, examine};
-use body_uses::swallower;
-use explain_bodies::{Rule, mistakes};
-use plant_file::{PlantFile, PlantFileFault, TextSet, read};
-use plant_types::{Kind, Text};
+use body_uses::{Swallower, swallower};
+use explain_bodies::{Mistake, Rule, mistakes};
+use limit_causes::too_long;
+use plant_types::Text;
 use source_causes::{Reading, misspelled_at, tell, ungrammatical};
-use source_trees::{entries_of, sources_of, units_of};
-use st_parser::{Sort, Unit};
+use source_trees::{sources_of, units_of};
 use std::alloc::{AllocError, Global};
-use token_causes::{FileOf, Spot, byte_at, cause_of, part};
-use word_index::Names;
+use token_causes::{Cause, FileOf, Spot, byte_at, cause_of, part};
 
 /// So many tokens are read at least, and one more for each byte of the sources.
 const LEAST_TOKENS: usize = 100_000;
-
-/// The names of the globals that aren't certainly of another kind than BOOL.
-fn bools_of(alloc: Global, units: &[Unit]) -> Result<Names, AllocError> {
-    let mut names = Names::new(alloc);
-    for entry in &entries_of(alloc, units)? {
-        if !matches!(
-            entry.sort(),
-            Some(Sort::Kind(Kind::Dint | Kind::Time) | Sort::Array(_, _))
-        ) {
-            names.add(alloc, entry.name.as_str())?;
-        }
-    }
-    Ok(names)
-}
-
-/// The first column of a row in which a name stands for nothing.
-fn unknown_in(areas: &TextSet, bools: &Names, row: &DatabaseRow) -> Option<Column> {
-    match &row.suppress {
-        _ if areas.number(row.area.as_str()).is_none() => Some(Column::Area),
-        _ if bools.find(row.condition.as_str()).is_none() => Some(Column::Condition),
-        Some(name) if bools.find(name.as_str()).is_none() => Some(Column::Suppress),
-        _ => None,
-    }
-}
 
 impl<'t> Refused<'t> {
     pub fn source_of(&self, name: &Text) -> FileOf {
@@ -84,7 +57,12 @@ impl<'t> Refused<'t> {
             let told = tell(alloc, source.1, left)?;
             left = told.left;
             starts.push(told.units)?;
-            for cause in told.causes {
+            let mut causes = told.causes;
+            if let Some(comment) = swallower(alloc, source.1)? {
+                causes.push(comment.cause)?;
+                causes.sort_by_key(|cause: &Cause| cause.mark.map_or(0, |mark| mark.0))?;
+            }
+            for cause in causes {
                 let file = FileOf::Source(number);
                 if (file, cause.mark) != first {
                     self.tell(file, cause)?;
@@ -94,29 +72,8 @@ impl<'t> Refused<'t> {
         self.in_rows_behind(starts.as_slice())
     }
 
-    /// Tells what is wrong in the rows of a plant with these globals.
-    fn in_rows_beside(&mut self, file: &PlantFile, units: &[Unit]) -> Result<(), AllocError> {
-        let areas = file.area_set(self.alloc)?;
-        let bools = bools_of(self.alloc, units)?;
-        let examined = examine(self.alloc, self.alarms)?;
-        let mut mistakes = Vec::from_slice(self.alloc, examined.mistakes.as_slice())?;
-        for (at, row) in &examined.rows {
-            if let Some(column) = unknown_in(&areas, &bools, row) {
-                let field = examined.version.and_then(|version| version.place(column));
-                let (at, fault) = (*at, RowFault::Unknown(column));
-                mistakes.push(RowMistake { at, field, fault })?;
-            }
-        }
-        mistakes.sort_unstable_by_key(|mistake| mistake.at);
-        mistakes.truncate(MOST_FAULTS);
-        for wrong in &mistakes {
-            self.in_row(units, wrong)?;
-        }
-        Ok(())
-    }
-
-    /// Tells what is wrong in the rows, whatever the blocks and programs say, which begin at these bytes of the sources: nothing where that isn't certain, or the
-    /// globals may be at fault themselves.
+    /// Tells what is wrong in the rows, whatever the blocks and programs say, which begin at these bytes of the sources; where that isn't certain, or the globals
+    /// may be at fault themselves, nothing of the names in the rows.
     fn in_rows_behind(&mut self, starts: &[Option<usize>]) -> Result<(), AllocError> {
         let mut heads = Vec::new(self.alloc);
         for (source, start) in self.sources.iter().zip(starts) {
@@ -124,37 +81,60 @@ impl<'t> Refused<'t> {
         }
         let sources = sources_of(self.alloc, heads.as_slice())?;
         let units = units_of(self.alloc, sources.as_slice())?;
-        if units.len() < heads.len() || starts.contains(&None) {
-            return Ok(());
+        let are_known = units.len() == heads.len() && !starts.contains(&None);
+        self.in_rows_beside(if are_known { units.as_slice() } else { &[] })
+    }
+
+    /// The comments that swallow what follows, the first of each source, by the source's number.
+    fn swallowers(&self) -> Result<Vec<(usize, Swallower<'t>)>, AllocError> {
+        let mut comments = Vec::new(self.alloc);
+        for (number, source) in self.sources.iter().enumerate() {
+            if let Some(comment) = swallower(self.alloc, source.1)? {
+                comments.push((number, comment))?;
+            }
         }
-        match read(self.alloc, self.plant) {
-            Ok(file) => self.in_rows_beside(&file, units.as_slice()),
-            Err(PlantFileFault::Memory) => Err(AllocError),
-            Err(_) => Ok(()),
-        }
+        Ok(comments)
+    }
+
+    /// Whether a mistake may be one by comments alone that swallow what follows.
+    fn is_hidden(&self, comments: &[(usize, Swallower<'t>)], mistake: &Mistake) -> bool {
+        let (from, until) = mistake.cause.mark.unwrap_or((0, 0));
+        let word = part(self.text_of(FileOf::Source(mistake.source)), from, until);
+        let mut comments = comments.iter();
+        comments.any(|(number, comment)| {
+            comment.hides((*number == mistake.source).then_some(from), word)
+        })
     }
 
     /// Tells what is wrong in the units of a plant that is refused for one by a rule: first why it is refused, by the name of the unit where no more of it is
-    /// known, and then others in order of text. Where a name is missing, comments that swallow what follows come second, the first of each source.
+    /// known, and then others in order of text. Behind these come FORs and arrays that are too long, and rows. Where a name is missing, comments that swallow
+    /// what follows come second, the first of each source, and what may be wrong by them alone isn't told.
     pub fn in_units(&mut self, rule: Rule, name: &Text, unit: &Text) -> Result<(), AllocError> {
-        let found = mistakes(self.alloc, self.sources, rule)?;
+        let sources = sources_of(self.alloc, self.sources)?;
+        let units = units_of(self.alloc, sources.as_slice())?;
+        let found = mistakes(self.alloc, sources.as_slice(), units.as_slice(), rule)?;
+        let comments = match rule {
+            Rule::Names => self.swallowers()?,
+            _ => Vec::new(self.alloc),
+        };
         if found.first().map(|first| first.rule) != Some(rule) {
             let (file, unit) = (self.source_of(name), unit.as_str());
             let said = format!(in self.alloc; "what the line above says stands in {unit}")?;
             self.tell(file, cause_of(said, REFUSALS))?;
         }
         for mistake in found {
-            self.tell(FileOf::Source(mistake.source), mistake.cause)?;
-        }
-        if rule != Rule::Names {
-            return Ok(());
-        }
-        for (number, source) in self.sources.iter().enumerate() {
-            if let Some(cause) = swallower(self.alloc, source.1)? {
-                let (second, file) = (self.told.len().min(1), FileOf::Source(number));
-                self.told.insert(second, Spot { file, cause })?;
+            if !self.is_hidden(comments.as_slice(), &mistake) {
+                self.tell(FileOf::Source(mistake.source), mistake.cause)?;
             }
         }
-        Ok(())
+        for (source, cause) in too_long(self.alloc, sources.as_slice(), units.as_slice())? {
+            self.tell(FileOf::Source(source), cause)?;
+        }
+        let are_known = comments.is_empty();
+        for (number, Swallower { cause, .. }) in comments {
+            let (second, file) = (self.told.len().min(1), FileOf::Source(number));
+            self.told.insert(second, Spot { file, cause })?;
+        }
+        self.in_rows_beside(if are_known { units.as_slice() } else { &[] })
     }
 }

@@ -58,7 +58,7 @@ impl<'t> Refused<'t> {
             ConfigFault::Memory => Ok(()),
             ConfigFault::NotToml(unread) => self.not_toml(unread),
             ConfigFault::PlantFile(mistakes) => self.in_keys(mistakes.as_slice()),
-            ConfigFault::Epoch => self.no_epoch(),
+            ConfigFault::Epoch => self.in_epoch(),
             ConfigFault::Limit(limit) => self.past(*limit),
             ConfigFault::Spelling { file, line, column } => {
                 self.in_sources((file, *line, *column), true)
@@ -79,7 +79,7 @@ impl<'t> Refused<'t> {
 }
 
 /// The fault of a refused plant, and further ones that are found with it, 20 at most: of the plant file and of rows in order of text, of sources first the one
-/// for which it is refused, and then the others in order of text; where the spelling or the grammar of sources is at fault, behind these those of rows.
+/// for which it is refused, and then the others in order of text, and behind these those of rows.
 fn find_all(
     alloc: Global,
     texts: &PlantTexts<'_>,
