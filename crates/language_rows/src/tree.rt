@@ -28,23 +28,37 @@ fn operator(op: &Binary) -> &str {
     }
 }
 
-fn show(expr: &Expr<Text>, page: &mut Page) {
-    match expr {
-        Expr::Literal(Literal::Value(Value::Bool(true))) => page.add("TRUE"),
-        Expr::Literal(Literal::Value(Value::Bool(false))) => page.add("FALSE"),
-        Expr::Literal(Literal::Value(Value::Dint(n))) => {
+fn sign(op: &Unary) -> &str {
+    match op {
+        Unary::Not => "NOT ",
+        Unary::Negate => "- ",
+        Unary::NegateTime => "-TIME ",
+    }
+}
+
+fn show_literal(literal: &Literal, page: &mut Page) {
+    match literal {
+        Literal::Value(Value::Bool(true)) => page.add("TRUE"),
+        Literal::Value(Value::Bool(false)) => page.add("FALSE"),
+        Literal::Value(Value::Dint(n)) => {
             page.add("DINT#");
             page.add_number(i128::from(*n));
         }
-        Expr::Literal(Literal::Value(Value::Time(n))) => {
+        Literal::Value(Value::Time(n)) => {
             page.add("T#");
             page.add_number(i128::from(*n));
         }
-        Expr::Literal(Literal::Integer(n)) => {
+        Literal::Integer(n) => {
             page.add("[");
             page.add_number(i128::from(*n));
             page.add("]");
         }
+    }
+}
+
+fn show(expr: &Expr<Text>, page: &mut Page) {
+    match expr {
+        Expr::Literal(literal) => show_literal(literal, page),
         Expr::Read(name) => page.add(name.as_str()),
         Expr::Output(instance, name) => {
             page.add(instance.as_str());
@@ -57,16 +71,8 @@ fn show(expr: &Expr<Text>, page: &mut Page) {
             show(index, page);
             page.add("]");
         }
-        Expr::Unary(Unary::Not, a) => {
-            page.add("NOT ");
-            show(a, page);
-        }
-        Expr::Unary(Unary::Negate, a) => {
-            page.add("- ");
-            show(a, page);
-        }
-        Expr::Unary(Unary::NegateTime, a) => {
-            page.add("-TIME ");
+        Expr::Unary(op, a) => {
+            page.add(sign(op));
             show(a, page);
         }
         Expr::Binary(op, a, b) => {
@@ -114,6 +120,47 @@ fn show_assignment(target: &Text, value: &Expr<Text>, page: &mut Page) {
     show(value, page);
 }
 
+fn show_store(array: &Text, index: &Expr<Text>, value: &Expr<Text>, page: &mut Page) {
+    page.add(array.as_str());
+    page.add("[");
+    show(index, page);
+    page.add("] := ");
+    show(value, page);
+}
+
+fn show_call(name: &Text, arguments: &[Argument<Text>], page: &mut Page) {
+    page.add(name.as_str());
+    page.add("( ");
+    for argument in arguments {
+        show_argument(argument, page);
+    }
+    page.add(")");
+}
+
+fn show_selector(selector: &Expr<Text>, page: &mut Page) {
+    page.add("CASE ");
+    show(selector, page);
+    page.add(" OF ");
+}
+
+fn show_turns(
+    variable: &Text,
+    from: &Expr<Text>,
+    to: &Expr<Text>,
+    by: &Option<Expr<Text>>,
+    page: &mut Page,
+) {
+    page.add("FOR ");
+    show_assignment(variable, from, page);
+    page.add(" TO ");
+    show(to, page);
+    if let Some(by) = by {
+        page.add(" BY ");
+        show(by, page);
+    }
+    page.add(" DO ");
+}
+
 #[cycle(shown)]
 fn show_body(body: &[Stmt<Text>], page: &mut Page) {
     for stmt in body {
@@ -153,21 +200,8 @@ fn show_stmt(stmt: &Stmt<Text>, page: &mut Page) {
             index,
             value,
             ..
-        } => {
-            page.add(array.as_str());
-            page.add("[");
-            show(index, page);
-            page.add("] := ");
-            show(value, page);
-        }
-        Stmt::Call(_, name, arguments) => {
-            page.add(name.as_str());
-            page.add("( ");
-            for argument in arguments {
-                show_argument(argument, page);
-            }
-            page.add(")");
-        }
+        } => show_store(array, index, value, page),
+        Stmt::Call(_, name, arguments) => show_call(name, arguments, page),
         Stmt::If(_, branches, last) => {
             page.add("IF ");
             show_branches(branches, page);
@@ -176,31 +210,21 @@ fn show_stmt(stmt: &Stmt<Text>, page: &mut Page) {
             page.add("END");
         }
         Stmt::Case(_, selector, choices, last) => {
-            page.add("CASE ");
-            show(selector, page);
-            page.add(" OF ");
+            show_selector(selector, page);
             show_choices(choices, page);
             page.add("ELSE ");
             show_body(last, page);
             page.add("END");
         }
         Stmt::For {
-            variable: name,
+            variable,
             from,
             to,
             by,
             body,
             ..
         } => {
-            page.add("FOR ");
-            show_assignment(name, from, page);
-            page.add(" TO ");
-            show(to, page);
-            if let Some(by) = by {
-                page.add(" BY ");
-                show(by, page);
-            }
-            page.add(" DO ");
+            show_turns(variable, from, to, by, page);
             show_body(body, page);
             page.add("END");
         }
