@@ -1,14 +1,16 @@
 #!/usr/bin/env python3
 """Simulates bad days of the built server, and compares each answer with that of the second reading of its rules (tools/reference).
 
-    python3 tools/simulate/simulate.py PROGRAM [--plants N] [--commands N] [--seed S] [--workers LIST] [--minutes M] [--keep DIR] [--jobs J] [--reload]
+    python3 tools/simulate/simulate.py PROGRAM [--plants N] [--commands N] [--seed S] [--workers LIST] [--minutes M] [--keep DIR] [--jobs J] [--reload] [--refuse K]
 
 PROGRAM is the built server (crates/alarmd/out/alarmd). README.md says what is tried. The exit status is 0 where all agree.
 """
 
 import argparse
+import bisect
 import collections
 import contextlib
+import itertools
 import multiprocessing
 import os
 import random
@@ -20,7 +22,8 @@ import sys
 import tempfile
 import time
 
-sys.path.insert(0, os.path.join(os.path.dirname(os.path.abspath(__file__)), "..", "reference"))
+HERE = os.path.dirname(os.path.abspath(__file__))
+sys.path[:0] = [os.path.join(HERE, "..", "reference"), os.path.join(HERE, "..", "refusals")]
 
 import files
 import folders
@@ -28,12 +31,15 @@ import protocol
 import reloads
 import runs
 from lines import Flood, Lines
+from refused import Refuser
 from runs import Ran
 from server import Server
 
 WAYS = ["missing", "folder", "loop", "no target", "endless", "failing", "too long", "locked"]
 FULL_EVERY = 5000
 NOBODY = 65_534
+# An answer of more bytes may be written in parts.
+MOST_AT_ONCE = 65_536
 # What stands on standard error where an end fails: the refusal's line, and the system's reason.
 INPUT_RESET = b"RUN READ\nstandard input: Connection reset by peer (os error 104)\n"
 READER_GONE = b"RUN WRITE\nstandard output: Broken pipe (os error 32)\n"
@@ -41,7 +47,7 @@ DISK_FULL = b"RUN WRITE\nstandard output: No space left on device (os error 28)\
 # The lines of the table at the end.
 ORDER = ["plants", "full histories, of 1,000,000 events each", "commands", "whole inputs", "inputs in pieces", "cut inputs", "inputs that fail", "broken pipes", "full disks"]
 ORDER += ["inputs with little memory", "inputs without more memory", "folders with little memory", "memory refused", "memory refused before anything was written"]
-ORDER += ["memory refused for threads", "folders with a file that is cut or changed", "folders with a file that can't be read", "folders that are accepted all the same", "folders of which the second reading can't tell", "differences"]
+ORDER += ["memory refused for threads", "inputs with growths refused", "answers whole all the same", "folders with a file that is cut or changed", "folders with a file that can't be read", "folders that are accepted all the same", "folders of which the second reading can't tell", "differences"]
 
 
 class Trial:
@@ -62,6 +68,13 @@ class Trial:
         self.make_lines()
         for workers in self.bench.workers:
             self.whole(workers)
+        if self.bench.refuser:
+            self.without_growths()
+        else:
+            self.all_else()
+        return self.counts
+
+    def all_else(self):
         self.paced()
         self.read_failed()
         for way in (self.cut, self.broken, self.little, self.squeezed):
@@ -70,7 +83,6 @@ class Trial:
         self.full_sink()
         self.spoiled()
         self.spoiled()
-        return self.counts
 
     def count(self, what, number=1):
         self.counts[what] += number
@@ -226,6 +238,35 @@ class Trial:
         self.judge(what, detail, words, self.given, self.wanted, ran, fits)
         self.count_refused(ran, refused)
 
+    def without_growths(self):
+        """Some growths of memory refused, by their numbers: the whole answer, or memory (or a thread) is refused behind whole answers."""
+        some, refuser = self.some, self.bench.refuser
+        for workers in self.bench.workers:
+            words = self.words(workers)
+            begun, growths = (refuser.run(words, given).growths for given in (b"", self.given))
+            for _ in range(self.bench.refusals):
+                # (Most growths are the beginning's, which reads the plant: those behind them tell more.)
+                places = range(1 if begun >= growths or some.random() < 0.2 else begun + 1, growths + 1)
+                at = sorted(some.sample(places, min(len(places), some.choice([1, 1, 2, 5]))))
+                self.judge_growths(words, workers, at, refuser.run(words, self.given, at=at))
+
+    def judge_growths(self, words, workers, at, came):
+        """Counts a run in which these growths were refused, or some of them; none is where by several threads it had fewer."""
+        if came.refused:
+            ran = self.unwarned(Ran(came.out, came.error, runs.HUNG if came.status is None else came.status))
+            refused = ran.status == 1 and (ran.error == b"RUN MEMORY\n" or (ran.error == b"RUN CREW\n" and workers > 1))
+            fits = ran == Ran(self.wanted, b"", 0) or (refused and self.wanted.startswith(ran.out) and self.has_whole_answers(ran.out))
+            self.judge("inputs with growths refused", f"growths {','.join(map(str, at))}", words, self.given, self.wanted, ran, fits)
+            self.count("answers whole all the same", ran.status == 0)
+            self.count_refused(ran, refused)
+
+    def has_whole_answers(self, out):
+        """Whether a beginning of the answers ends where one does. (A part may have several lines, each answered by itself; a long answer is written in parts.)"""
+        ends = list(itertools.accumulate(map(len, self.answers)))
+        at = bisect.bisect_left(ends, len(out))
+        has_lines = b"\n" in self.parts[at][:-1] and out.endswith(b"\n")
+        return out == b"" or ends[at] == len(out) or has_lines or len(self.answers[at]) > MOST_AT_ONCE
+
     def count_refused(self, ran, refused):
         self.count("memory refused", refused)
         self.count("memory refused before anything was written", refused and not ran.out)
@@ -324,6 +365,7 @@ class Difference:
                 file.write(text)
         words = [it.replace(trial.place, os.path.join(self.folder, "plant")) for it in self.words]
         options = ["--seed", f"{trial.seed}", "--plants", "1", "--commands", f"{bench.commands}", "--workers", ",".join(map(str, bench.workers))] + ["--reload"] * (bench.reads is not None)
+        options += ["--refuse", f"{bench.refusals}"] * (bench.refusals > 0)
         lines = [f"seed {trial.seed}, {self.how}: {self.first_line()}; status {ran.status}, standard error {ran.error[:300]!r}"]
         lines += [f"  its plant and input: {self.folder}", f"  by hand: {shlex.join(words)} < {shlex.quote(self.folder)}/input"]
         lines += [f"  again: {shlex.join(['python3', sys.argv[0], bench.program, *options])}"]
@@ -346,7 +388,8 @@ class Bench:
         self.program, self.commands, self.workers = os.path.abspath(options.program), options.commands, options.workers
         self.keep, self.seconds, self.room = os.path.abspath(options.keep), 120, room
         self.reads = reloads.read if options.reload else None
-        self.least = runs.least_memory(self.program)
+        self.refusals, self.refuser = options.refuse, Refuser() if options.refuse else None
+        self.least = None if self.refuser else runs.least_memory(self.program)
         os.chmod(room, 0o755)
         # Root reads every file, so that for a file without rights the program is run by nobody, where it can be.
         self.ways = WAYS if os.geteuid() or self.runs_as_nobody() else WAYS[:-1]
@@ -364,12 +407,16 @@ def work(options, share, told):
     sys.setrecursionlimit(10_000)
     with tempfile.TemporaryDirectory() as room:
         bench = Bench(options, room)
-        if bench.least is None:
+        if bench.least is None and bench.refuser is None:
             told({"programs that don't start with a limit on memory": 1})
-        for seed in range(options.seed + share, options.seed + options.plants, options.jobs):
-            if time.monotonic() >= end:
-                break
-            told(Trial(bench, seed).go())
+        try:
+            for seed in range(options.seed + share, options.seed + options.plants, options.jobs):
+                if time.monotonic() >= end:
+                    break
+                told(Trial(bench, seed).go())
+        finally:
+            if bench.refuser:
+                bench.refuser.close()
 
 
 def share_out(options, told):
@@ -411,6 +458,7 @@ def read_options():
     reads.add_argument("--keep", default=os.path.join(tempfile.gettempdir(), "simulate-kept"), help="where plants and inputs of differences are kept")
     reads.add_argument("--jobs", type=int, default=1, help="how many plants at once (1)")
     reads.add_argument("--reload", action="store_true", help="inputs have reloads too: the program has to have this command")
+    reads.add_argument("--refuse", type=int, default=0, metavar="K", help="in place of all else, K runs of each plant by each number of workers in which some growths of memory are refused; needs gcc")
     return reads.parse_args()
 
 
