@@ -63,6 +63,8 @@ class Reader(Parser):
             self.at += 1
             region = self.text[self.take("address").at + 1].upper()
         for name, kind, bounds, initial in self.rest_of_declaration(names):
+            if kind not in (BOOL, DINT, TIME):
+                raise files.Unknown  # a global of no kind: C6
             if bounds:
                 plant.arrays.append(Array(kind, ("global", name.lower()), *bounds, name))
             else:

@@ -100,11 +100,26 @@ class Schedule:
         """The words of a reload: a word of the files, and what stands in its place."""
         some, words = self.some, re.findall("[A-Za-z_0-9]+", self.given)
         word = some.choice(words)
-        other = some.choice([word.swapcase(), f"{word}1", some.choice(words), some.choice(words), {"TRUE": "FALSE", "FALSE": "TRUE", "DINT": "TIME"}.get(word.upper(), word)])
+        other = some.choice([word.swapcase(), f"{word}_new", some.choice(words), some.choice(words), {"TRUE": "FALSE", "FALSE": "TRUE"}.get(word.upper(), word)])
         return some.choice(["", f"{word} => {other}", f"{word} => {other}", f"{word} => {other}", "FALSE => TRUE", "TRUE => FALSE"])
+
+    def is_told(self, words):
+        """Whether the second reading can tell what comes of a change. Of sources it reads names and no kinds: there a change is one of letter case, of a truth value, or of a global's name to
+        one that nothing else has. And the table's own lines stay."""
+        old, _, new = words.partition(" => ")
+        at = self.given.find(old)
+        before, line = self.given[:at], self.given.rfind("\n", 0, at) + 1
+        if self.given.startswith("file ", line) or new == "file":
+            return False
+        if len(re.findall("^file ", before, re.MULTILINE)) < 3 or old.lower() == new.lower() or {old, new} == {"TRUE", "FALSE"}:
+            return True
+        sections = re.findall("VAR_GLOBAL|END_VAR", before, re.IGNORECASE)
+        return new == f"{old}_new" and sections[-1:] != [] and sections[-1].upper() == "VAR_GLOBAL"
 
     def reloaded(self, words):
         """What such a reload would be answered; None where the second reading doesn't know, or the plant file would list other files."""
+        if words and not self.is_told(words):
+            return None
         given = texts_in(changed(self.given, words))
         try:
             if files.plant_file(given[0])["sources"] != [name for name in self.files if name.endswith(".st")]:
