@@ -43,7 +43,7 @@ class Station:
         self.server, self.said, self.given, self.came, self.refusing = Server(plant, reloads.read), said, given, came, refusing
         self.reloads = 0
         self.consoles = {number: Rings() for number, _ in plant.consoles}
-        self.refused, self.stopped = 0, 0
+        self.refused, self.stopped, self.refused_reloads = 0, 0, 0
         self.left, self.asked, self.gone = None, 0, False
         self.say(f"station {name}")
 
@@ -63,8 +63,8 @@ class Station:
         rings = self.consoles.get(number(first))
         if word == "workers":
             self.left = number(first)
-        elif word == "reload":
-            self.reload(words)
+        elif word == "reload" or row.startswith("once reload"):
+            self.reload(row)
         elif word in ("scan", "once"):
             self.scan(words if word == "once" else row, word == "once")
         elif word == "page":
@@ -98,7 +98,11 @@ class Station:
         order, reply = rings.answers.popleft()
         self.say(f"ANSWER {self.named(order)} {reply}")
 
-    def reload(self, words):
+    def reload(self, row):
+        if self.refusing and row.startswith("once ") and self.next() == "MEMORY":
+            self.refused_reloads += 1
+            return self.say("MEMORY")
+        words = row.removeprefix("once ").partition(" ")[2]
         line = self.server.reload(*texts_in(changed(self.given, words)))[0]
         self.reloads += line.startswith("RELOADED")
         self.say("NO PLANT" if line.startswith("CONFIG") else line)

@@ -8,7 +8,7 @@ never, looks at boards, pages of the archive, workers who are gone after some ro
 alone: what the archive has of a console, and what is left of it, has to be what it submitted, each once and in order, and its answers the archive's replies.
 
 With `--refuse K` each station is played K times more, and some growths of its memory are refused, at random; with `--each` as often as it has growths, and each is refused
-in turn. Its turns are rows of `once`, mostly, so that a turn that is refused or stopped is told and the station goes on: the model says what has to come then. A run may also end with status 1 and
+in turn. Its turns and reloads are rows of `once`, mostly, so that one that is refused or stopped is told and the station goes on: the model says what has to come then. A run may also end with status 1 and
 write nothing.
 
 | option | what it is | without it |
@@ -47,7 +47,7 @@ from rings import PLACES, Station, changed, texts_in, unbalanced
 from server import MOST_EVENTS
 
 NO_ROWS = ["say 1 T1", "list", "ack 1", "once list", "scan x", "once ack 1 T", "shelve 1 T", "repeat 3 list", "room 0", "board 0 T", "answer 0", "answers 0 5", "repeat 5 ack 0 T"]
-ORDER = ["stations", "rows", "turns that took orders", "runs", "runs with memory refused", "of them as the model says", "of them ended, with nothing written", "turns refused for memory", "turns stopped for memory", "differences"]
+ORDER = ["stations", "rows", "turns that took orders", "runs", "runs with memory refused", "of them as the model says", "of them ended, with nothing written", "turns refused for memory", "turns stopped for memory", "reloads refused for memory", "differences"]
 
 
 class Schedule:
@@ -90,7 +90,8 @@ class Schedule:
             words = self.change()
             line = self.reloaded(words)
             if line is not None and (line.startswith("RELOADED") or not wanted):
-                self.add(f"reload {words}".rstrip())
+                once = "once " if self.refusing and self.some.random() < 0.9 else ""
+                self.add(f"{once}reload {words}".rstrip())
                 self.lines.serve(self.model.server.plant)
                 break
         if self.some.random() < 0.5:
@@ -267,6 +268,7 @@ class Trial:
         said, model = wanted(self.schedule, came, refused)
         self.counts["turns refused for memory"] += model.refused
         self.counts["turns stopped for memory"] += model.stopped if refused else 0
+        self.counts["reloads refused for memory"] += model.refused_reloads
         self.counts["turns that took orders"] += sum(bool(re.fullmatch("TAKEN [1-9].*", line)) for line in came)
         where = difference(said, came)
         # (After a reload an order's target may have no name, or another one.)

@@ -17,6 +17,7 @@
 //! - `board 1 T1` looks at the board of a console: how many events it shows, and the state of an alarm;
 //! - `reload > 10 => > 30` reloads the station's plant with the second text in the place of the first, where that stands first in the files by which the
 //!   station began, and `reload` alone that plant itself: how many alarms were kept and how many are new, or why it is refused; `NO PLANT` where these files make none;
+//! - `once reload > 10 => > 30` likewise, and says `MEMORY` where memory is refused for it; the station goes on with the plant that it has;
 //! - `reloads 1` looks at the board of a console, and says how many reloads it shows;
 //! - `room 1` says how many places for orders a console knows to be free;
 //! - `page 1 3` prints the archive's lines from one number on, so many;
@@ -24,9 +25,9 @@
 //! - `workers 2`, as a station's first line only, has its programs run by workers who are gone after so many rounds.
 //!
 //! Where memory is refused for a turn's scan, or for a page, it is asked for once more. Where it is refused for an order, so that the turn is stopped, or
-//! anywhere else in a station's life, the whole station is lived once more, from the reading of its plant; a turn of `once` says so instead, and the
-//! station goes on. Where a turn is refused or stopped it is held against what came before: how many events the engine, the archive and the boards have, and
-//! how many orders wait. `PROMISE BROKEN` is printed where these aren't as they have to be; the file `stdout` has no such line. So what is printed is the
+//! anywhere else in a station's life, the whole station is lived once more, from the reading of its plant; a turn or a reload of `once` says so instead, and
+//! the station goes on. Where a turn is refused or stopped it is held against what came before: how many events the engine, the archive and the boards have,
+//! and how many orders wait. `PROMISE BROKEN` is printed where these aren't as they have to be; the file `stdout` has no such line. So what is printed is the
 //! same whichever allocation fails after the reading of the table, unless the output's own growth does: then nothing is printed.
 #![tactic(auto)]
 

@@ -3,6 +3,7 @@
 ghost use Rattle.std.specs.Prelude.{◌≡◌};
 
 use crate::plants::read_plant;
+use crate::rows::cut;
 use crate::workers::Workers;
 use engine::{EngineFault, ReloadRefused, Reloaded};
 use row_text::Page;
@@ -21,8 +22,17 @@ fn changed(alloc: Global, files: &str, words: &str) -> Result<String, AllocError
     }
 }
 
-/// Adds what came of a reload. Where memory was refused for it the page is short of it.
-fn push_reloaded(page: &mut Page, reloaded: &Result<Reloaded, ReloadRefused>) {
+/// Adds that memory was refused for a reload: the page is short of it, but where that is to be told.
+fn push_short(page: &mut Page, once: bool) {
+    if once {
+        page.line("MEMORY");
+    } else {
+        page.refuse();
+    }
+}
+
+/// Adds what came of a reload. Where memory was refused for it the page is short of it, but where that is to be told.
+fn push_reloaded(page: &mut Page, reloaded: &Result<Reloaded, ReloadRefused>, once: bool) {
     match reloaded {
         Ok(reloaded) => {
             page.add("RELOADED KEPT");
@@ -32,7 +42,7 @@ fn push_reloaded(page: &mut Page, reloaded: &Result<Reloaded, ReloadRefused>) {
             page.add("\n");
         }
         Err(refused) => match refused.fault {
-            EngineFault::Memory => page.refuse(),
+            EngineFault::Memory => push_short(page, once),
             fault => {
                 page.add("REFUSED ");
                 page.line(fault.text());
@@ -41,26 +51,28 @@ fn push_reloaded(page: &mut Page, reloaded: &Result<Reloaded, ReloadRefused>) {
     }
 }
 
-/// Reloads the plant of a station's files, with a text in the place of another one, and adds what came of it.
+/// Reloads the plant of a station's files, with a text in the place of another one, by a line `reload ..` or `once reload ..`, and adds what came of it.
 pub fn push_reload<L: Ledger, R: Threads + Wait + Sync>(
     rt: &R,
     alloc: Global,
     station: &mut Station<L, Workers>,
     page: &mut Page,
     files: &str,
-    words: &str,
+    line: &str,
 )
     ensures { station.new.lanes ≡ station.old.lanes }
 {
+    let once = line.starts_with("once ");
+    let (_, words) = cut(line.strip_prefix("once ").unwrap_or(line));
     let Ok(files) = changed(alloc, files, words) else {
-        return page.refuse();
+        return push_short(page, once);
     };
     match read_plant(rt, alloc, files.as_str()) {
         Ok(Some(plant)) => {
             let reloaded = station.reload(rt, alloc, plant);
-            push_reloaded(page, &reloaded);
+            push_reloaded(page, &reloaded, once);
         }
         Ok(None) => page.line("NO PLANT"),
-        Err(_) => page.refuse(),
+        Err(_) => push_short(page, once),
     }
 }

@@ -43,8 +43,9 @@ fn push_row<L: Ledger, R: Threads + Wait + Sync>(
 {
     let (word, words) = cut(line);
     match word {
+        "once" if cut(words).0 == "reload" => push_reload(rt, alloc, station, page, files, line),
+        "reload" => push_reload(rt, alloc, station, page, files, line),
         "scan" | "once" => push_turn_of(rt, alloc, station, consoles, page, line),
-        "reload" => push_reload(rt, alloc, station, page, files, words),
         "workers" => {}
         "page" => push_page(rt, alloc, &**station.archive(), page, words),
         "journal" => push_compared(rt, alloc, &**station.archive(), station.engine(), page),
