@@ -219,7 +219,8 @@ class Lines:
 
 
 class Flood:
-    """The parts of a cheap input that fills the history and goes on for a few lines, and their answers."""
+    """The parts of a cheap input that fills the history and goes on for a few lines, and their answers. Where the server has reloads, two come as the history fills: they are the last event or the last
+    but one, or there is no more room for them."""
 
     LAST = [b"scan 1\n", b"ack 1 nobody\n", b"list\n", b"journal\n", b"scan 0 nothing=1\n", b"shelve 1 nobody\n", b"restart 1 nobody\n", b"restart 1 nobody"]
 
@@ -227,5 +228,8 @@ class Flood:
         self.copies = {0: server.copy()}
         tags = [row.tag for row in plant.alarms] or ["nobody"]
         lines = [f"ack {console} {some.choice(tags)}\n".encode() for console in range(5)] + [b"restart 1 nobody\n", b"unshelve 1 \xff\n"]
-        self.parts = [lines[at % len(lines)] for at in range(MOST_EVENTS - some.randrange(3))] + self.LAST
+        self.parts = [lines[at % len(lines)] for at in range(MOST_EVENTS - some.randrange(3))]
+        if server.reads is not None:
+            self.parts += [Lines(some, plant, server, 0).reload_of(plant) + b"\n" for _ in range(2)]
+        self.parts += self.LAST
         self.answers = [protocol.answers(server, part) for part in self.parts]
