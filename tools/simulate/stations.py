@@ -47,7 +47,7 @@ from rings import PLACES, Station, changed, texts_in, unbalanced
 from server import MOST_EVENTS
 
 NO_ROWS = ["say 1 T1", "list", "ack 1", "once list", "scan x", "once ack 1 T", "shelve 1 T", "repeat 3 list", "room 0", "board 0 T", "answer 0", "answers 0 5", "repeat 5 ack 0 T"]
-ORDER = ["stations", "rows", "turns that took orders", "runs", "runs with memory refused", "of them as the model says", "of them ended, with nothing written", "turns refused for memory", "turns stopped for memory", "reloads refused for memory", "differences"]
+ORDER = ["stations", "rows", "turns that took orders", "reloads taken", "runs", "runs with memory refused", "of them as the model says", "of them ended, with nothing written", "turns refused for memory", "turns stopped for memory", "reloads refused for memory", "differences"]
 
 
 class Schedule:
@@ -270,6 +270,7 @@ class Trial:
         self.counts["turns stopped for memory"] += model.stopped if refused else 0
         self.counts["reloads refused for memory"] += model.refused_reloads
         self.counts["turns that took orders"] += sum(bool(re.fullmatch("TAKEN [1-9].*", line)) for line in came)
+        self.counts["reloads taken"] += sum(line.startswith("RELOADED ") for line in came)
         where = difference(said, came)
         # (After a reload an order's target may have no name, or another one.)
         if isinstance(self.schedule, Schedule) and model.reloads == 0:
