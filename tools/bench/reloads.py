@@ -6,7 +6,7 @@
 
 PROGRAM is the built server (crates/alarmd/out/alarmd), PATH a plant file, without it a plant of 20,000 alarms. The server scans once, is handed its own plant again and again, and after so many reloads
 (1, 10, 100, 300, 500 and 1,000) its memory is told, in MB: what is resident, and what of that is no file's; what the C library has from the system, and of that the blocks that the program has asked for and
-not given back, the rest, which the library keeps, and how much of the rest lies at the end, where it could be given back. It needs gcc, and a program that is linked with the C library as a shared one, as
+not given back, the rest, which the library keeps, and how much of the rest lies at the end, where it could be given back. It needs Python 3.11 or later, gcc, and a program that is linked with the C library as a shared one, as
 LLVM's builds are. What the C library reads in its environment it reads here too.
 """
 
