@@ -95,7 +95,7 @@ pub fn has_word(text: &[u8], word: &[u8]) -> bool {
 
 /// A comment that goes on over statements to the end of another.
 #[derive(Drop)]
-pub struct Swallower<'t> {
+pub struct OpenComment<'t> {
     /// What is told of it.
     pub cause: Cause,
     /// What it swallows.
@@ -105,7 +105,7 @@ pub struct Swallower<'t> {
     around: (usize, usize),
 }
 
-impl Swallower<'_> {
+impl OpenComment<'_> {
     /// Whether something may be wrong by the comment alone that is told of a word at a byte of the comment's source, or of another one (`None`).
     pub fn hides(&self, at: Option<usize>, word: &[u8]) -> bool {
         let is_around = at.is_some_and(|at| self.around.0 <= at && at < self.around.1);
@@ -115,7 +115,7 @@ impl Swallower<'_> {
 
 /// The first comment of a source, whose bytes all belong to tokens, blanks and comments, that goes on over statements to the end of another; `None` where none
 /// does.
-pub fn swallower(alloc: Global, text: &[u8]) -> Result<Option<Swallower<'_>>, AllocError> {
+pub fn swallower(alloc: Global, text: &[u8]) -> Result<Option<OpenComment<'_>>, AllocError> {
     let Some((comment, inner)) = swallowing(text) else {
         return Ok(None);
     };
@@ -130,7 +130,7 @@ pub fn swallower(alloc: Global, text: &[u8]) -> Result<Option<Swallower<'_>>, Al
     } else {
         comment.until
     };
-    Ok(Some(Swallower {
+    Ok(Some(OpenComment {
         cause: cause_at((at, at.saturating_add(2)), said, SPELLING),
         swallowed,
         around: (at, until),

@@ -13,6 +13,6 @@ mod looking;
 mod places;
 mod units;
 
-pub use comments::{Swallower, swallower};
+pub use comments::{OpenComment, swallower};
 pub use found::{Found, Warning};
 pub use looking::look;

@@ -2,7 +2,7 @@
 //! (C11 to C14).
 
 use crate::telling::{MOST_FAULTS, REFUSALS, Refused};
-use body_uses::{Swallower, swallower};
+use body_uses::{OpenComment, swallower};
 use explain_bodies::{Mistake, Rule, mistakes};
 use limit_causes::too_long;
 use plant_types::Text;
@@ -86,7 +86,7 @@ impl<'t> Refused<'t> {
     }
 
     /// The comments that swallow what follows, the first of each source, by the source's number.
-    fn swallowers(&self) -> Result<Vec<(usize, Swallower<'t>)>, AllocError> {
+    fn swallowers(&self) -> Result<Vec<(usize, OpenComment<'t>)>, AllocError> {
         let mut comments = Vec::new(self.alloc);
         for (number, source) in self.sources.iter().enumerate() {
             if let Some(comment) = swallower(self.alloc, source.1)? {
@@ -97,7 +97,7 @@ impl<'t> Refused<'t> {
     }
 
     /// Whether a mistake may be one by comments alone that swallow what follows.
-    fn is_hidden(&self, comments: &[(usize, Swallower<'t>)], mistake: &Mistake) -> bool {
+    fn is_hidden(&self, comments: &[(usize, OpenComment<'t>)], mistake: &Mistake) -> bool {
         let (from, until) = mistake.cause.mark.unwrap_or((0, 0));
         let word = part(self.text_of(FileOf::Source(mistake.source)), from, until);
         let mut comments = comments.iter();
@@ -131,7 +131,7 @@ impl<'t> Refused<'t> {
             self.tell(FileOf::Source(source), cause)?;
         }
         let are_known = comments.is_empty();
-        for (number, Swallower { cause, .. }) in comments {
+        for (number, OpenComment { cause, .. }) in comments {
             let (second, file) = (self.told.len().min(1), FileOf::Source(number));
             self.told.insert(second, Spot { file, cause })?;
         }
