@@ -148,6 +148,30 @@ fn line_of(text: &[u8], at: usize) -> Mark {
     (from, len.map_or(text.len(), |len| from.saturating_add(len)))
 }
 
+/// Why a text is no document; `None` where it is one.
+fn unread_in(alloc: Global, text: &[u8]) -> Result<Option<Unread>, AllocError> {
+    match read(alloc, text) {
+        Ok(file) => {
+            drop(file);
+            Ok(None)
+        }
+        Err(PlantFileFault::Wrong(mistakes)) => {
+            drop(mistakes);
+            Ok(None)
+        }
+        Err(PlantFileFault::Memory) => Err(AllocError),
+        Err(PlantFileFault::NotToml(unread)) => Ok(Some(unread)),
+    }
+}
+
+/// Whether a text is no document any more at a byte, for a reason.
+fn is_unread_at(unread: &Unread, reason: &str, at: usize) -> bool {
+    match unread.message() {
+        Some(message) => message == reason && unread.bytes().0 == at,
+        None => false,
+    }
+}
+
 /// A plant file with a remark in the place of the line in which it is no document any more, for a reason; `None` where the line by itself isn't wrong for this
 /// reason, nor a whole key that is there already, or is that of a header, and so it isn't certain how the file goes on.
 fn without_line(
@@ -158,13 +182,10 @@ fn without_line(
 ) -> Result<Option<Vec<u8>>, AllocError> {
     let line = line_of(text, at);
     let bytes = part(text, line.0, line.1);
-    let is_alone = match read(alloc, bytes) {
-        Err(PlantFileFault::Memory) => return Err(AllocError),
-        Err(PlantFileFault::NotToml(unread)) => {
-            let is_same = unread.message() == Some(reason);
-            is_same && unread.bytes().0.saturating_add(line.0) == at
-        }
-        _ => reason == "duplicate key",
+    let unread = unread_in(alloc, bytes)?;
+    let is_alone = match &unread {
+        Some(unread) => is_unread_at(unread, reason, at.saturating_sub(line.0)),
+        None => reason == "duplicate key",
     };
     if !is_alone || bytes.trim_ascii_start().starts_with(b"[") {
         return Ok(None);

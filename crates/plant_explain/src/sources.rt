@@ -82,7 +82,10 @@ impl<'t> Refused<'t> {
         let sources = sources_of(self.alloc, heads.as_slice())?;
         let units = units_of(self.alloc, sources.as_slice())?;
         let are_known = units.len() == heads.len() && !starts.contains(&None);
-        self.in_rows_beside(if are_known { units.as_slice() } else { &[] })
+        if are_known {
+            return self.in_rows_beside(units.as_slice());
+        }
+        self.in_rows_beside(&[])
     }
 
     /// The comments that swallow what follows, the first of each source, by the source's number.
@@ -135,6 +138,9 @@ impl<'t> Refused<'t> {
             let (second, file) = (self.told.len().min(1), FileOf::Source(number));
             self.told.insert(second, Spot { file, cause })?;
         }
-        self.in_rows_beside(if are_known { units.as_slice() } else { &[] })
+        if are_known {
+            return self.in_rows_beside(units.as_slice());
+        }
+        self.in_rows_beside(&[])
     }
 }
