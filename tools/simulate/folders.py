@@ -77,11 +77,11 @@ def made(some):
 
 
 class Texts(Writer):
-    """Writes the files of a plant as bytes. `units` has for each source its sections and routines, each with the place of its end."""
+    """Writes the files of a plant as bytes. `units` has for each source its sections and routines, each with the place of its end. The plant file has what is new in TOML 1.1 only where it may."""
 
-    def __init__(self, some, plant):
+    def __init__(self, some, plant, may_be_newer=True):
         super().__init__(some)
-        self.plant = plant
+        self.plant, self.may_be_newer = plant, may_be_newer
         taken = set()
         self.alarms = self.file("alarms.csv", taken)
         self.sources = [self.file(f"s{at}.st", taken) for at in range(some.choice([1, 1, 2, 2, 3, 6]))]
@@ -217,7 +217,7 @@ class Texts(Writer):
         escaped = text.replace("\\", "\\\\").replace('"', '\\"')
         if pick < 0.30 and text:
             escaped = "".join(some.choice([f"\\u{ord(it):04x}", f"\\U{ord(it):08X}"]) if it.isalnum() and some.random() < 0.3 else it for it in escaped)
-        if pick < 0.32 and text[:1].isascii() and text[:1].isalnum():
+        if pick < 0.32 and text[:1].isascii() and text[:1].isalnum() and self.may_be_newer:
             self.has_new, escaped = True, f"\\x{ord(text[0]):02x}" + text[1:].replace('"', '\\"')
         return f'"""{escaped}"""' if pick > 0.95 else f'"{escaped}"'
 
@@ -230,7 +230,7 @@ class Texts(Writer):
         return "[" + gap + f",{gap}".join(items) + ("," if items and some.random() < 0.1 else "") + gap + "]"
 
     def inline(self, keys):
-        if self.random.random() < 0.05:
+        if self.random.random() < 0.05 and self.may_be_newer:
             self.has_new = True
             return "{\n" + ",\n".join(f"{name} = {text}" for name, text in keys) + ",\n}"
         return "{" + ", ".join(f"{name} = {text}" for name, text in keys) + "}"

@@ -104,13 +104,13 @@ class Lines:
         """A reload of a plant, now and then with a file that is cut or changed, or with a source too many or too few."""
         some = self.some
         while True:
-            texts = folders.Texts(some, plant)
+            # (Python's own reader of TOML doesn't know what is new in TOML 1.1. A plant of many consoles would hardly be without it by chance.)
+            texts = folders.Texts(some, plant, may_be_newer=False)
             folder = folders.Folder(some, texts)
             if some.random() < 0.2:
                 name = some.choice(["plant.toml", texts.alarms, *texts.sources])
                 (folder.cut if name in texts.sources or some.random() < 0.5 else folder.change)(name)
-            # (Python's own reader of TOML doesn't know what is new in TOML 1.1)
-            if not folder.is_newer and not texts.is_newer:
+            if not folder.is_newer:
                 break
         sources = [folder.texts[name] for name in texts.sources]
         if some.random() < 0.03:
