@@ -1,6 +1,6 @@
 //! The scans of a plant, as a server takes them.
 
-ghost use Rattle.std.specs.Prelude.{◌≡◌, ◌<◌, length, IfOk};
+ghost use Rattle.std.specs.Prelude.{◌≡◌, ◌<◌, length, IfOk, OnOk, OnErr};
 ghost use Rattle.plant_walk.specs.Runs.{HasCells};
 
 use crate::twin::Twin;
@@ -36,7 +36,7 @@ pub struct TwinScans {
     stopped: Vec<bool>,
     /// The moment of the last scan.
     moment: u64,
-    /// How many scans and orders were taken.
+    /// How many scans, orders and reloads were taken.
     events: u64,
     ghost cells: { HasCells framed twin.ran },
 }
@@ -136,6 +136,22 @@ fn opened(alloc: Global, framed: &Framed, walker: Walker) -> Result<(Twin, Vec<b
     Ok((twin, vec![in alloc; false; framed.programs().len()]?))
 }
 
+/// Goes on with another logic in the place of the old one, of which no program is stopped. Fails if allocation fails.
+fn go_on(
+    alloc: Global,
+    twin: &mut Twin,
+    old: &Framed,
+    new: &Framed,
+    walker: Walker,
+) -> Result<Vec<bool>, AllocError>
+    ensures ok { OnOk result (HasCells new.now twin.new.ran) }
+    ensures err { OnErr result (twin.new.ran ≡ twin.old.ran) }
+{
+    let stopped = vec![in alloc; false; new.programs().len()]?;
+    twin.go_on(alloc, old, new, walker)?;
+    Ok(stopped)
+}
+
 impl TwinScans {
     /// The programs before the first scan. The walker is to be of the same source. Fails if allocation fails.
     pub fn new(alloc: Global, framed: Framed, walker: Walker) -> Result<TwinScans, AllocError> {
@@ -187,6 +203,28 @@ impl TwinScans {
         if let Some(program) = restarted {
             if let Some(is_stopped) = self.stopped.get_mut(program as usize) {
                 *is_stopped = false;
+            }
+        }
+    }
+
+    /// Takes a reload that a server took, of the logic of another plant. No program is stopped then. The walker is to be of the same source. Fails if allocation
+    /// fails.
+    pub fn reload(
+        &mut self,
+        alloc: Global,
+        framed: Framed,
+        walker: Walker,
+    ) -> Result<(), AllocError> {
+        match go_on(alloc, &mut self.twin, &self.framed, &framed, walker) {
+            Ok(stopped) => {
+                self.framed = framed;
+                self.stopped = stopped;
+                self.events = self.events.saturating_add(1);
+                Ok(())
+            }
+            Err(refused) => {
+                drop(framed);
+                Err(refused)
             }
         }
     }

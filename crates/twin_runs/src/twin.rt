@@ -1,6 +1,7 @@
-ghost use Rattle.std.specs.Prelude.{◌≡◌, ◌<◌, length, IfOk};
+ghost use Rattle.std.specs.Prelude.{◌≡◌, ◌<◌, length, IfOk, OnOk, OnErr};
 ghost use Rattle.plant_walk.specs.Runs.{HasCells};
 
+use plant_carry::carry;
 use plant_cells::{Cells, Clock};
 use plant_walk::{Framed, Stack, Walked, run, standing_cells_are_there};
 use source_walks::Walker;
@@ -42,6 +43,23 @@ fn show_alike(one: &[Clock], other: &[Clock]) -> bool {
     true
 }
 
+/// The cells of another source, by those of an old one: what is in both goes over. Where there aren't as many as before its first scan, those of that. Fails if
+/// allocation fails.
+fn carried(alloc: Global, old: &Framed, cells: &Cells, new: &Framed) -> Result<Cells, AllocError>
+    ensures { IfOk result (HasCells new.now) }
+{
+    standing_cells_are_there();
+    let after = carry(alloc, old, cells, new)?;
+    let opening = new.opening(alloc)?;
+    if after.as_slice().len() == opening.as_slice().len()
+        && after.clocks().len() == opening.clocks().len()
+    {
+        Ok(after)
+    } else {
+        Ok(opening)
+    }
+}
+
 impl Twin {
     /// Cells before the first scan. The walker is to be of the same source. Fails if allocation fails.
     pub fn new(alloc: Global, framed: &Framed, walker: Walker) -> Result<Twin, AllocError>
@@ -56,6 +74,26 @@ impl Twin {
             walked,
             stack,
         })
+    }
+
+    /// Goes on with another source in the place of the old one, in both ways: what is in both goes over. The walker is to be of that source. Fails if allocation fails;
+    /// what the runs of the codes have left is then as before.
+    pub fn go_on(
+        &mut self,
+        alloc: Global,
+        old: &Framed,
+        new: &Framed,
+        walker: Walker,
+    ) -> Result<(), AllocError>
+        ensures ok { OnOk result (HasCells new.now self.new.ran) }
+        ensures err { OnErr result (self.new.ran ≡ self.old.ran) }
+    {
+        let walked = carried(alloc, old, &self.walked, new)?;
+        let ran = carried(alloc, old, &self.ran, new)?;
+        self.walker = walker;
+        self.walked = walked;
+        self.ran = ran;
+        Ok(())
     }
 
     /// Gives the global of a number a value, for both ways. It does nothing if there is no such global.

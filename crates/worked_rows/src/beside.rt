@@ -1,18 +1,20 @@
 //! The programs of a plant beside the server: they run in both ways, by their codes and as the source is read.
 
 use alarm_machine::Verb;
-use command_text::{Command, Pool, read_command};
+use command_text::{Command, Pool, TextSizes, read_command, reload_sizes};
 use engine::Engine;
 use plant_config::Plant;
 use row_text::Page;
 use std::alloc::{AllocError, Global};
-use twin_runs::{Scanned, TwinScans, Walker};
+use twin_runs::{Scanned, TwinScans, Walker, walker_of_sources};
 
 /// The runs beside a server, and room for the pairs of a scan.
 #[derive(Drop)]
 pub struct Beside {
     scans: TwinScans,
     pool: Pool,
+    /// How many reloads were taken.
+    reloads: u32,
 }
 
 /// A line without its end: a line feed, and at most one carriage return before it.
@@ -54,12 +56,38 @@ fn push_scanned(page: &mut Page, moment: u64, scanned: Result<Scanned, AllocErro
     }
 }
 
+/// The sources in the bytes behind a `reload` line of these sizes. Fails if allocation fails.
+fn sources_in<'a>(
+    alloc: Global,
+    sizes: &TextSizes,
+    body: &'a [u8],
+) -> Result<Vec<(&'static str, &'a [u8])>, AllocError> {
+    let mut sources = Vec::new(alloc);
+    let mut at = (sizes.plant() as usize).saturating_add(sizes.alarms() as usize);
+    for size in sizes.sources() {
+        let end = at.saturating_add(*size as usize);
+        sources.push(("p.st", body.get(at..end).unwrap_or(b"")))?;
+        at = end;
+    }
+    Ok(sources)
+}
+
+/// A walker of the sources behind a `reload` line of these sizes; none where memory was refused.
+fn walker_in(alloc: Global, sizes: &TextSizes, body: &[u8]) -> Option<Walker> {
+    let sources = sources_in(alloc, sizes, body).ok()?;
+    walker_of_sources(alloc, sources.as_slice()).ok()
+}
+
 impl Beside {
     /// The programs of a plant before the first scan. The walker is to be of the plant's sources.
     pub fn new(alloc: Global, plant: &Plant, walker: Walker) -> Result<Beside, AllocError> {
         let scans = TwinScans::new(alloc, plant.logic().copy(alloc)?, walker)?;
         let pool = Pool::new(alloc);
-        Ok(Beside { scans, pool })
+        Ok(Beside {
+            scans,
+            pool,
+            reloads: 0,
+        })
     }
 
     /// Takes a line of the server's input. Where both ways of a scan differ, a line that says so is added.
@@ -76,11 +104,52 @@ impl Beside {
         }
     }
 
-    /// Takes what an engine was served. Where both ways of a scan differ, or the engine shows something else, a line that says so is added.
-    pub fn take(&mut self, alloc: Global, page: &mut Page, engine: &Engine, input: &[u8]) {
-        for line in input.split_inclusive(|byte| *byte == b'\n') {
-            self.take_line(alloc, page, engine.plant(), line);
+    /// Goes on with the plant of an engine that has taken a `reload` line of these sizes, with the bytes behind it.
+    fn reload(
+        &mut self,
+        alloc: Global,
+        page: &mut Page,
+        engine: &Engine,
+        sizes: &TextSizes,
+        body: &[u8],
+    ) {
+        self.reloads = engine.reloads();
+        let Some(walker) = walker_in(alloc, sizes, body) else {
+            return page.refuse();
+        };
+        let Ok(logic) = engine.plant().logic().copy(alloc) else {
+            return page.refuse();
+        };
+        if self.scans.reload(alloc, logic, walker).is_err() {
+            page.refuse();
         }
+    }
+
+    /// Takes the lines of what an engine was served. The bytes behind a `reload` line end with a line.
+    fn take_lines(&mut self, alloc: Global, page: &mut Page, engine: &Engine, input: &[u8]) {
+        let mut at = 0usize;
+        let mut behind = 0usize;
+        for line in input.split_inclusive(|byte| *byte == b'\n') {
+            at = at.saturating_add(line.len());
+            if at <= behind {
+                continue;
+            }
+            match reload_sizes(without_end(line)) {
+                Some(sizes) => {
+                    behind = at.saturating_add(sizes.total());
+                    if self.reloads != engine.reloads() {
+                        self.reload(alloc, page, engine, &sizes, input.get(at..).unwrap_or(b""));
+                    }
+                }
+                None => self.take_line(alloc, page, engine.plant(), line),
+            }
+        }
+    }
+
+    /// Takes what an engine was served, where a reload that it took is the last request. Where both ways of a scan differ, or the engine shows something else,
+    /// a line that says so is added.
+    pub fn take(&mut self, alloc: Global, page: &mut Page, engine: &Engine, input: &[u8]) {
+        self.take_lines(alloc, page, engine, input);
         let (events, moment) = (engine.events(), engine.moment());
         if !self.scans.shows(events, moment, engine.outputs()) {
             page.line("WALK AND SERVER DIFFER");
