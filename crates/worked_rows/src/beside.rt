@@ -146,8 +146,8 @@ impl Beside {
         }
     }
 
-    /// Takes what an engine was served, where a reload that it took is the last request. Where both ways of a scan differ, or the engine shows something else,
-    /// a line that says so is added.
+    /// Takes what an engine was served, where a reload that it took is the first `reload` of the input. Where both ways of a scan differ, or the engine shows
+    /// something else, a line that says so is added.
     pub fn take(&mut self, alloc: Global, page: &mut Page, engine: &Engine, input: &[u8]) {
         self.take_lines(alloc, page, engine, input);
         let (events, moment) = (engine.events(), engine.moment());

@@ -36,7 +36,7 @@
 //!   word.
 //!
 //! Beside the served engine the plant's programs take the same scans and restarts once more, by their codes and as the source is read, each
-//! over cells of its own. A scan after which these cells differ prints `WALK AND CODE DIFFER` and its moment; an input after which the engine
+//! over cells of its own. They take a reload too, where it is the first `reload` of an input, and its bytes end with a line. A scan after which these cells differ prints `WALK AND CODE DIFFER` and its moment; an input after which the engine
 //! has another number of events, another moment or another output than they have prints `WALK AND SERVER DIFFER`. The file `stdout` has no
 //! such line.
 //!
