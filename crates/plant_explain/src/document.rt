@@ -148,6 +148,18 @@ fn line_of(text: &[u8], at: usize) -> Mark {
     (from, len.map_or(text.len(), |len| from.saturating_add(len)))
 }
 
+/// Whether a line of a text begins as a key of the plant's with its `=`: else it is another file, in the place of a plant file.
+fn has_keys(text: &[u8]) -> bool {
+    let mut lines = text.split(|byte| *byte == b'\n');
+    lines.any(|line| {
+        let end = line.iter().position(|byte| *byte == b'=');
+        let key = part(line, 0, end.unwrap_or(0)).trim_ascii();
+        let known = ["name", "epoch", "areas", "sources", "alarms"];
+        let mut known = known.iter();
+        known.any(|known| known.as_bytes() == key)
+    })
+}
+
 /// Why a text is no document; `None` where it is one.
 fn unread_in(alloc: Global, text: &[u8]) -> Result<Option<Unread>, AllocError> {
     match read(alloc, text) {
@@ -236,7 +248,10 @@ impl<'t> Refused<'t> {
             return self.say(FileOf::Plant, Some(mark), ONE_CONSOLE, &[]);
         }
         self.unread_at(mark, message)?;
-        self.in_lines_behind(mark.0, message)
+        if has_keys(plant) {
+            self.in_lines_behind(mark.0, message)?;
+        }
+        Ok(())
     }
 
     /// Tells where the plant file is no TOML document any more, and why.
