@@ -1,7 +1,8 @@
 -- What the server answers to a command, and which events the command adds to the history.
-use Rattle.std.specs.Prelude.{ℕ, ◌+◌, if◌then◌else◌, List, [], ◌∷◌, ◌++◌, length, map, Option, Some, None, Result, Ok, Err, codes}
+use Rattle.std.specs.Prelude.{◌≡◌, ◌⊎◌, ℕ, ◌+◌, if◌then◌else◌, List, [], ◌∷◌, ◌++◌, length, map, Option, Some, None, Result, Ok, Err, codes}
 use Rattle.std.specs.List.{flat_map}
 use Rattle.std.specs.Str.{is_utf8}
+use Rattle.plant_types.specs.Pairs.{PlainPair}
 use Rattle.plant_types.specs.declared.values.Value.{Value}
 use Rattle.plant_types.specs.declared.values.Place.{Place}
 use Rattle.plant_types.specs.declared.values.Trap.{Trap}
@@ -17,12 +18,14 @@ use Rattle.operator_orders.specs.Orders.{order_with}
 use Rattle.event_history.specs.declared.event.Event.{Event}
 use Rattle.plant_system.specs.declared.event.EngineFault.{EngineFault}
 use Rattle.plant_system.specs.Faults.{fault_text}
+use Rattle.plant_system.specs.Reports.{PlainReport}
 use Rattle.operator_orders.specs.declared.order.Order.{Order as OrderMade}
 use Rattle.plant_system.specs.declared.event.Reply.{Reply}
 use Rattle.plant_system.specs.declared.event.Reply.TheVariants as reply
 use Rattle.plant_system.specs.Orders.{is_restart}
 use Rattle.plant_system.specs.System.{System, system, after_event, scan_event, order_event, reply_to, faults_of, changes_of, outs_of}
-use Rattle.command_text.specs.Commands.{PlainCommand, Nothing, Unknown, Scan, Order, Listing, Journal}
+use Rattle.engine.specs.Engines.{PlainEngine}
+use Rattle.command_text.specs.Commands.{PlainCommand, Nothing, Unknown, Scan, Order, Listing, Journal, command_of}
 use Rattle.command_answers.specs.Listings.{list_text, journal_text}
 use Rattle.command_text.specs.Lines.{fault_line, alarm_line, out_line, done_line, reply_line, refused_line}
 
@@ -71,6 +74,10 @@ report_text plant moment faults changes outs =
     fault_lines moment faults ++ alarm_lines plant moment changes ++ out_lines plant moment outs
     ++ done_line moment (length faults + length changes + length outs)
 
+-- the answer to a scan of which a report tells
+abbrev pub report_lines : PlainPlant → PlainReport → List ℕ
+report_lines plant report = report_text plant report.moment (spots_of plant.source report.faults) report.changes report.outs
+
 -- the answer to a scan's event in a state
 abbrev pub scan_text : System → Event → List ℕ
 scan_text sys e = report_text sys.plant (after_event sys e).moment (faults_of sys e) (changes_of sys e) (outs_of sys e)
@@ -90,6 +97,10 @@ abbrev pub event_text : Result Event EngineFault → (Event → List ℕ) → Li
 event_text (Ok e) text = text e
 event_text (Err fault) text = refused_line (fault_text fault)
 
+-- the answer to a scan: that to its event, or REFUSED and the number
+abbrev pub scan_answer : System → List PlainPair → ℕ → List ℕ
+scan_answer sys pairs moment = event_text (scan_event sys pairs moment) (scan_text sys)
+
 -- the answer to an order: its reply with the moment of the last scan and the tag of its alarm, or REFUSED where the history is full
 abbrev pub order_answer : System → ℕ → OrderMade → List ℕ
 order_answer sys console order = event_text (order_event sys console order) (λ _. order_text sys.moment (tag_for sys.plant order) (reply_to sys console order))
@@ -101,12 +112,16 @@ abbrev pub event_added : Result Event EngineFault → List Event
 event_added (Ok e) = e ∷ []
 event_added (Err fault) = []
 
+-- the event that an order for what a word names is, or its refusal
+abbrev pub named_order : System → Verb → ℕ → List ℕ → Result Event EngineFault
+named_order sys verb console word = order_event sys console (order_for sys verb word)
+
 -- the events that a command adds, one or none
 abbrev pub command_events : System → PlainCommand → List Event
 command_events sys Nothing = []
 command_events sys Unknown = []
 command_events sys (Scan moment pairs) = event_added (scan_event sys pairs moment)
-command_events sys (Order verb console word) = event_added (order_event sys console (order_for sys verb word))
+command_events sys (Order verb console word) = event_added (named_order sys verb console word)
 command_events sys Listing = []
 command_events sys Journal = []
 
@@ -114,7 +129,7 @@ command_events sys Journal = []
 abbrev pub command_answer : PlainPlant → List Event → System → PlainCommand → List ℕ
 command_answer plant history sys Nothing = []
 command_answer plant history sys Unknown = refused_line (codes "L1")
-command_answer plant history sys (Scan moment pairs) = event_text (scan_event sys pairs moment) (scan_text sys)
+command_answer plant history sys (Scan moment pairs) = scan_answer sys pairs moment
 command_answer plant history sys (Order verb console word) = order_answer sys console (order_for sys verb word)
 command_answer plant history sys Listing = list_text sys
 command_answer plant history sys Journal = journal_text plant history
@@ -126,3 +141,21 @@ after_command plant history command = history ++ command_events (system plant hi
 -- the answer to a command after a history
 unfoldable pub answer_after : PlainPlant → List Event → PlainCommand → List ℕ
 answer_after plant history command = command_answer plant history (system plant history) command
+
+-- ---- what an engine did
+
+-- an event was added to an engine's history; none where it is refused
+abbrev pub HasAdded : (e₀ e₁ : PlainEngine) → Result Event EngineFault → Type 0
+HasAdded e₀ e₁ event = e₁.history ≡ e₀.history ++ event_added event
+
+-- an event was added, or the history is as before
+abbrev pub MayHaveAdded : (e₀ e₁ : PlainEngine) → Result Event EngineFault → Type 0
+MayHaveAdded e₀ e₁ event = (e₁.history ≡ e₀.history) ⊎ HasAdded e₀ e₁ event
+
+-- the history after what a line asks of an engine
+abbrev pub history_after : PlainEngine → List ℕ → List Event
+history_after engine line = after_command engine.plant engine.history (command_of line)
+
+-- the answer to what a line asks of an engine
+abbrev pub line_answer : PlainEngine → List ℕ → List ℕ
+line_answer engine line = answer_after engine.plant engine.history (command_of line)

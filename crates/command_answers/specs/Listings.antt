@@ -99,6 +99,10 @@ named_line epoch row = row_line (named_text epoch row)
 abbrev pub journal_lines : PlainPlant → List Event → List (List ℕ)
 journal_lines plant history = map (named_line plant.epoch) (journal_of plant history)
 
+-- those lines, one after another
+abbrev pub journal_body : PlainPlant → List Event → List ℕ
+journal_body plant history = text_of (journal_lines plant history)
+
 -- the answer to `journal`
 unfoldable pub journal_text : PlainPlant → List Event → List ℕ
 journal_text plant history = with_end (journal_lines plant history)

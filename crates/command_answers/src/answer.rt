@@ -8,11 +8,10 @@ ghost use Rattle.plant_config.specs.Names.{tag_of, globals_of, global_of, body_p
 ghost use Rattle.plant_logic.specs.Paths.{path_text};
 ghost use Rattle.plant_walk.specs.Runs.{place_spot};
 ghost use Rattle.plant_system.specs.Orders.{is_restart};
-ghost use Rattle.plant_system.specs.System.{system, scan_event, order_event};
-ghost use Rattle.command_answers.specs.Answers.{spots_of, named_by, target_of, tag_for, order_for, order_answer, fault_lines, alarm_lines, out_lines, report_text, order_text, event_text, scan_text, event_added, after_command, answer_after};
+ghost use Rattle.plant_system.specs.System.{system, scan_event};
+ghost use Rattle.command_answers.specs.Answers.{spots_of, named_by, target_of, tag_for, order_for, order_answer, fault_lines, alarm_lines, out_lines, report_lines, order_text, scan_answer, named_order, HasAdded, MayHaveAdded, history_after, line_answer};
 ghost use Rattle.serve_faults.specs.Faults.{is_read, is_write, crew_faults};
 ghost use Rattle.command_answers.specs.Listings.{list_text, journal_text};
-ghost use Rattle.command_text.specs.Commands.{command_of};
 
 use alarm_machine::{Change, Verb};
 use command_text::{
@@ -35,7 +34,8 @@ const PATH: usize = 64;
 
 /// Returns the tag of the alarm that an order is for; `""` for a restart, and for an order that names no alarm.
 fn tag_for(plant: &Plant, order: Order) -> &str
-    requires { is_restart order.verb ≡ false → IfSome order.target (λ alarm. alarm < length plant.now.alarms) }
+    requires { is_restart order.verb ≡ false
+        → IfSome order.target (λ alarm. alarm < length plant.now.alarms) }
     ensures { result.now ≡ tag_for plant.now order }
 {
     match (order.verb, order.target) {
@@ -85,11 +85,12 @@ fn push_alarms(
     put_alarms(text, plant, moment, changes)
 }
 
-/// Writes the path of a place over a text: the names that lead to it, with points between them. Fails if allocation fails.
+/// Writes the path of a place over a text: the names that lead to it, with points between them.
 #[tactic(auto, using(crate::proofs::AnswerLaws::path_is))]
 fn write_path(path: &mut String, plant: &Plant, place: &Place) -> Result<(), AllocError>
     requires { place.now.path < length (body_paths plant.now) }
-    ensures { IfOk result (λ _. string_bytes path.new ≡ path_text (place_spot plant.now.source place.now).path) }
+    ensures { IfOk result (λ _. string_bytes path.new
+        ≡ path_text (place_spot plant.now.source place.now).path) }
 {
     path.clear();
     plant.push_body_path(place.path, path)
@@ -104,7 +105,9 @@ fn push_faults(
     faults: &[(Place, Trap)],
 ) -> Result<(), AllocError>
     requires { All (λ f. f.0.path < length (body_paths plant.now)) faults.now }
-    ensures { (t : ℕ) → moment.now ≡ decimal t → OnOk result (text.new.items ≡ text.old.items ++ fault_lines t (spots_of plant.now.source faults.now)) }
+    ensures { (t : ℕ) → moment.now ≡ decimal t
+        → OnOk result
+        (text.new.items ≡ text.old.items ++ fault_lines t (spots_of plant.now.source faults.now)) }
 {
     if faults.is_empty() {
         return Ok(());
@@ -172,7 +175,7 @@ fn push_report(
     requires faults { All (λ f. f.0.path < length (body_paths plant.now)) report.now.faults }
     requires changes { All (λ c. c.0 < length plant.now.alarms) report.now.changes }
     requires outs { All (λ o. o.0 < length (globals_of plant.now)) report.now.outs }
-    ensures { OnOk result (text.new.items ≡ text.old.items ++ report_text plant.now report.now.moment (spots_of plant.now.source report.now.faults) report.now.changes report.now.outs) }
+    ensures { OnOk result (text.new.items ≡ text.old.items ++ report_lines plant.now report.now) }
 {
     let faults = report.faults.as_slice();
     let changes = report.changes.as_slice();
@@ -186,8 +189,8 @@ fn push_report(
     push_done(text, digits, lines)
 }
 
-/// Does a scan, its programs run by the crew, and appends its answer. It fails where the crew failed, before the scan took effect, and where an
-/// allocation failed, before that or after it.
+/// Does a scan, its programs run by the crew, and appends its answer. It fails where the crew failed, before the scan took effect, and where memory
+/// was refused, before that or after it.
 fn answer_scan<H, C: Crew<Job, Start, Done, H>>(
     rt: &H,
     alloc: Global,
@@ -199,9 +202,12 @@ fn answer_scan<H, C: Crew<Job, Start, Done, H>>(
 ) -> Result<(), ServeFault>
     requires asked { C.asks }
     ensures plant { engine.new.plant ≡ engine.old.plant }
-    ensures history { OnOk result (engine.new.history ≡ engine.old.history ++ event_added (scan_event (state_of engine.old) pairs.now moment)) }
-    ensures text { OnOk result (text.new.items ≡ text.old.items ++ event_text (scan_event (state_of engine.old) pairs.now moment) (scan_text (state_of engine.old))) }
-    ensures err { OnErr result ((engine.new.history ≡ engine.old.history) ⊎ (engine.new.history ≡ engine.old.history ++ event_added (scan_event (state_of engine.old) pairs.now moment))) }
+    ensures history { OnOk result
+        (HasAdded engine.old engine.new (scan_event (state_of engine.old) pairs.now moment)) }
+    ensures text { OnOk result
+        (text.new.items ≡ text.old.items ++ scan_answer (state_of engine.old) pairs.now moment) }
+    ensures err { OnErr result
+        (MayHaveAdded engine.old engine.new (scan_event (state_of engine.old) pairs.now moment)) }
     ensures read { is_read result ≡ false }
     ensures write { is_write result ≡ false }
     ensures crew { C.faulted crew.new ≡ crew_faults (C.faulted crew.old) result }
@@ -260,11 +266,11 @@ fn push_order(text: &mut Vec<u8>, moment: u64, tag: &str, reply: Reply) -> Resul
 /// A law, which does nothing: an order leaves the plant as it is.
 fn order_keeps_plant()
     ensures { (plant : PlainPlant) (history : List Event) (console : ℕ) (order : OrderMade)
-        → (system plant (history ++ event.Order console order ∷ [])).plant ≡ (system plant history).plant }
+        → (system plant (history ++ event.Order console order ∷ [])).plant
+        ≡ (system plant history).plant }
 {}
 
-/// Does an order for what a word names, and appends its answer. It fails where an allocation failed: before the order took effect or
-/// after it.
+/// Does an order for what a word names, and appends its answer. It fails where memory was refused: before the order took effect or after it.
 fn answer_order(
     alloc: Global,
     engine: &mut Engine,
@@ -274,10 +280,14 @@ fn answer_order(
     word: &[u8],
 ) -> Result<(), AllocError>
     ensures plant { engine.new.plant ≡ engine.old.plant }
-    ensures history { OnOk result (engine.new.history ≡ engine.old.history ++ event_added (order_event (state_of engine.old) console (order_for (state_of engine.old) verb word.now))) }
-    ensures text { OnOk result (text.new.items ≡ text.old.items ++ order_answer (state_of engine.old) console (order_for (state_of engine.old) verb word.now)) }
-    ensures err { OnErr result ((engine.new.history ≡ engine.old.history)
-        ⊎ (engine.new.history ≡ engine.old.history ++ event_added (order_event (state_of engine.old) console (order_for (state_of engine.old) verb word.now)))) }
+    ensures history { OnOk result
+        (HasAdded engine.old engine.new (named_order (state_of engine.old) verb console word.now)) }
+    ensures text { OnOk result
+        (text.new.items
+        ≡ text.old.items
+        ++ order_answer (state_of engine.old) console (order_for (state_of engine.old) verb word.now)) }
+    ensures err { OnErr result
+        (MayHaveAdded engine.old engine.new (named_order (state_of engine.old) verb console word.now)) }
 {
     order_keeps_plant();
     let last = engine.moment();
@@ -302,9 +312,8 @@ pub enum Said {
     Journal,
 }
 
-/// Does what a line asks for, with the pool as room for its pairs, and appends its answer; the list and the journal are left to the
-/// caller, who writes them as they are made. It fails where the crew failed, before the line took effect, and where an allocation failed, before
-/// that or after it.
+/// Does what a line asks for, with the pool as room for its pairs, and appends its answer; the list and the journal are left to the caller, who
+/// writes them as they are made. It fails where the crew failed, before the line took effect, and where memory was refused, before that or after it.
 #[tactic(auto, unfolding(crate::specs::Answers::after_command, crate::specs::Answers::answer_after))]
 pub fn answer_line<H, C: Crew<Job, Start, Done, H>>(
     rt: &H,
@@ -317,13 +326,20 @@ pub fn answer_line<H, C: Crew<Job, Start, Done, H>>(
 ) -> Result<Said, ServeFault>
     requires asked { C.asks }
     ensures plant { engine.new.plant ≡ engine.old.plant }
-    ensures history { OnOk result (engine.new.history ≡ after_command engine.old.plant engine.old.history (command_of line.now)) }
-    ensures text { IfOk result (λ said. said ≡ Said.Text → text.new.items ≡ text.old.items ++ answer_after engine.old.plant engine.old.history (command_of line.now)) }
-    ensures list { IfOk result (λ said. said ≡ Said.List → answer_after engine.old.plant engine.old.history (command_of line.now) ≡ list_text (state_of engine.old)) }
-    ensures list_kept { IfOk result (λ said. said ≡ Said.List → engine.new.history ≡ engine.old.history) }
-    ensures journal { IfOk result (λ said. said ≡ Said.Journal → answer_after engine.old.plant engine.old.history (command_of line.now) ≡ journal_text engine.old.plant engine.old.history) }
-    ensures journal_kept { IfOk result (λ said. said ≡ Said.Journal → engine.new.history ≡ engine.old.history) }
-    ensures err { OnErr result ((engine.new.history ≡ engine.old.history) ⊎ (engine.new.history ≡ after_command engine.old.plant engine.old.history (command_of line.now))) }
+    ensures history { OnOk result (engine.new.history ≡ history_after engine.old line.now) }
+    ensures text { IfOk result (λ said. said ≡ Said.Text
+        → text.new.items ≡ text.old.items ++ line_answer engine.old line.now) }
+    ensures list { IfOk result (λ said. said ≡ Said.List
+        → line_answer engine.old line.now ≡ list_text (state_of engine.old)) }
+    ensures list_kept { IfOk result (λ said. said ≡ Said.List
+        → engine.new.history ≡ engine.old.history) }
+    ensures journal { IfOk result (λ said. said ≡ Said.Journal
+        → line_answer engine.old line.now ≡ journal_text engine.old.plant engine.old.history) }
+    ensures journal_kept { IfOk result (λ said. said ≡ Said.Journal
+        → engine.new.history ≡ engine.old.history) }
+    ensures err { OnErr result
+        ((engine.new.history ≡ engine.old.history)
+        ⊎ (engine.new.history ≡ history_after engine.old line.now)) }
     ensures read { is_read result ≡ false }
     ensures write { is_write result ≡ false }
     ensures crew { C.faulted crew.new ≡ crew_faults (C.faulted crew.old) result }

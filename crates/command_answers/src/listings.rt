@@ -18,7 +18,8 @@ use std::alloc::{AllocError, Global};
 #[tactic(auto, unfolding(crate::specs::Listings::state_lines_of))]
 pub(crate) fn push_shown(text: &mut Vec<u8>, engine: &Engine, alarm: u32) -> Result<u64, AllocError>
     requires { alarm < length (state_of engine.now).plant.alarms }
-    ensures listed { IfOk result (λ n. HasListed text.old.items text.new.items n (state_lines_of (state_of engine.now) alarm)) }
+    ensures listed { IfOk result (λ n. HasListed text.old.items text.new.items n
+        (state_lines_of (state_of engine.now) alarm)) }
     ensures few { IfOk result (λ n. n ≤ 1) }
 {
     let plant = engine.plant();
@@ -41,7 +42,8 @@ fn push_code(
     code: Code,
 ) -> Result<u64, AllocError>
     requires { area < length plant.now.areas }
-    ensures listed { IfOk result (λ n. HasListed text.old.items text.new.items n (code_lines plant.now summary.now area priority code)) }
+    ensures listed { IfOk result (λ n. HasListed text.old.items text.new.items n
+        (code_lines plant.now summary.now area priority code)) }
     ensures few { IfOk result (λ n. n ≤ 1) }
 {
     let count = summary.count(area, priority, code);
@@ -64,7 +66,8 @@ fn push_codes(
 ) -> Result<u64, AllocError>
     requires area { area < length plant.now.areas }
     requires few { length codes.now ≤ 9 }
-    ensures listed { IfOk result (λ n. HasListed text.old.items text.new.items n (flat_map (code_lines plant.now summary.now area priority) codes.now)) }
+    ensures listed { IfOk result (λ n. HasListed text.old.items text.new.items n
+        (flat_map (code_lines plant.now summary.now area priority) codes.now)) }
     ensures few { IfOk result (λ n. n ≤ 9) }
 {
     let mut lines: u64 = 0;
@@ -84,7 +87,8 @@ fn push_priority(
     priority: u32,
 ) -> Result<u64, AllocError>
     requires { area < length plant.now.areas }
-    ensures listed { IfOk result (λ n. HasListed text.old.items text.new.items n (priority_lines plant.now summary.now area priority)) }
+    ensures listed { IfOk result (λ n. HasListed text.old.items text.new.items n
+        (priority_lines plant.now summary.now area priority)) }
     ensures few { IfOk result (λ n. n ≤ 9) }
 {
     let codes = [
@@ -112,7 +116,8 @@ fn push_priorities(
 ) -> Result<u64, AllocError>
     requires area { area < length plant.now.areas }
     requires few { length priorities.now ≤ 4 }
-    ensures listed { IfOk result (λ n. HasListed text.old.items text.new.items n (flat_map (priority_lines plant.now summary.now area) priorities.now)) }
+    ensures listed { IfOk result (λ n. HasListed text.old.items text.new.items n
+        (flat_map (priority_lines plant.now summary.now area) priorities.now)) }
     ensures few { IfOk result (λ n. n ≤ 36) }
 {
     let mut lines: u64 = 0;
@@ -131,7 +136,8 @@ pub(crate) fn push_area(
     area: u32,
 ) -> Result<u64, AllocError>
     requires { area < length plant.now.areas }
-    ensures listed { IfOk result (λ n. HasListed text.old.items text.new.items n (area_lines plant.now summary.now area)) }
+    ensures listed { IfOk result (λ n. HasListed text.old.items text.new.items n
+        (area_lines plant.now summary.now area)) }
     ensures few { IfOk result (λ n. n ≤ 36) }
 {
     push_priorities(text, plant, summary, area, &[1, 2, 3, 4])
@@ -144,7 +150,7 @@ pub(crate) fn row_total(engine: &Engine) -> u64
     engine.journal().len()
 }
 
-/// Appends the line of the journal's row of a number, from 1. Fails if allocation fails.
+/// Appends the line of the journal's row of a number, from 1.
 #[tactic(auto, using(crate::proofs::ListingLaws::row_there))]
 pub(crate) fn push_numbered(
     alloc: Global,
@@ -154,7 +160,8 @@ pub(crate) fn push_numbered(
 ) -> Result<(), AllocError>
     requires first { 1 ≤ number }
     requires last { number ≤ length (journal_of engine.now.plant engine.now.history) }
-    ensures { OnOk result (HasRow engine.now.plant engine.now.history number text.old.items text.new.items) }
+    ensures { OnOk result
+        (HasRow engine.now.plant engine.now.history number text.old.items text.new.items) }
 {
     let line = engine.line(alloc, number)?;
     push_row(text, line.as_str())

@@ -7,7 +7,7 @@ ghost use Rattle.engine.specs.Engines.{state_of};
 ghost use Rattle.engine.specs.Journal.{journal_of};
 ghost use Rattle.serve_faults.specs.Begun.{IsBegun};
 ghost use Rattle.serve_faults.specs.Faults.{is_crew, is_read, is_write};
-ghost use Rattle.command_answers.specs.Listings.{text_of, half_total, half_lines_of, half_lines, list_text, journal_lines, journal_text, HasListed, IsPassed, HasPassed};
+ghost use Rattle.command_answers.specs.Listings.{text_of, half_total, half_lines_of, half_lines, list_text, journal_body, journal_text, HasListed, IsPassed, HasPassed};
 
 use crate::listings::{push_area, push_numbered, push_shown, row_total};
 use byte_streams::Sink;
@@ -20,9 +20,10 @@ use std::alloc::{AllocError, Global};
 /// How many bytes of an answer are held before they are written.
 const FULL: usize = 65_536;
 
-/// Writes what is held of an answer where it is much, and holds it no longer. Fails only if a write fails.
+/// Writes what is held of an answer where it is much, and holds it no longer. Fails only if a write failed.
 fn spill<S: Sink>(sink: &mut S, text: &mut Vec<u8>) -> Result<(), ServeFault>
-    ensures ok { OnOk result (IsPassed (S.written sink.old) (S.written sink.new) text.old.items text.new.items) }
+    ensures ok { OnOk result
+        (IsPassed (S.written sink.old) (S.written sink.new) text.old.items text.new.items) }
     ensures held { OnOk result (length text.new.items < 65536) }
     ensures err { OnErr result (IsBegun (S.written sink.old) (S.written sink.new) text.old.items) }
     ensures read { is_read result ≡ false }
@@ -37,10 +38,12 @@ fn spill<S: Sink>(sink: &mut S, text: &mut Vec<u8>) -> Result<(), ServeFault>
     Ok(())
 }
 
-/// Writes what is held of an answer, and after it the END line for so many lines. Fails if allocation or a write fails.
+/// Writes what is held of an answer, and after it the END line for so many lines. Fails if memory was refused or a write failed.
 fn write_end<S: Sink>(sink: &mut S, text: &mut Vec<u8>, lines: u64) -> Result<(), ServeFault>
-    ensures ok { OnOk result (Appends (S.written sink.old) (S.written sink.new) (text.old.items ++ end_line lines)) }
-    ensures err { OnErr result (IsBegun (S.written sink.old) (S.written sink.new) (text.old.items ++ end_line lines)) }
+    ensures ok { OnOk result
+        (Appends (S.written sink.old) (S.written sink.new) (text.old.items ++ end_line lines)) }
+    ensures err { OnErr result
+        (IsBegun (S.written sink.old) (S.written sink.new) (text.old.items ++ end_line lines)) }
     ensures read { is_read result ≡ false }
     ensures crew { is_crew result ≡ false }
     ensures write { S.broken sink.new ≡ (S.broken sink.old || is_write result) }
@@ -72,7 +75,8 @@ impl Half {
     /// Appends the lines that it has for a number, and returns how many there are.
     fn push(self, text: &mut Vec<u8>, engine: &Engine, number: u32) -> Result<u64, AllocError>
         requires { number < half_total (state_of engine.now).plant self }
-        ensures listed { IfOk result (λ n. HasListed text.old.items text.new.items n (half_lines_of (state_of engine.now) self number)) }
+        ensures listed { IfOk result (λ n. HasListed text.old.items text.new.items n
+            (half_lines_of (state_of engine.now) self number)) }
         ensures few { IfOk result (λ n. n ≤ 36) }
     {
         match self {
@@ -89,10 +93,13 @@ fn write_half<S: Sink>(
     text: &mut Vec<u8>,
     half: Half,
 ) -> Result<u64, ServeFault>
-    ensures ok { IfOk result (λ n. HasPassed (S.written sink.old) (S.written sink.new) text.old.items text.new.items n (half_lines (state_of engine.now) half)) }
+    ensures ok { IfOk result (λ n. HasPassed (S.written sink.old) (S.written sink.new) text.old.items
+        text.new.items n (half_lines (state_of engine.now) half)) }
     ensures few { IfOk result (λ n. n < 2 ^ 40) }
     ensures held { OnOk result (length text.old.items < 65536 → length text.new.items < 65536) }
-    ensures err { OnErr result (IsBegun (S.written sink.old) (S.written sink.new) (text.old.items ++ text_of (half_lines (state_of engine.now) half))) }
+    ensures err { OnErr result
+        (IsBegun (S.written sink.old) (S.written sink.new)
+        (text.old.items ++ text_of (half_lines (state_of engine.now) half))) }
     ensures read { is_read result ≡ false }
     ensures crew { is_crew result ≡ false }
     ensures write { S.broken sink.new ≡ (S.broken sink.old || is_write result) }
@@ -105,14 +112,16 @@ fn write_half<S: Sink>(
     Ok(lines)
 }
 
-/// Writes the answer to `list`, with room for what is held of it. Fails if allocation or a write fails.
+/// Writes the answer to `list`, with room for what is held of it. Fails if memory was refused or a write failed.
 pub fn write_list<S: Sink>(
     engine: &Engine,
     sink: &mut S,
     text: &mut Vec<u8>,
 ) -> Result<(), ServeFault>
-    ensures ok { OnOk result (Appends (S.written sink.old) (S.written sink.new) (list_text (state_of engine.now))) }
-    ensures err { OnErr result (IsBegun (S.written sink.old) (S.written sink.new) (list_text (state_of engine.now))) }
+    ensures ok { OnOk result
+        (Appends (S.written sink.old) (S.written sink.new) (list_text (state_of engine.now))) }
+    ensures err { OnErr result
+        (IsBegun (S.written sink.old) (S.written sink.new) (list_text (state_of engine.now))) }
     ensures read { is_read result ≡ false }
     ensures crew { is_crew result ≡ false }
     ensures write { S.broken sink.new ≡ (S.broken sink.old || is_write result) }
@@ -132,9 +141,13 @@ fn write_rows<S: Sink>(
     rows: u64,
 ) -> Result<(), ServeFault>
     requires { rows ≡ length (journal_of engine.now.plant engine.now.history) }
-    ensures ok { OnOk result (IsPassed (S.written sink.old) (S.written sink.new) (text.old.items ++ text_of (journal_lines engine.now.plant engine.now.history)) text.new.items) }
+    ensures ok { OnOk result
+        (IsPassed (S.written sink.old) (S.written sink.new)
+        (text.old.items ++ journal_body engine.now.plant engine.now.history) text.new.items) }
     ensures held { OnOk result (length text.old.items < 65536 → length text.new.items < 65536) }
-    ensures err { OnErr result (IsBegun (S.written sink.old) (S.written sink.new) (text.old.items ++ text_of (journal_lines engine.now.plant engine.now.history))) }
+    ensures err { OnErr result
+        (IsBegun (S.written sink.old) (S.written sink.new)
+        (text.old.items ++ journal_body engine.now.plant engine.now.history)) }
     ensures read { is_read result ≡ false }
     ensures crew { is_crew result ≡ false }
     ensures write { S.broken sink.new ≡ (S.broken sink.old || is_write result) }
@@ -146,15 +159,19 @@ fn write_rows<S: Sink>(
     Ok(())
 }
 
-/// Writes the answer to `journal`, with room for what is held of it. Fails if allocation or a write fails.
+/// Writes the answer to `journal`, with room for what is held of it. Fails if memory was refused or a write failed.
 pub fn write_journal<S: Sink>(
     alloc: Global,
     engine: &Engine,
     sink: &mut S,
     text: &mut Vec<u8>,
 ) -> Result<(), ServeFault>
-    ensures ok { OnOk result (Appends (S.written sink.old) (S.written sink.new) (journal_text engine.now.plant engine.now.history)) }
-    ensures err { OnErr result (IsBegun (S.written sink.old) (S.written sink.new) (journal_text engine.now.plant engine.now.history)) }
+    ensures ok { OnOk result
+        (Appends (S.written sink.old) (S.written sink.new)
+        (journal_text engine.now.plant engine.now.history)) }
+    ensures err { OnErr result
+        (IsBegun (S.written sink.old) (S.written sink.new)
+        (journal_text engine.now.plant engine.now.history)) }
     ensures read { is_read result ≡ false }
     ensures crew { is_crew result ≡ false }
     ensures write { S.broken sink.new ≡ (S.broken sink.old || is_write result) }
