@@ -11,7 +11,7 @@ use Rattle.requests.specs.Requests.{ended_requests}
 use Rattle.serving.specs.Session.{Answered, StoppedBy}
 use Rattle.plant_service.specs.Admits.{IsTold}
 use Rattle.plant_service.proofs.AdmitLaws.{IsQuiet}
-use Rattle.plant_service.specs.Services.{IsServed, IsStopped, IsRun}
+use Rattle.plant_service.specs.Services.{Moved, IsServed, IsStopped, IsRun}
 use Rattle.serving.proofs.SessionLaws.{answered-more, stopped-more}
 
 -- nothing was asked, and nothing written
@@ -26,9 +26,12 @@ stopped-after fault.Write plant remaining input history w₀ w w₁ none s = (s.
 stopped-after fault.Memory plant remaining input history w₀ w w₁ none s = (s.0, s.1, stopped-more plant [] s.0 [] [] history w₀ w w₁ (answered-nothing plant w₀ w none) s.2)
 stopped-after fault.Crew plant remaining input history w₀ w w₁ none s = (s.0, s.1, stopped-more plant [] s.0 [] [] history w₀ w w₁ (answered-nothing plant w₀ w none) s.2)
 
+abbrev between : (r₀ r₁ w₀ w₁ : Option (List ℕ)) → Moved
+between r₀ r₁ w₀ w₁ = record { unread = r₀; left = r₁; before = w₀; after = w₁ }
+
 module _ (verdict : Option PlainPlant → List ℕ → Type 0) (quiet : IsQuiet verdict) (plant : PlainPlant) (r₀ r₁ w₀ w w₁ : Option (List ℕ)) (told : IsTold verdict w₀ w (Ok (Some plant))) where
   -- the plant was told of, and its session served
-  pub run-served : IsServed plant r₀ r₁ w w₁ → IsRun verdict r₀ r₁ w₀ w₁ (Ok run_end.Served)
+  pub run-served : IsServed plant (between r₀ r₁ w w₁) → IsRun verdict (between r₀ r₁ w₀ w₁) (Ok run_end.Served)
   run-served s =
       let bare = quiet plant told.0 told.1 in (
         plant,
@@ -46,7 +49,7 @@ module _ (verdict : Option PlainPlant → List ℕ → Type 0) (quiet : IsQuiet 
       )
 
   -- the plant was told of, and a fault stopped its session
-  pub run-stopped : (e : ServeFault) → IsStopped e plant r₀ r₁ w w₁ → IsRun verdict r₀ r₁ w₀ w₁ (Err e)
+  pub run-stopped : (e : ServeFault) → IsStopped e plant (between r₀ r₁ w w₁) → IsRun verdict (between r₀ r₁ w₀ w₁) (Err e)
   run-stopped e s =
       let bare = quiet plant told.0 told.1 in
       inr (

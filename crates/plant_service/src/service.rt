@@ -3,7 +3,7 @@
 ghost use Rattle.std.specs.Prelude.{◌≡◌, false, OnOk, IfErr};
 ghost use Rattle.plant_folder.specs.Verdicts.{IsVerdict, IsFilesVerdict};
 ghost use Rattle.serve_faults.specs.Faults.{is_read, is_write, crew_faults};
-ghost use Rattle.plant_service.specs.Services.{IsServed, IsStopped, IsRun};
+ghost use Rattle.plant_service.specs.Services.{moved, IsServed, IsStopped, IsRun};
 
 use crate::verdict::{admit, admit_from};
 use byte_streams::{Feed, Sink};
@@ -50,8 +50,8 @@ fn serve_plant<
     requires asked { C.asks }
     requires feed { F.broken ends.old.feed ≡ false }
     requires sink { S.broken ends.old.sink ≡ false }
-    ensures ok { OnOk result (IsServed plant (F.remaining ends.old.feed) (F.remaining ends.new.feed) (S.written ends.old.sink) (S.written ends.new.sink)) }
-    ensures err { IfErr result (λ e. IsStopped e plant (F.remaining ends.old.feed) (F.remaining ends.new.feed) (S.written ends.old.sink) (S.written ends.new.sink)) }
+    ensures ok { OnOk result (IsServed plant (moved F.remaining S.written ends.old ends.new)) }
+    ensures err { IfErr result (λ e. IsStopped e plant (moved F.remaining S.written ends.old ends.new)) }
     ensures read { F.broken ends.new.feed ≡ is_read result }
     ensures write { S.broken ends.new.sink ≡ is_write result }
     ensures crew { C.faulted crew.new ≡ crew_faults (C.faulted crew.old) result }
@@ -80,7 +80,7 @@ fn serve_plant<
 /// that is written.
 ///
 /// After `Served` what was written is exactly the text that belongs to the plant and to the bytes that were read, whatever the crew, and after
-/// `Refused` exactly the line of the refusal. Returns `Memory` only where an allocation failed, and `Read`, `Write` and `Crew` only where the
+/// `Refused` exactly the line of the refusal. Returns `Memory` only where memory was refused, and `Read`, `Write` and `Crew` only where the
 /// feed, the sink or the crew failed in this call. After an error either nothing was read and at most a part of the line was written, or the session came as
 /// far as `serve` says. It returns only where `serve` does.
 pub fn run<H: Threads + Wait + Sync, C: Crew<Job, Start, Done, H>, F: Feed, S: Sink, L: Listener>(
@@ -93,7 +93,8 @@ pub fn run<H: Threads + Wait + Sync, C: Crew<Job, Start, Done, H>, F: Feed, S: S
     requires asked { C.asks }
     requires feed { F.broken ends.old.feed ≡ false }
     requires sink { S.broken ends.old.sink ≡ false }
-    ensures run { IsRun (IsVerdict texts.now false) (F.remaining ends.old.feed) (F.remaining ends.new.feed) (S.written ends.old.sink) (S.written ends.new.sink) result }
+    ensures run { IsRun (IsVerdict texts.now false)
+        (moved F.remaining S.written ends.old ends.new) result }
     ensures read { F.broken ends.new.feed ≡ is_read result }
     ensures write { S.broken ends.new.sink ≡ is_write result }
     ensures crew { C.faulted crew.new ≡ crew_faults (C.faulted crew.old) result }
@@ -127,8 +128,8 @@ pub fn run_from<
     requires asked { C.asks }
     requires feed { F.broken ends.old.feed ≡ false }
     requires sink { S.broken ends.old.sink ≡ false }
-    ensures run { IsRun (IsFilesVerdict (D.finds files.now.folder.now) files.now.path.now false) (F.remaining ends.old.feed) (F.remaining ends.new.feed)
-        (S.written ends.old.sink) (S.written ends.new.sink) result }
+    ensures run { IsRun (IsFilesVerdict (D.finds files.now.folder.now) files.now.path.now false)
+        (moved F.remaining S.written ends.old ends.new) result }
     ensures read { F.broken ends.new.feed ≡ is_read result }
     ensures write { S.broken ends.new.sink ≡ is_write result }
     ensures crew { C.faulted crew.new ≡ crew_faults (C.faulted crew.old) result }

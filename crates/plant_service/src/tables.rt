@@ -27,7 +27,7 @@ fn level_of(plant: &Plant, levelled: &Levelled, program: u32) -> u32
     levelled.levels().of(program)
 }
 
-/// Adds the programs in the order in which they run, each with its cost and its level. Fails if allocation fails.
+/// Adds the programs in the order in which they run, each with its cost and its level.
 fn push_programs(
     alloc: Global,
     text: &mut String,
@@ -85,7 +85,7 @@ fn longest_in(plant: &Plant, area: u32) -> u64 {
     u64::from(longest)
 }
 
-/// Adds how many alarms of an area have an on-delay, and the longest of these. Fails if allocation fails.
+/// Adds how many alarms of an area have an on-delay, and the longest of these.
 fn push_delays(
     alloc: Global,
     text: &mut String,
@@ -96,8 +96,8 @@ fn push_delays(
     push_number(alloc, text, longest_in(plant, area), DELAYS)
 }
 
-/// Adds the areas in the order of the plant file, each with how many alarms it has; where an alarm of the plant has an on-delay, also with how many of them
-/// have one, and the longest. Fails if allocation fails.
+/// Adds the areas in the order of the plant file, each with how many alarms it has; where an alarm of the plant has an on-delay, also with how many
+/// of them have one, and the longest.
 fn push_areas(
     alloc: Global,
     text: &mut String,
@@ -123,7 +123,7 @@ fn push_areas(
     Ok(())
 }
 
-/// Adds the names of areas, each after a blank; `(none)` where there are none. Fails if allocation fails.
+/// Adds the names of areas, each after a blank; `(none)` where there are none.
 fn push_names(text: &mut String, plant: &Plant, areas: &[usize]) -> Result<(), AllocError>
     requires few { length plant.now.areas ≤ 64 }
     requires there { All (λ area. area < length plant.now.areas) areas.now }
@@ -138,7 +138,7 @@ fn push_names(text: &mut String, plant: &Plant, areas: &[usize]) -> Result<(), A
     Ok(())
 }
 
-/// Adds the consoles in the order of the plant file, each with the areas of whose alarms it gives orders. Fails if allocation fails.
+/// Adds the consoles in the order of the plant file, each with the areas of whose alarms it gives orders.
 fn push_consoles(
     alloc: Global,
     text: &mut String,
@@ -157,7 +157,7 @@ fn push_consoles(
     Ok(())
 }
 
-/// The tables of a plant with these levels. Fails if allocation fails.
+/// The tables of a plant with these levels.
 fn tables(alloc: Global, plant: &Plant, levelled: &Levelled) -> Result<String, AllocError>
     requires { AreLevelsOf plant.now.source levelled.now }
 {
@@ -171,8 +171,9 @@ fn tables(alloc: Global, plant: &Plant, levelled: &Levelled) -> Result<String, A
     Ok(text)
 }
 
-/// What there is in a plant, in three tables: each program with its cost and its level, in the order in which they run; each area with how many alarms it
-/// has, and with their on-delays where the plant has one, and each console with its areas, in the order of the plant file. It takes time in proportion to the plant. Fails if allocation fails.
+/// What there is in a plant, in three tables: each program with its cost and its level, in the order in which they run; each area with how many
+/// alarms it has, and with their on-delays where the plant has one, and each console with its areas, in the order of the plant file. It takes time in
+/// proportion to the plant.
 pub fn listing(alloc: Global, plant: &Plant) -> Result<String, AllocError> {
     let levelled = Levelled::of(alloc, plant.logic())?;
     let told = tables(alloc, plant, &levelled);

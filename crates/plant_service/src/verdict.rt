@@ -21,7 +21,8 @@ fn told<S: Sink>(
     line: &str,
 ) -> Result<Option<Plant>, ServeFault>
     requires { S.broken sink.old ≡ false }
-    ensures told { IsTold (λ answer due. (answer ≡ plant) × (due ≡ line.now)) (S.written sink.old) (S.written sink.new) result }
+    ensures told { IsTold (λ answer due. (answer ≡ plant) × (due ≡ line.now))
+        (S.written sink.old) (S.written sink.new) result }
     ensures write { S.broken sink.new ≡ is_write result }
 {
     match put_all(sink, line.as_bytes()) {
@@ -36,7 +37,7 @@ fn told<S: Sink>(
 /// Reads a plant from its texts, and writes what there is to say of it: the line of the refusal, and then there is no plant; nothing where it is
 /// accepted. A listener hears of either before.
 ///
-/// Returns `Memory` only where an allocation failed, and then nothing is written; and `Write` only where the sink failed in this call.
+/// Returns `Memory` only where memory was refused, and then nothing is written; and `Write` only where the sink failed in this call.
 #[tactic(auto, using(crate::proofs::AdmitLaws::told_of))]
 pub fn admit<H: Threads + Sync, L: Listener, S: Sink>(
     rt: &H,
@@ -58,7 +59,7 @@ pub fn admit<H: Threads + Sync, L: Listener, S: Sink>(
 /// Reads a plant from its files, the plant file and those that it names, and writes what there is to say of it, as `admit` does. Of a file that can't
 /// be read, or has more than 16,777,217 bytes, it writes the name.
 ///
-/// Returns `Memory` only where an allocation failed, and then nothing is written; and `Write` only where the sink failed in this call.
+/// Returns `Memory` only where memory was refused, and then nothing is written; and `Write` only where the sink failed in this call.
 pub fn admit_from<H: Threads + Sync, F: Folder, L: Listener, S: Sink>(
     rt: &H,
     alloc: Global,
@@ -67,7 +68,8 @@ pub fn admit_from<H: Threads + Sync, F: Folder, L: Listener, S: Sink>(
     sink: &mut S,
 ) -> Result<Option<Plant>, ServeFault>
     requires { S.broken sink.old ≡ false }
-    ensures told { IsTold (IsFilesVerdict (F.finds files.now.folder.now) files.now.path.now false) (S.written sink.old) (S.written sink.new) result }
+    ensures told { IsTold (IsFilesVerdict (F.finds files.now.folder.now) files.now.path.now false)
+        (S.written sink.old) (S.written sink.new) result }
     ensures write { S.broken sink.new ≡ is_write result }
 {
     match files_verdict(rt, alloc, files, listener) {
@@ -76,7 +78,7 @@ pub fn admit_from<H: Threads + Sync, F: Folder, L: Listener, S: Sink>(
     }
 }
 
-/// Writes the line for an accepted plant. Returns `Memory` only where an allocation failed, and then nothing is written.
+/// Writes the line for an accepted plant. Returns `Memory` only where memory was refused, and then nothing is written.
 fn told_accepted<S: Sink>(alloc: Global, plant: &Plant, sink: &mut S) -> Result<(), ServeFault>
     requires { S.broken sink.old ≡ false }
     ensures told { IsWritten (accepted_line plant.now) (S.written sink.old) (S.written sink.new) result }
@@ -90,7 +92,7 @@ fn told_accepted<S: Sink>(alloc: Global, plant: &Plant, sink: &mut S) -> Result<
 
 /// Tells whether a plant is accepted, from its files: it writes what `admit_from` writes, and the line for an accepted plant; it keeps no plant.
 ///
-/// Returns `Memory` only where an allocation failed, and then nothing is written; and `Write` only where the sink failed in this call.
+/// Returns `Memory` only where memory was refused, and then nothing is written; and `Write` only where the sink failed in this call.
 pub fn check_from<H: Threads + Sync, F: Folder, L: Listener, S: Sink>(
     rt: &H,
     alloc: Global,
@@ -99,7 +101,8 @@ pub fn check_from<H: Threads + Sync, F: Folder, L: Listener, S: Sink>(
     sink: &mut S,
 ) -> Result<bool, ServeFault>
     requires { S.broken sink.old ≡ false }
-    ensures told { IsChecked (F.finds files.now.folder.now) files.now.path.now (S.written sink.old) (S.written sink.new) result }
+    ensures told { IsChecked (F.finds files.now.folder.now) files.now.path.now
+        (S.written sink.old) (S.written sink.new) result }
     ensures write { S.broken sink.new ≡ is_write result }
 {
     match admit_from(rt, alloc, files, listener, sink) {
