@@ -1,8 +1,9 @@
 -- What requests may be answered, one after another, and which history they leave: a relation, since of a plant that is refused by C5 the place is left open, and nothing else is.
-use Rattle.std.specs.Prelude.{◌≡◌, ℕ, List, [], ◌∷◌, ◌++◌, Option, Some, None}
+use Rattle.std.specs.Prelude.{◌≡◌, ◌⊎◌, ℕ, List, [], ◌∷◌, ◌++◌, Option, Some, None}
 use Rattle.plant_config.specs.Plants.{PlainPlant}
 use Rattle.event_history.specs.declared.event.Event.{Event}
 use Rattle.plant_system.specs.System.{system}
+use Rattle.engine.specs.Engines.{PlainEngine}
 use Rattle.command_text.specs.Commands.{PlainCommand, command_of}
 use Rattle.command_text.specs.Reloads.{PlainSizes, reload_sizes}
 use Rattle.command_answers.specs.Answers.{after_command, answer_after}
@@ -19,7 +20,15 @@ pub record IsReload (plant : PlainPlant) (history : List Event) (sizes : PlainSi
   pub after_is : after ≡ history ++ events
   pub answer : IsReloadAnswer (system plant history) sizes body events text
 
--- the same, by the sizes that the request's line gives, if it gives any
+-- an engine did a reload with a body, and this is its answer
+abbrev pub HasReloadedBody : PlainSizes → (body : List ℕ) → (e₀ e₁ : PlainEngine) → List ℕ → Type 0
+HasReloadedBody sizes body e₀ e₁ text = IsReload e₀.plant e₀.history sizes body e₁.history text
+
+-- nothing of it took effect, or all but the answer
+abbrev pub MayHaveReloadedBody : PlainSizes → (body : List ℕ) → (e₀ e₁ : PlainEngine) → Type 0
+MayHaveReloadedBody sizes body e₀ e₁ = (e₁.history ≡ e₀.history) ⊎ ((text : List ℕ) × HasReloadedBody sizes body e₀ e₁ text)
+
+-- what a request may be answered and which history it leaves, by the sizes that its line gives, if it gives any
 abbrev pub IsAnswerBy : Option PlainSizes → PlainPlant → List Event → Request → List Event → List ℕ → Type 0
 IsAnswerBy None plant history request after text = (after ≡ after_command plant history (asked_by request)) × (text ≡ answer_after plant history (asked_by request))
 IsAnswerBy (Some sizes) plant history request after text = IsReload plant history sizes request.body after text

@@ -1,7 +1,7 @@
 -- How far a session has come.
-use Rattle.std.specs.Prelude.{◌≡◌, ℕ, ◌≤◌, ◌⊎◌, ◌||◌, Bool, false, List, [], ◌++◌, length, Option, OnOk, OnErr}
+use Rattle.std.specs.Prelude.{◌≡◌, ℕ, ◌≤◌, ◌<◌, ◌⊎◌, ◌||◌, Bool, false, List, [], ◌++◌, length, Option, OnOk, OnErr}
 use Rattle.std.specs.declared.result.Result.{Result}
-use Rattle.std.specs.Io.KnownBytes.{Appends, IsAtEnd}
+use Rattle.std.specs.Io.KnownBytes.{Appends, Consumes, IsAtEnd}
 use Rattle.event_history.specs.declared.event.Event.{Event}
 use Rattle.engine.specs.Engines.{PlainEngine}
 use Rattle.plant_config.specs.Plants.{PlainPlant}
@@ -9,7 +9,7 @@ use Rattle.serve_faults.specs.declared.fault.ServeFault.{ServeFault}
 use Rattle.serve_faults.specs.declared.fault.ServeFault.TheVariants as fault
 use Rattle.serve_faults.specs.Faults.{is_read, is_write}
 use Rattle.requests.specs.Requests.{Request, ended_from, begun_from, ended_requests, requests_of}
-use Rattle.requests.specs.Splitting.{IsHeld}
+use Rattle.requests.specs.Splitting.{IsHeld, AsksAlike}
 use Rattle.serving.specs.Answers.{AreAnswered}
 
 -- a text is all that the server may write for an input, where no event came before it
@@ -92,3 +92,33 @@ Takes result begun bytes held e₀ e₁ w₀ w₁ =
 -- the plant stays, nothing is read, and a write failed just where the result is Write
 abbrev pub Continues : {T : Type 0} → Result T ServeFault → PlainEngine → PlainEngine → Bool → Bool → Type 0
 Continues result e₀ e₁ b₀ b₁ = (e₁.plant ≡ e₀.plant) × (is_read result ≡ false) × (b₁ ≡ (b₀ || is_write result))
+
+-- a request asks for what a line asks for, with the bytes that came after it
+abbrev pub AsksFor : (line body : List ℕ) → Request → Type 0
+AsksFor line body request = AsksAlike (record { line = line; body = body }) request
+
+-- ---- a step, and a whole session, by what was left to read and what was written before it and after it
+
+-- a byte or more was read, and the session goes on with what was
+abbrev pub HasReadMore : (old new : List ℕ) → (e₀ e₁ : PlainEngine) → (r₀ r₁ w₀ w₁ : Option (List ℕ)) → Type 0
+HasReadMore old new e₀ e₁ r₀ r₁ w₀ w₁ = (piece : List ℕ) × (0 < length piece) × Consumes r₀ r₁ piece × Goes e₀.plant piece old new e₀.history e₁.history w₀ w₁
+
+-- the input is at its end, and the session ends with it and holds nothing
+abbrev pub HasReadAll : (old new : List ℕ) → (e₀ e₁ : PlainEngine) → (r₀ r₁ w₀ w₁ : Option (List ℕ)) → Type 0
+HasReadAll old new e₀ e₁ r₀ r₁ w₀ w₁ = Consumes r₀ r₁ [] × IsAtEnd r₁ × (new ≡ []) × Ends e₀.plant old e₀.history e₁.history w₀ w₁
+
+-- a piece was read, perhaps an empty one, and the session stopped within it
+abbrev pub HasFailed : (old : List ℕ) → (e₀ e₁ : PlainEngine) → (r₀ r₁ w₀ w₁ : Option (List ℕ)) → Type 0
+HasFailed old e₀ e₁ r₀ r₁ w₀ w₁ = (piece : List ℕ) × Consumes r₀ r₁ piece × Stops e₀.plant piece r₁ old e₀.history e₁.history w₀ w₁
+
+-- nothing was read, took effect or was written
+abbrev pub HasDoneNothing : (e₀ e₁ : PlainEngine) → (r₀ r₁ w₀ w₁ : Option (List ℕ)) → Type 0
+HasDoneNothing e₀ e₁ r₀ r₁ w₀ w₁ = Consumes r₀ r₁ [] × (e₁.history ≡ e₀.history) × (w₁ ≡ w₀)
+
+-- all was read, each request took effect in turn, and their answers were written and nothing else
+abbrev pub HasAnsweredAll : (e₀ e₁ : PlainEngine) → (r₀ r₁ w₀ w₁ : Option (List ℕ)) → Type 0
+HasAnsweredAll e₀ e₁ r₀ r₁ w₀ w₁ = (input : List ℕ) × Consumes r₀ r₁ input × IsAtEnd r₁ × Answered e₀.plant (requests_of input) e₀.history e₁.history w₀ w₁
+
+-- bytes were read, and a fault stopped the session, which came as far in them as it says
+abbrev pub HasStopped : ServeFault → (e₀ e₁ : PlainEngine) → (r₀ r₁ w₀ w₁ : Option (List ℕ)) → Type 0
+HasStopped fault e₀ e₁ r₀ r₁ w₀ w₁ = (input : List ℕ) × Consumes r₀ r₁ input × StoppedBy fault e₀.plant r₁ input e₀.history e₁.history w₀ w₁

@@ -1,16 +1,15 @@
 //! What a `reload` is answered.
 
-ghost use Rattle.std.specs.Prelude.{◌≡◌, ◌++◌, ◌⊎◌, ◌∷◌, [], IfOk, OnOk, OnErr, List, ℕ, take, drop, map, Some, false};
+ghost use Rattle.std.specs.Prelude.{◌≡◌, ◌++◌, ◌∷◌, [], IfOk, OnOk, OnErr, List, ℕ, take, drop, map, Some, false};
 ghost use Rattle.command_text.specs.Reloads.{reload_sizes};
 ghost use Rattle.engine.specs.Engines.{state_of};
 ghost use Rattle.plant_system.specs.System.{reload_event};
-ghost use Rattle.command_answers.specs.Answers.{event_added};
+ghost use Rattle.command_answers.specs.Answers.{HasAdded, MayHaveAdded};
 ghost use Rattle.requests.specs.Requests.{Request};
-ghost use Rattle.requests.specs.Splitting.{AsksAlike};
 ghost use Rattle.serve_faults.specs.Faults.{is_crew};
-ghost use Rattle.serving.specs.Answers.{IsReload};
+ghost use Rattle.serving.specs.Answers.{HasReloadedBody, MayHaveReloadedBody};
 ghost use Rattle.serving.specs.Reloads.{texts_in, names_in, names_for, reload_answer, HasReloaded, MayHaveReloaded};
-ghost use Rattle.serving.specs.Session.{Serves, Continues};
+ghost use Rattle.serving.specs.Session.{AsksFor, Serves, Continues};
 
 use byte_streams::Sink;
 use command_text::{TextSizes, push_refused, push_reloaded};
@@ -22,7 +21,7 @@ use serve_faults::{ServeFault, put_all};
 use std::alloc::{AllocError, Global};
 use std::thread::Threads;
 
-/// The names that a plant file lists for its sources; none where the bytes are no plant file. Fails if allocation fails.
+/// The names that a plant file lists for its sources; none where the bytes are no plant file.
 fn names_in(alloc: Global, plant: &[u8]) -> Result<Items<Text>, AllocError>
     ensures { IfOk result (λ names. names ≡ names_in plant.now) }
 {
@@ -46,7 +45,8 @@ fn split_behind(bytes: &[u8], size: u32) -> (&[u8], &[u8])
 
 /// The first name, and the others; the empty name where there is none.
 fn first_name(names: &[Text]) -> (&str, &[Text])
-    ensures { (text : List ℕ) (texts : List (List ℕ)) → names_for names.now (text ∷ texts) ≡ result.0.now ∷ names_for result.1.now texts }
+    ensures { (text : List ℕ) (texts : List (List ℕ))
+        → names_for names.now (text ∷ texts) ≡ result.0.now ∷ names_for result.1.now texts }
 {
     match names.split_first() {
         Some((name, others)) => (name.as_str(), others),
@@ -54,14 +54,15 @@ fn first_name(names: &[Text]) -> (&str, &[Text])
     }
 }
 
-/// Cuts bytes into sources of these sizes, each with the name that is listed for it. Fails if allocation fails.
+/// Cuts bytes into sources of these sizes, each with the name that is listed for it.
 fn named_sources<'a>(
     alloc: Global,
     names: &'a [Text],
     sizes: &[u32],
     bytes: &'a [u8],
 ) -> Result<Vec<(&'a str, &'a [u8])>, AllocError>
-    ensures names { IfOk result (λ v. map (λ s. s.0.now) v.items ≡ names_for names.now (texts_in sizes.now bytes.now)) }
+    ensures names { IfOk result (λ v. map (λ s. s.0.now) v.items
+        ≡ names_for names.now (texts_in sizes.now bytes.now)) }
     ensures texts { IfOk result (λ v. map (λ s. s.1.now) v.items ≡ texts_in sizes.now bytes.now) }
 {
     let mut sources = Vec::with_capacity(alloc, sizes.len())?;
@@ -77,7 +78,7 @@ fn named_sources<'a>(
     Ok(sources)
 }
 
-/// Reloads a plant that was accepted, and appends the answer. It fails where an allocation failed: before the plant was reloaded or after it.
+/// Reloads a plant that was accepted, and appends the answer. It fails where memory was refused: before the plant was reloaded or after it.
 fn reload_plant(
     alloc: Global,
     engine: &mut Engine,
@@ -85,9 +86,12 @@ fn reload_plant(
     plant: Plant,
 ) -> Result<(), AllocError>
     ensures plant { engine.new.plant ≡ engine.old.plant }
-    ensures history { OnOk result (engine.new.history ≡ engine.old.history ++ event_added (reload_event (state_of engine.old) plant)) }
-    ensures text { OnOk result (text.new.items ≡ text.old.items ++ reload_answer (state_of engine.old) plant) }
-    ensures err { OnErr result ((engine.new.history ≡ engine.old.history) ⊎ (engine.new.history ≡ engine.old.history ++ event_added (reload_event (state_of engine.old) plant))) }
+    ensures history { OnOk result
+        (HasAdded engine.old engine.new (reload_event (state_of engine.old) plant)) }
+    ensures text { OnOk result
+        (text.new.items ≡ text.old.items ++ reload_answer (state_of engine.old) plant) }
+    ensures err { OnErr result
+        (MayHaveAdded engine.old engine.new (reload_event (state_of engine.old) plant)) }
 {
     match engine.reload(alloc, plant) {
         Ok(reloaded) => push_reloaded(text, reloaded.kept, reloaded.fresh),
@@ -99,8 +103,8 @@ fn reload_plant(
     }
 }
 
-/// Reloads the plant of texts, or says why there is none, and appends the answer. It fails where an allocation failed: before the plant was reloaded
-/// or after it. The listener hears of the plant first.
+/// Reloads the plant of texts, or says why there is none, and appends the answer. It fails where memory was refused: before the plant was reloaded or
+/// after it. The listener hears of the plant first.
 fn reload_texts<H: Threads + Sync, L: Listener>(
     rt: &H,
     alloc: Global,
@@ -110,7 +114,8 @@ fn reload_texts<H: Threads + Sync, L: Listener>(
     listener: &mut L,
 ) -> Result<(), AllocError>
     ensures plant { engine.new.plant ≡ engine.old.plant }
-    ensures ok { OnOk result (HasReloaded texts.now engine.old engine.new text.old.items text.new.items) }
+    ensures ok { OnOk result
+        (HasReloaded texts.now engine.old engine.new text.old.items text.new.items) }
     ensures err { OnErr result (MayHaveReloaded texts.now engine.old engine.new) }
 {
     let (accepted, line) = verdict(rt, alloc, texts, listener)?;
@@ -120,7 +125,7 @@ fn reload_texts<H: Threads + Sync, L: Listener>(
     }
 }
 
-/// Reloads the plant whose texts a body has, and writes the answer over a text. It fails where an allocation failed: before the plant was reloaded or
+/// Reloads the plant whose texts a body has, and writes the answer over a text. It fails where memory was refused: before the plant was reloaded or
 /// after it.
 fn reload_body<H: Threads + Sync, L: Listener>(
     rt: &H,
@@ -132,8 +137,8 @@ fn reload_body<H: Threads + Sync, L: Listener>(
     listener: &mut L,
 ) -> Result<(), AllocError>
     ensures plant { engine.new.plant ≡ engine.old.plant }
-    ensures ok { OnOk result (IsReload engine.old.plant engine.old.history sizes.now body.now engine.new.history text.new.items) }
-    ensures err { OnErr result ((engine.new.history ≡ engine.old.history) ⊎ ((t : List ℕ) × IsReload engine.old.plant engine.old.history sizes.now body.now engine.new.history t)) }
+    ensures ok { OnOk result (HasReloadedBody sizes.now body.now engine.old engine.new text.new.items) }
+    ensures err { OnErr result (MayHaveReloadedBody sizes.now body.now engine.old engine.new) }
 {
     text.clear();
     if body.len() < sizes.total() {
@@ -165,7 +170,8 @@ pub(crate) fn answer_reload<H: Threads + Sync, S: Sink, L: Listener>(
 ) -> Result<(), ServeFault>
     ensures continues { Continues result engine.old engine.new (S.broken sink.old) (S.broken sink.new) }
     ensures crew { is_crew result ≡ false }
-    ensures serves { (request : Request) (line : List ℕ) → reload_sizes line ≡ Some sizes.now → AsksAlike (record { line = line; body = body.now }) request
+    ensures serves { (request : Request) (line : List ℕ) → reload_sizes line ≡ Some sizes.now
+        → AsksFor line body.now request
         → Serves result (request ∷ []) engine.old engine.new (S.written sink.old) (S.written sink.new) }
 {
     reload_body(rt, alloc, engine, text, sizes, body, listener)?;

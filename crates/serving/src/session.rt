@@ -1,11 +1,9 @@
-ghost use Rattle.std.specs.Prelude.{◌≡◌, ◌++◌, [], ◌∷◌, IfOk, IfErr, OnOk, OnErr, IsErrOf, IfSome, List, ℕ, length, false, ◌<◌, None, Some};
-ghost use Rattle.std.specs.Io.KnownBytes.{Consumes, IsAtEnd};
-ghost use Rattle.command_text.specs.Commands.{command_of};
+ghost use Rattle.std.specs.Prelude.{◌≡◌, [], ◌∷◌, IfOk, IfErr, OnOk, OnErr, IsErrOf, IfSome, List, ℕ, false, None, Some};
 ghost use Rattle.command_text.specs.Reloads.{reload_sizes};
-ghost use Rattle.requests.specs.Requests.{Request, request_of, last_request, requests_of};
+ghost use Rattle.requests.specs.Requests.{Request, request_of, last_request};
 ghost use Rattle.requests.specs.Splitting.{IsHeld, AsksAlike, AskAlike, IsPlain, given_requests};
 ghost use Rattle.serve_faults.specs.Faults.{crew_faults, is_read, is_write};
-ghost use Rattle.serving.specs.Session.{Answered, Stopped, Serves, Takes, Continues, HasGone, StoppedBy, Goes, Ends, Stops, HasServed};
+ghost use Rattle.serving.specs.Session.{AsksFor, HasReadMore, HasReadAll, HasFailed, HasDoneNothing, HasAnsweredAll, HasStopped, Serves, Takes, Continues, HasServed};
 
 use crate::reload::answer_reload;
 use byte_streams::{Feed, Sink, empty_piece, fill};
@@ -34,7 +32,8 @@ fn answer<H, C: Crew<Job, Start, Done, H>, S: Sink>(
     requires asked { C.asks }
     ensures continues { Continues result engine.old engine.new (S.broken sink.old) (S.broken sink.new) }
     ensures crew { C.faulted crew.new ≡ crew_faults (C.faulted crew.old) result }
-    ensures serves { reload_sizes line.now ≡ None → (request : Request) (body : List ℕ) → AsksAlike (record { line = line.now; body = body }) request
+    ensures serves { reload_sizes line.now ≡ None → (request : Request) (body : List ℕ)
+        → AsksFor line.now body request
         → Serves result (request ∷ []) engine.old engine.new (S.written sink.old) (S.written sink.new) }
 {
     text.clear();
@@ -67,11 +66,13 @@ impl Kept {
         listener: &mut L,
     ) -> Result<(), ServeFault>
         requires asked { C.asks }
-        ensures continues { Continues result engine.old engine.new (S.broken sink.old) (S.broken sink.new) }
+        ensures continues { Continues result engine.old engine.new
+            (S.broken sink.old) (S.broken sink.new) }
         ensures crew { C.faulted crew.new ≡ crew_faults (C.faulted crew.old) result }
         ensures splitter { self.new.splitter ≡ self.old.splitter }
         ensures serves { (request : Request) → AsksAlike (request_of held.now) request
-            → Serves result (request ∷ []) engine.old engine.new (S.written sink.old) (S.written sink.new) }
+            → Serves result (request ∷ []) engine.old engine.new
+            (S.written sink.old) (S.written sink.new) }
     {
         let (line, body) = held.request();
         match reload_sizes(line) {
@@ -109,10 +110,12 @@ impl Kept {
         listener: &mut L,
     ) -> Result<(), ServeFault>
         requires asked { C.asks }
-        ensures continues { Continues result engine.old engine.new (S.broken sink.old) (S.broken sink.new) }
+        ensures continues { Continues result engine.old engine.new
+            (S.broken sink.old) (S.broken sink.new) }
         ensures crew { C.faulted crew.new ≡ crew_faults (C.faulted crew.old) result }
         ensures splitter { self.new.splitter ≡ self.old.splitter }
-        ensures serves { IsPlain ended.entry → (requests : List Request) → AskAlike (given_requests ended.entry) requests
+        ensures serves { IsPlain ended.entry → (requests : List Request)
+            → AskAlike (given_requests ended.entry) requests
             → Serves result requests engine.old engine.new (S.written sink.old) (S.written sink.new) }
     {
         match ended {
@@ -142,10 +145,12 @@ impl Kept {
         listener: &mut L,
     ) -> Result<(), ServeFault>
         requires asked { C.asks }
-        ensures continues { Continues result engine.old engine.new (S.broken sink.old) (S.broken sink.new) }
+        ensures continues { Continues result engine.old engine.new
+            (S.broken sink.old) (S.broken sink.new) }
         ensures crew { C.faulted crew.new ≡ crew_faults (C.faulted crew.old) result }
         ensures gone { (begun : List ℕ) → IsHeld begun self.old.splitter
-            → Takes result begun piece.now self.new.splitter engine.old engine.new (S.written sink.old) (S.written sink.new) }
+            → Takes result begun piece.now self.new.splitter engine.old engine.new
+            (S.written sink.old) (S.written sink.new) }
     {
         let mut rest = piece;
         while !rest.is_empty() {
@@ -167,11 +172,13 @@ impl Kept {
         listener: &mut L,
     ) -> Result<(), ServeFault>
         requires asked { C.asks }
-        ensures continues { Continues result engine.old engine.new (S.broken sink.old) (S.broken sink.new) }
+        ensures continues { Continues result engine.old engine.new
+            (S.broken sink.old) (S.broken sink.new) }
         ensures crew { C.faulted crew.new ≡ crew_faults (C.faulted crew.old) result }
         ensures held { self.new.splitter ≡ [] }
         ensures serves { (begun : List ℕ) → IsHeld begun self.old.splitter
-            → Serves result (last_request begun) engine.old engine.new (S.written sink.old) (S.written sink.new) }
+            → Serves result (last_request begun) engine.old engine.new
+            (S.written sink.old) (S.written sink.new) }
     {
         match self.splitter.end() {
             Some(held) => self.answer_held(rt, engine, crew, sink, &held, listener),
@@ -213,7 +220,7 @@ impl Model for Session {
 }
 
 impl Session {
-    /// A session before its first step. Fails if allocation fails.
+    /// A session before its first step.
     pub fn new(alloc: Global) -> Result<Session, AllocError>
         ensures { IfOk result (λ s. s ≡ []) }
     {
@@ -231,7 +238,7 @@ impl Session {
     /// the last one. Whenever a step has returned `Ok`, what was written is exactly the text for all requests that have ended so far. The listener hears of
     /// each plant that is handed in, before its answer is written.
     ///
-    /// Returns `Memory` only where an allocation failed, and `Read`, `Write` and `Crew` only where the feed, the sink or the crew failed in this
+    /// Returns `Memory` only where memory was refused, and `Read`, `Write` and `Crew` only where the feed, the sink or the crew failed in this
     /// call. After an error a beginning of the requests took effect, and the session is of no more use. It waits where its feed or its crew
     /// waits.
     pub fn step<H: Threads + Sync, C: Crew<Job, Start, Done, H>, F: Feed, S: Sink, L: Listener>(
@@ -247,13 +254,18 @@ impl Session {
         requires feed { F.broken feed.old ≡ false }
         requires sink { S.broken sink.old ≡ false }
         ensures plant { engine.new.plant ≡ engine.old.plant }
-        ensures more { IfOk result (λ step. step ≡ Step.More → (piece : List ℕ) × (0 < length piece) × Consumes (F.remaining feed.old) (F.remaining feed.new) piece
-            × Goes engine.old.plant piece self.old self.new engine.old.history engine.new.history (S.written sink.old) (S.written sink.new)) }
-        ensures ended { IfOk result (λ step. step ≡ Step.Ended → Consumes (F.remaining feed.old) (F.remaining feed.new) [] × IsAtEnd (F.remaining feed.new) × (self.new ≡ [])
-            × Ends engine.old.plant self.old engine.old.history engine.new.history (S.written sink.old) (S.written sink.new)) }
-        ensures err { OnErr result ((piece : List ℕ) × Consumes (F.remaining feed.old) (F.remaining feed.new) piece
-            × Stops engine.old.plant piece (F.remaining feed.new) self.old engine.old.history engine.new.history (S.written sink.old) (S.written sink.new)) }
-        ensures cut { IsErrOf result ServeFault.Read → Consumes (F.remaining feed.old) (F.remaining feed.new) [] × (engine.new.history ≡ engine.old.history) × (S.written sink.new ≡ S.written sink.old) }
+        ensures more { IfOk result (λ step. step ≡ Step.More
+            → HasReadMore self.old self.new engine.old engine.new
+            (F.remaining feed.old) (F.remaining feed.new) (S.written sink.old) (S.written sink.new)) }
+        ensures ended { IfOk result (λ step. step ≡ Step.Ended
+            → HasReadAll self.old self.new engine.old engine.new
+            (F.remaining feed.old) (F.remaining feed.new) (S.written sink.old) (S.written sink.new)) }
+        ensures err { OnErr result
+            (HasFailed self.old engine.old engine.new (F.remaining feed.old) (F.remaining feed.new)
+            (S.written sink.old) (S.written sink.new)) }
+        ensures cut { IsErrOf result ServeFault.Read
+            → HasDoneNothing engine.old engine.new (F.remaining feed.old) (F.remaining feed.new)
+            (S.written sink.old) (S.written sink.new) }
         ensures read { F.broken feed.new ≡ is_read result }
         ensures write { S.broken sink.new ≡ is_write result }
         ensures crew { C.faulted crew.new ≡ crew_faults (C.faulted crew.old) result }
@@ -274,7 +286,7 @@ impl Session {
 /// Answers the requests of a feed until its end, step by step. Each answer is written before the next request takes effect and before more
 /// is read. The listener hears of each plant that is handed in, before its answer is written.
 ///
-/// Returns `Memory` only where an allocation failed, and `Read`, `Write` and `Crew` only where the feed, the sink or the crew failed in this
+/// Returns `Memory` only where memory was refused, and `Read`, `Write` and `Crew` only where the feed, the sink or the crew failed in this
 /// call.
 ///
 /// The clauses hold where `serve` returns: it waits where its feed or its crew waits, perhaps forever. What they say of bytes holds for a feed and a
@@ -295,17 +307,19 @@ pub fn serve<H: Threads + Wait + Sync, C: Crew<Job, Start, Done, H>, F: Feed, S:
     ensures plant { engine.new.plant ≡ engine.old.plant }
 
     // All was read, each request took effect in turn, and their answers were written and nothing else.
-    ensures ok { OnOk result ((input : List ℕ) × Consumes (F.remaining feed.old) (F.remaining feed.new) input × IsAtEnd (F.remaining feed.new)
-        × Answered engine.old.plant (requests_of input) engine.old.history engine.new.history (S.written sink.old) (S.written sink.new)) }
+    ensures ok { OnOk result
+        (HasAnsweredAll engine.old engine.new (F.remaining feed.old) (F.remaining feed.new)
+        (S.written sink.old) (S.written sink.new)) }
 
     // Before the first event: what was written is the text that belongs to the plant and to the bytes of the feed (`out_text_is_one`).
-    ensures text { OnOk result (engine.old.history ≡ [] → IfSome (F.remaining feed.old) (λ bytes. HasServed engine.old.plant bytes (S.written sink.old) (S.written sink.new))) }
+    ensures text { OnOk result (engine.old.history ≡ [] → IfSome (F.remaining feed.old)
+        (λ bytes. HasServed engine.old.plant bytes (S.written sink.old) (S.written sink.new))) }
 
     // After an error: how far it came by the time of this fault. Where a read failed, all requests that had ended are answered; where a write,
     // an allocation or the crew failed, a beginning of those that were read took effect, and all their answers were written but for a part of the
     // last one's.
-    ensures err { IfErr result (λ e. (input : List ℕ) × Consumes (F.remaining feed.old) (F.remaining feed.new) input
-        × StoppedBy e engine.old.plant (F.remaining feed.new) input engine.old.history engine.new.history (S.written sink.old) (S.written sink.new)) }
+    ensures err { IfErr result (λ e. HasStopped e engine.old engine.new
+        (F.remaining feed.old) (F.remaining feed.new) (S.written sink.old) (S.written sink.new)) }
     ensures read { F.broken feed.new ≡ is_read result }
     ensures write { S.broken sink.new ≡ is_write result }
     ensures crew { C.faulted crew.new ≡ crew_faults (C.faulted crew.old) result }
