@@ -1,14 +1,14 @@
 -- Records: inputs that are played again, and gone on from.
-use Rattle.std.specs.Prelude.{◌≡◌, ℕ, ◌==◌, Bool, true, false, List, [], ◌∷◌, ◌++◌}
+use Rattle.std.specs.Prelude.{◌≡◌, ℕ, ◌==◌, Bool, true, false, List, [], ◌∷◌, ◌++◌, length, None}
 use Rattle.std.specs.List.{list_all}
 use Rattle.event_history.specs.declared.event.Event.{Event}
 use Rattle.plant_config.specs.Plants.{PlainPlant}
 use Rattle.plant_system.specs.System.{system}
 use Rattle.engine.specs.Journal.{journal_of}
 use Rattle.command_text.specs.Commands.{PlainCommand, Nothing, Unknown, Listing, Journal}
-use Rattle.command_text.specs.Reloads.{reload_size}
-use Rattle.requests.specs.Requests.{Request, is_lf, without_cr, requests_of}
-use Rattle.serving.specs.Answers.{IsAnswered, AreAnswered}
+use Rattle.command_text.specs.Reloads.{reload_size, reload_sizes}
+use Rattle.requests.specs.Requests.{Request, is_lf, has_lf, without_cr, requests_of, begun_request}
+use Rattle.serving.specs.Answers.{asked_by, IsAnswered, AreAnswered}
 
 -- whether bytes end where a line does: there are none, or the last one is LF
 abbrev pub ends_at_line : List ℕ → Bool
@@ -80,3 +80,34 @@ pub record CanBeLeftOut (plant : PlainPlant) (history : List Event) (past : List
   pub more_is : IsPlayed plant middle more after rest
   pub text_is : text ≡ first ++ (own ++ rest)
   pub others_are : IsPlayed plant history (past ++ more) after (first ++ rest)
+
+-- ---- laws
+
+-- what an input leaves is one history, whatever it is answered
+abbrev pub OneHistoryIsLeft : Type 0
+OneHistoryIsLeft = (plant : PlainPlant) (history a b : List Event) (input s t : List ℕ) → IsPlayed plant history input a s → IsPlayed plant history input b t → a ≡ b
+
+-- after a record that ends at the end of a request more goes on as if there had been no end
+abbrev pub RecordGoesOn : Type 0
+RecordGoesOn = (plant : PlainPlant) (history : List Event) (past more : List ℕ) → begun_request past ≡ []
+    → (after : List Event) (text : List ℕ) → GoesOn plant history past more after text
+
+-- an input that ends at the end of a line, and of which no line tells of bytes after it, ends at the end of a request
+abbrev pub LinesEndRequests : Type 0
+LinesEndRequests = (past : List ℕ) → ends_at_line past ≡ true → has_no_body past ≡ true → begun_request past ≡ []
+
+-- where two histories leave a plant alike, an input may be answered alike after both, and they still leave it alike
+abbrev pub StateDecides : Type 0
+StateDecides = (plant : PlainPlant) (h k : List Event) → LeaveAlike plant h k
+    → (input : List ℕ) (after : List Event) (text : List ℕ) → IsPlayed plant h input after text → IsPlayedAlike plant k input after text
+
+-- a line of a record that adds no event can be left out of it, with the bytes that it tells of
+abbrev pub LinesCanBeLeftOut : Type 0
+LinesCanBeLeftOut = (plant : PlainPlant) (history : List Event) (past line body more : List ℕ) → begun_request past ≡ [] → has_lf line ≡ false → length body ≡ reload_size (without_cr line)
+    → AddsNothingAfter plant history past (request_with line body)
+    → (after : List Event) (text : List ℕ) → IsPlayed plant history (past ++ (line ++ 10 ∷ (body ++ more))) after text
+    → CanBeLeftOut plant history past (request_with line body) more after text
+
+-- a request that only asks, and is no reload, adds no event
+abbrev pub AskingAddsNothing : Type 0
+AskingAddsNothing = (plant : PlainPlant) (history : List Event) (request : Request) → reload_sizes request.line ≡ None → only_asks (asked_by request) ≡ true → AddsNothing plant history request

@@ -1,20 +1,21 @@
 -- What the rows of a journal tell of the alarms since a state, and the list of alarms that they make.
-use Rattle.std.specs.Prelude.{ℕ, ◌+◌, if◌then◌else◌, List, [], ◌∷◌, ◌++◌, length, map, fold, slice_get}
+use Rattle.std.specs.Prelude.{◌≡◌, ℕ, ◌+◌, if◌then◌else◌, List, [], ◌∷◌, ◌++◌, length, map, fold, slice_get, Some}
 use Rattle.std.specs.Option.{option_map_or}
 use Rattle.std.specs.Str.{bytes_eq}
 use Rattle.alarm_machine.specs.declared.states.Code.{Code}
 use Rattle.alarm_machine.specs.declared.states.Code.TheVariants as code
-use Rattle.alarm_machine.specs.Codes.{code_of, same_code}
+use Rattle.alarm_machine.specs.Codes.{PlainChange, code_of, same_code}
 use Rattle.alarm_machine.specs.Alarms.{PlainAlarm}
 use Rattle.alarm_bank.specs.declared.rows.Counted.{Counted}
 use Rattle.command_text.specs.Lines.{state_line}
 use Rattle.plant_config.specs.declared.rows.AlarmRow.{AlarmRow}
-use Rattle.plant_config.specs.Plants.{PlainPlant}
+use Rattle.plant_config.specs.Plants.{PlainPlant, IsPlant}
 use Rattle.plant_config.specs.Names.{alarm_number, tag_of, priority_of}
 use Rattle.event_history.specs.declared.event.Event.{Event}
+use Rattle.event_history.specs.Reloads.{NoReload}
 use Rattle.plant_system.specs.System.{System, system}
 use Rattle.engine.specs.Journal.{NamedEntry, NamedRow, ChangeOf, journal_from, journal_of}
-use Rattle.command_answers.specs.Listings.{with_end, lines_below, count_lines}
+use Rattle.command_answers.specs.Listings.{with_end, lines_below, count_lines, state_lines, list_text}
 
 -- the code of the alarm with a tag after an entry, by its code before: a change of this alarm leads to another, and nothing else does
 abbrev pub code_told : List ℕ → Code → NamedEntry → Code
@@ -56,3 +57,35 @@ told_alarm sys rows alarm = record { area = alarm.area; priority = alarm.priorit
 -- the answer to `list` that the rows since a state make
 abbrev pub told_list : System → List NamedRow → List ℕ
 told_list sys rows = with_end (told_lines sys rows ++ count_lines sys.plant (map (told_alarm sys rows) sys.plant.alarms))
+
+-- ---- laws
+
+-- the rows that later events without a reload add tell the code of each alarm: it is the one to which they lead from the code before them
+abbrev pub CodesAreTold : Type 0
+CodesAreTold = (plant : PlainPlant) (past later : List Event) (alarm : ℕ) (a : PlainAlarm) → IsPlant (system plant past).plant → NoReload later
+    → slice_get (system plant (past ++ later)).alarms alarm ≡ Some a
+    → code_of a.state ≡ told_code (system plant past) (rows_since plant past later) (tag_of (system plant past).plant alarm)
+
+-- each change among such rows goes from the code that the rows before it tell
+abbrev pub ChangesAreTold : Type 0
+ChangesAreTold = (plant : PlainPlant) (past later : List Event) (before : List NamedRow) (row : NamedRow) (after : List NamedRow) (tag : List ℕ) (change : PlainChange)
+    → IsPlant (system plant past).plant → NoReload later
+    → rows_since plant past later ≡ before ++ row ∷ after → row.entry ≡ ChangeOf tag change → change.from ≡ told_code (system plant past) before tag
+
+-- the rows that later events add come after those of the history before them
+abbrev pub RowsAreAdded : Type 0
+RowsAreAdded = (plant : PlainPlant) (past later : List Event) → journal_of plant (past ++ later) ≡ journal_of plant past ++ rows_since plant past later
+
+-- before the first event every alarm is NORM
+abbrev pub BeginNormal : Type 0
+BeginNormal = (plant : PlainPlant) (tag : List ℕ) → code_in (system plant []) tag ≡ code.Norm
+
+-- the rows that later events without a reload add make the STATE lines
+abbrev pub LinesAreTold : Type 0
+LinesAreTold = (plant : PlainPlant) (past later : List Event) → IsPlant (system plant past).plant → NoReload later
+    → state_lines (system plant (past ++ later)) ≡ told_lines (system plant past) (rows_since plant past later)
+
+-- and they make the answer to `list`
+abbrev pub ListIsTold : Type 0
+ListIsTold = (plant : PlainPlant) (past later : List Event) → IsPlant (system plant past).plant → NoReload later
+    → list_text (system plant (past ++ later)) ≡ told_list (system plant past) (rows_since plant past later)

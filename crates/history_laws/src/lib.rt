@@ -7,79 +7,54 @@
 //! These functions do nothing: each has laws as its contract.
 #![tactic(auto)]
 
-ghost use Rattle.std.specs.Prelude.{◌≡◌, ℕ, true, false, List, [], ◌∷◌, ◌++◌, length, Some, None, slice_get};
-ghost use Rattle.alarm_machine.specs.declared.states.Code.TheVariants.{Norm};
-ghost use Rattle.alarm_machine.specs.Codes.{PlainChange, code_of};
-ghost use Rattle.alarm_machine.specs.Alarms.{PlainAlarm};
-ghost use Rattle.event_history.specs.declared.event.Event.{Event};
-ghost use Rattle.event_history.specs.Reloads.{NoReload};
-ghost use Rattle.plant_config.specs.Plants.{PlainPlant, IsPlant};
-ghost use Rattle.plant_config.specs.Names.{tag_of};
-ghost use Rattle.plant_system.specs.System.{system};
-ghost use Rattle.engine.specs.Journal.{NamedRow, ChangeOf, journal_of};
-ghost use Rattle.command_answers.specs.Listings.{state_lines, list_text};
-ghost use Rattle.command_text.specs.Reloads.{reload_sizes, reload_size};
-ghost use Rattle.requests.specs.Requests.{Request, has_lf, without_cr, begun_request};
-ghost use Rattle.serving.specs.Answers.{asked_by};
-ghost use Rattle.history_laws.specs.Told.{code_in, told_code, rows_since, told_lines, told_list};
-ghost use Rattle.history_laws.specs.Records.{ends_at_line, has_no_body, IsPlayed, GoesOn, LeaveAlike, IsPlayedAlike, AddsNothing, AddsNothingAfter, only_asks, request_with, CanBeLeftOut};
+ghost use Rattle.history_laws.specs.Told.{CodesAreTold, ChangesAreTold, RowsAreAdded, BeginNormal, LinesAreTold, ListIsTold};
+ghost use Rattle.history_laws.specs.Records.{OneHistoryIsLeft, RecordGoesOn, LinesEndRequests, StateDecides, LinesCanBeLeftOut, AskingAddsNothing};
 
 /// The rows that later events add to a journal tell the code of each alarm, where none of these events is a reload: it is the one to which the last
 /// change of its tag among these rows leads, and where they have no change of it the one that it had before them. And each change goes from the code
 /// that the rows before it tell, so none is missing between two. Before the first event every alarm is NORM. A reload may make an alarm new, which is
 /// NORM then without a row that tells it: so the journal tells from its last RELOAD row on, from the codes that this reload left.
 pub fn journal_tells_codes()
-    ensures last { (plant : PlainPlant) (past later : List Event) (alarm : ℕ) (a : PlainAlarm) → IsPlant (system plant past).plant → NoReload later
-        → slice_get (system plant (past ++ later)).alarms alarm ≡ Some a
-        → code_of a.state ≡ told_code (system plant past) (rows_since plant past later) (tag_of (system plant past).plant alarm) }
-    ensures each { (plant : PlainPlant) (past later : List Event) (before : List NamedRow) (row : NamedRow) (after : List NamedRow) (tag : List ℕ) (change : PlainChange)
-        → IsPlant (system plant past).plant → NoReload later
-        → rows_since plant past later ≡ before ++ row ∷ after → row.entry ≡ ChangeOf tag change → change.from ≡ told_code (system plant past) before tag }
-    ensures rows { (plant : PlainPlant) (past later : List Event) → journal_of plant (past ++ later) ≡ journal_of plant past ++ rows_since plant past later }
-    ensures begins { (plant : PlainPlant) (tag : List ℕ) → code_in (system plant []) tag ≡ Norm }
+    ensures last { CodesAreTold }
+    ensures each { ChangesAreTold }
+    ensures rows { RowsAreAdded }
+    ensures begins { BeginNormal }
 {}
 
 /// The rows that later events without a reload add to the journal make the list of alarms: its STATE lines are those of the alarms that aren't NORM by
 /// these rows, each with the code that they tell, and the whole answer to `list` is made of the state before them and of these rows.
 pub fn journal_makes_list()
-    ensures lines { (plant : PlainPlant) (past later : List Event) → IsPlant (system plant past).plant → NoReload later
-        → state_lines (system plant (past ++ later)) ≡ told_lines (system plant past) (rows_since plant past later) }
-    ensures text { (plant : PlainPlant) (past later : List Event) → IsPlant (system plant past).plant → NoReload later
-        → list_text (system plant (past ++ later)) ≡ told_list (system plant past) (rows_since plant past later) }
+    ensures lines { LinesAreTold }
+    ensures text { ListIsTold }
 {}
 
 /// What an input leaves is one history, whatever it is answered.
 pub fn input_leaves_one_history()
-    ensures { (plant : PlainPlant) (history a b : List Event) (input s t : List ℕ) → IsPlayed plant history input a s → IsPlayed plant history input b t → a ≡ b }
+    ensures { OneHistoryIsLeft }
 {}
 
 /// A record that ends at the end of a request, and more after it: both are answered as the record is, and then the rest from the history that the
 /// record leaves, which with the rest leaves the history of both. States and journal are those of a history, and a record leaves one history
 /// (`input_leaves_one_history`), so who plays a record again has the states in which it ended, and goes on as if there had been no end.
 pub fn record_plays_again()
-    ensures { (plant : PlainPlant) (history : List Event) (past more : List ℕ) → begun_request past ≡ []
-        → (after : List Event) (text : List ℕ) → GoesOn plant history past more after text }
+    ensures { RecordGoesOn }
 {}
 
 /// A record that ends at the end of a line, and of which no line tells of bytes after it, ends at the end of a request: so does every record without a
 /// `reload`.
 pub fn lines_end_requests()
-    ensures { (past : List ℕ) → ends_at_line past ≡ true → has_no_body past ≡ true → begun_request past ≡ [] }
+    ensures { LinesEndRequests }
 {}
 
 /// What comes of an input depends on the state and the journal alone: where two histories leave a plant alike, every input may be answered after
 /// the one what it may be answered after the other, and they still leave it alike.
 pub fn state_decides_answers()
-    ensures { (plant : PlainPlant) (h k : List Event) → LeaveAlike plant h k
-        → (input : List ℕ) (after : List Event) (text : List ℕ) → IsPlayed plant h input after text → IsPlayedAlike plant k input after text }
+    ensures { StateDecides }
 {}
 
 /// A line of a record that added no event may be left out of it, with the bytes that it tells of: all other requests are answered as with it, and
 /// leave the same history. Lines that only ask, as `list` does, never add one; a `reload` may.
 pub fn lines_without_event_can_be_left_out()
-    ensures left_out { (plant : PlainPlant) (history : List Event) (past line body more : List ℕ) → begun_request past ≡ [] → has_lf line ≡ false → length body ≡ reload_size (without_cr line)
-        → AddsNothingAfter plant history past (request_with line body)
-        → (after : List Event) (text : List ℕ) → IsPlayed plant history (past ++ (line ++ 10 ∷ (body ++ more))) after text
-        → CanBeLeftOut plant history past (request_with line body) more after text }
-    ensures asks { (plant : PlainPlant) (history : List Event) (request : Request) → reload_sizes request.line ≡ None → only_asks (asked_by request) ≡ true → AddsNothing plant history request }
+    ensures left_out { LinesCanBeLeftOut }
+    ensures asks { AskingAddsNothing }
 {}
