@@ -1,5 +1,5 @@
 -- What a contract sees of a station: its engine, and its lanes, each of which agrees with the history.
-use Rattle.std.specs.Prelude.{◌≡◌, ℕ, ◌≤◌, Bool, false, List, [], ◌∷◌, ◌++◌, length, map, Option, Some, None, Ok, All, refl}
+use Rattle.std.specs.Prelude.{◌≡◌, ℕ, ◌≤◌, Bool, true, false, List, [], ◌∷◌, ◌++◌, length, map, Option, Some, None, Ok, All, refl}
 use Rattle.std.specs.Coded.{Coded, code_by, coded×, coded_list, coded_ℕ}
 use mathlib.Core.List.{IsPrefix}
 use Rattle.logbook.specs.Pages.{Book}
@@ -24,11 +24,14 @@ use Rattle.archive.specs.Records.{TakesReload}
 use Rattle.boards.specs.declared.entry.Answer.{Answer as Shown}
 use Rattle.boards.specs.declared.entry.Entry.{Entry}
 use Rattle.boards.specs.Counts.{answers_of as answers_shown}
-use Rattle.board_entries.specs.Entries.{board_reply}
+use Rattle.board_entries.specs.Entries.{board_reply, entries_of, history_story}
 use Rattle.order_taking.specs.Parts.{answers_of, orders_in}
 use Rattle.order_taking.specs.Turns.{TookParts}
+use Rattle.operator_console.specs.declared.console.Console.{Console as Operator}
 use Rattle.operator_console.specs.declared.console.Finished.{Finished as Ended}
-use Rattle.station.specs.Lanes.{numbers_of, numbers_in, HasNoTwin, IsOfLog}
+use Rattle.operator_console.specs.Consoles.{story_seen, story_told, EndsAs}
+use Rattle.operator_console.specs.Sights.{BoardStory, HasOrders}
+use Rattle.station.specs.Lanes.{numbers_of, numbers_in, links_in, left_in, finished_of, ended_of, is_within, has_seen_within, HasNoTwin, HasSeen, IsOfLog}
 
 -- its engine, its share of the parts of its ledger, its crew, the owner's ends of its consoles' rings, how many events of the history its board shows, the first ones, and how often it refused an order or to show an event
 pub record PlainStation (C : Type 0) : Type 0 where
@@ -108,6 +111,21 @@ abbrev pub IsClosed : List (Answer Order Reply) → List Order → Option (Finis
 IsClosed answers left None = left ≡ []
 IsClosed answers left (Some f) = (orders_in answers ++ left ≡ all_submitted f) × IsPrefix (all_taken f) answers
 
+-- so it is of each of a closed station's consoles
+abbrev pub AreClosed : PlainEngine → List (Ended Order Reply) → List (Lane Order Reply) → Type 0
+AreClosed engine finished lanes = (n : ℕ) → IsClosed (answers_of n engine.plant engine.history) (left_in n lanes) (finished_of n (links_in finished))
+
+-- the lanes tell of each console whether it saw at most so many events as the history has
+abbrev pub TellWithin : PlainEngine → List (Ended Order Reply) → List (Lane Order Reply) → Type 0
+TellWithin engine finished lanes =
+    (n : ℕ) → is_within n (length engine.history) lanes ≡ has_seen_within (length engine.history) (finished_of n (links_in finished))
+
+-- what a console saw of which they tell so is a beginning of the history's entries
+abbrev pub SawBeginnings : PlainEngine → List (Ended Order Reply) → List (Lane Order Reply) → Type 0
+SawBeginnings engine finished lanes =
+    (n : ℕ) (f : Ended Order Reply) → ended_of n finished ≡ Some f → is_within n (length engine.history) lanes ≡ true
+    → IsPrefix f.mark.entries (entries_of engine.plant engine.history)
+
 -- what ended consoles saw of the board, and these entries, are beginnings of one list
 pub record AreBeginnings (entries : List Entry) (consoles : List (Ended Order Reply)) : Type 0 where
   pub one : List Entry
@@ -121,3 +139,13 @@ board_answer a = record { order = a.order; reply = board_reply a.reply }
 -- the first orders of a console that these entries have are those of these answers, with the same replies
 abbrev pub HasAnswers : ℕ → List Entry → List (Answer Order Reply) → Type 0
 HasAnswers n entries taken = IsPrefix (map board_answer taken) (answers_shown n entries)
+
+-- of a board that shows a beginning of the history, with as many of a console's orders as it took answers or more, the first of these orders are those of the answers
+abbrev pub AnswersAreShown : Type 0
+AnswersAreShown = (n : ℕ) (plant : PlainPlant) (history : List Event) (story : BoardStory) (taken : List (Answer Order Reply)) → HasOrders n (length taken) (Some story)
+    → IsPrefix story.1 (entries_of plant history) → IsPrefix taken (answers_of n plant history) → HasAnswers n story.1 taken
+
+-- an ended console that was told of the board before the first event saw what its end says
+abbrev pub EndsTellWhatWasSeen : Type 0
+EndsTellWhatWasSeen = (plant : PlainPlant) (c : Operator Order Reply) (f : Ended Order Reply) (story : BoardStory)
+    → story_told c ≡ Some (history_story plant []) → EndsAs c f → story_seen c ≡ Some story → HasSeen plant story f

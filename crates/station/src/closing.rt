@@ -113,12 +113,15 @@ impl<C: Drop> Closing<C> {
 
     /// Takes the next order that was left of the console of a number; `None` where none is, or where that console's end wasn't handed in.
     pub fn next_left(&mut self, console: u32) -> Option<Order>
-        ensures some { IfSome result (λ o. left_in console self.old.lanes ≡ o ∷ left_in console self.new.lanes) }
-        ensures none { IfNone result ((left_in console self.old.lanes ≡ []) × (left_in console self.new.lanes ≡ [])) }
+        ensures some { IfSome result (λ o. left_in console self.old.lanes
+            ≡ o ∷ left_in console self.new.lanes) }
+        ensures none { IfNone result
+            ((left_in console self.old.lanes ≡ []) × (left_in console self.new.lanes ≡ [])) }
         ensures others { (n : ℕ) → n ≢ console → left_in n self.new.lanes ≡ left_in n self.old.lanes }
         ensures engine { self.new.engine ≡ self.old.engine }
         ensures crew { self.new.crew ≡ self.old.crew }
-        ensures within { (n : ℕ) (events : ℕ) → is_within n events self.new.lanes ≡ is_within n events self.old.lanes }
+        ensures within { (n : ℕ) (events : ℕ)
+            → is_within n events self.new.lanes ≡ is_within n events self.old.lanes }
     {
         next_left_in(self.lanes.as_mut_slice(), console)
     }

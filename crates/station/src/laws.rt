@@ -1,31 +1,27 @@
 //! Laws of a station's consoles. These functions do nothing; they have the laws as their contracts.
 
-ghost use Rattle.std.specs.Prelude.{◌≡◌, ℕ, List, [], length, Some};
-ghost use mathlib.Core.List.{IsPrefix};
-ghost use Rattle.plant_config.specs.Plants.{PlainPlant};
-ghost use Rattle.console_link.specs.declared.answer.Answer.{Answer};
+ghost use Rattle.std.specs.Prelude.{List};
 ghost use Rattle.console_link.specs.declared.console.Console.{Console};
 ghost use Rattle.console_link.specs.declared.console.Finished.{Finished};
 ghost use Rattle.console_link.specs.declared.lane.Lane.{Lane};
 ghost use Rattle.console_link.specs.Seats.{SameConsole, Ends};
-ghost use Rattle.event_history.specs.declared.event.Event.{Event};
 ghost use Rattle.operator_orders.specs.declared.order.Order.{Order};
 ghost use Rattle.plant_system.specs.declared.event.Reply.{Reply};
 ghost use Rattle.operator_console.specs.declared.console.Console.{Console as Operator};
 ghost use Rattle.operator_console.specs.declared.console.Finished.{Finished as Ended};
-ghost use Rattle.operator_console.specs.Sights.{BoardStory, HasOrders};
-ghost use Rattle.operator_console.specs.Consoles.{story_seen, story_told, EndsAs};
-ghost use Rattle.board_entries.specs.Entries.{entries_of, history_story};
-ghost use Rattle.order_taking.specs.Parts.{answers_of};
-ghost use Rattle.station.specs.Lanes.{IsConsoleIn, IsEndIn, IsLinkEndIn, HasSeen};
-ghost use Rattle.station.specs.Stations.{HasAnswers};
+ghost use Rattle.operator_console.specs.Consoles.{EndsAs};
+ghost use Rattle.station.specs.Lanes.{IsConsoleIn, IsEndIn, IsLinkEndIn};
+ghost use Rattle.station.specs.Stations.{AnswersAreShown, EndsTellWhatWasSeen};
 
 /// A console of a station is one after each of its own calls, and where it has ended it is an ended console of that station: so `close` may be
 /// called with it.
 pub fn consoles_stay()
-    ensures stays { (lanes : List (Lane Order Reply)) (c d : Console Order Reply) → IsConsoleIn lanes c → SameConsole c d → IsConsoleIn lanes d }
-    ensures ends { (lanes : List (Lane Order Reply)) (c : Console Order Reply) (f : Finished Order Reply) → IsConsoleIn lanes c → Ends c f → IsLinkEndIn lanes f }
-    ensures ended { (lanes : List (Lane Order Reply)) (c : Operator Order Reply) (f : Ended Order Reply) → IsConsoleIn lanes c.link → EndsAs c f → IsEndIn lanes f }
+    ensures stays { (lanes : List (Lane Order Reply)) (c d : Console Order Reply) → IsConsoleIn lanes c
+        → SameConsole c d → IsConsoleIn lanes d }
+    ensures ends { (lanes : List (Lane Order Reply)) (c : Console Order Reply) (f : Finished Order Reply)
+        → IsConsoleIn lanes c → Ends c f → IsLinkEndIn lanes f }
+    ensures ended { (lanes : List (Lane Order Reply)) (c : Operator Order Reply) (f : Ended Order Reply)
+        → IsConsoleIn lanes c.link → EndsAs c f → IsEndIn lanes f }
 {}
 
 /// What an ended console of a station saw of the board, if it saw anything: so many events as its end says, each of which might come after those
@@ -35,6 +31,6 @@ pub fn consoles_stay()
 /// And of a board that shows a beginning of the history, with as many of the console's orders as the console took answers or more: the first of these
 /// orders are those of the answers, with the same replies. So the board shows what each order did whose answer was taken.
 pub fn consoles_saw()
-    ensures answered { (n : ℕ) (plant : PlainPlant) (history : List Event) (story : BoardStory) (taken : List (Answer Order Reply)) → HasOrders n (length taken) (Some story) → IsPrefix story.1 (entries_of plant history) → IsPrefix taken (answers_of n plant history) → HasAnswers n story.1 taken }
-    ensures saw { (plant : PlainPlant) (c : Operator Order Reply) (f : Ended Order Reply) (story : BoardStory) → story_told c ≡ Some (history_story plant []) → EndsAs c f → story_seen c ≡ Some story → HasSeen plant story f }
+    ensures answered { AnswersAreShown }
+    ensures saw { EndsTellWhatWasSeen }
 {}

@@ -53,8 +53,10 @@ pub(crate) fn open_lanes(
     listed: &[engine::Console],
     board: &mut BoardWriter,
 ) -> Result<(Consoles, Lanes), StationFault>
-    ensures same { (published board.new ≡ published board.old) × (laid board.new ≡ laid board.old) × (log_kept board.new ≡ log_kept board.old) }
-    ensures opened { IfOk result (λ r. AreOpened (numbers_of listed.now) (links_of r.0.items) r.1.items) }
+    ensures same { (published board.new ≡ published board.old) × (laid board.new ≡ laid board.old)
+        × (log_kept board.new ≡ log_kept board.old) }
+    ensures opened { IfOk result (λ r. AreOpened (numbers_of listed.now)
+        (links_of r.0.items) r.1.items) }
     ensures looks { IfOk result (λ r. All (HasNotLooked (published board.old)) r.0.items) }
     ensures marked { IfOk result (λ r. All (IsOfLog (log_kept board.old)) r.1.items) }
 {

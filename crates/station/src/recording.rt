@@ -18,7 +18,8 @@ pub(crate) fn open_consoles<L: Ledger>(
     ensures engine { recorder.new.engine ≡ recorder.old.engine }
     ensures share { recorder.new.share.parts ≡ recorder.old.share.parts }
     ensures log { log_kept recorder.new.board ≡ log_kept recorder.old.board }
-    ensures opened { IfOk result (λ r. AreConsolesOf recorder.old.engine.plant (published recorder.old.board) (log_kept recorder.old.board) r.0.items r.1.items) }
+    ensures opened { IfOk result (λ r. AreConsolesOf recorder.old.engine.plant
+        (published recorder.old.board) (log_kept recorder.old.board) r.0.items r.1.items) }
 {
     let Recorder { engine, board, .. } = recorder;
     open_lanes(alloc, engine.plant().consoles(), board)

@@ -1,15 +1,10 @@
 //! The station: its public calls.
 
-ghost use Rattle.std.specs.Prelude.{◌≡◌, ◌≢◌, ◌<◌, ◌↔◌, IsTrue, ℕ, [], true, length, map, All, Some, IfOk, IfErr, OnErr};
+ghost use Rattle.std.specs.Prelude.{◌≡◌, ◌≢◌, ◌<◌, ◌↔◌, IsTrue, [], length, map, All, IfOk, IfErr, OnErr};
 ghost use Rattle.plant_system.specs.Faults.{faults_by};
-ghost use Rattle.order_taking.specs.Parts.{answers_of};
 ghost use Rattle.archive.specs.Records.{IsReloadDue, IsScanDue};
-ghost use Rattle.station.specs.Lanes.{numbers_of, numbers_in, links_of, links_in, left_in, finished_of, ended_of, is_within, has_seen_within, IsConsoleIn, IsEndIn, IsFresh, HasNotLooked, KeepsConsoles};
-ghost use Rattle.station.specs.Stations.{IsReload, IsTurn, IsWhole, IsClosed, SameButRoom, AreBeginnings};
-ghost use mathlib.Core.List.{IsPrefix};
-ghost use Rattle.operator_orders.specs.declared.order.Order.{Order};
-ghost use Rattle.plant_system.specs.declared.event.Reply.{Reply};
-ghost use Rattle.operator_console.specs.declared.console.Finished.{Finished as Ended};
+ghost use Rattle.station.specs.Lanes.{numbers_of, numbers_in, links_of, IsConsoleIn, IsEndIn, IsFresh, HasNotLooked, KeepsConsoles};
+ghost use Rattle.station.specs.Stations.{IsReload, IsTurn, IsWhole, SameButRoom, AreBeginnings, AreClosed, TellWithin, SawBeginnings};
 ghost use Rattle.board_entries.specs.Entries.{entries_of, history_story};
 
 use crate::closing::{Closing, end_lanes};
@@ -90,7 +85,8 @@ impl<L: Ledger, C: Drop> Station<L, C> {
         requires parts { (blank.parts ≡ L.parts) × (0 < L.parts) }
         ensures engine { IfOk result (λ r. (r.0.engine.plant ≡ plant) × (r.0.engine.history ≡ [])) }
         ensures whole { IfOk result (λ r. r.0.parts ≡ L.parts) }
-        ensures listed { IfOk result (λ r. map (λ c. c.number) (links_of r.1.items) ≡ numbers_of plant.consoles) }
+        ensures listed { IfOk result (λ r. map (λ c. c.number) (links_of r.1.items)
+            ≡ numbers_of plant.consoles) }
         ensures lanes { IfOk result (λ r. numbers_in r.0.lanes ≡ numbers_of plant.consoles) }
         ensures consoles { IfOk result (λ r. All (IsConsoleIn r.0.lanes) (links_of r.1.items)) }
         ensures fresh { IfOk result (λ r. All IsFresh (links_of r.1.items)) }
@@ -149,10 +145,13 @@ impl<L: Ledger, C: Drop> Station<L, C> {
     where
         C: Crew<Job, Start, Done, H>,
         requires asked { C.asks }
-        ensures ok { IfOk result (λ t. IsTurn self.old self.new pairs.now moment t.report t.taken t.stopped) }
+        ensures ok { IfOk result (λ t. IsTurn self.old self.new pairs.now moment
+            t.report t.taken t.stopped) }
         ensures whole { IfOk result (λ t. IsWhole self.old self.new t.stopped) }
-        ensures late { IfOk result (λ t. IsTrue t.late ↔ (self.new.shown ≢ length self.new.engine.history)) }
-        ensures err { IfErr result (λ e. IsScanDue (self.old.parts ≡ L.parts) e self.old.engine pairs.now moment) }
+        ensures late { IfOk result (λ t. IsTrue t.late
+            ↔ (self.new.shown ≢ length self.new.engine.history)) }
+        ensures err { IfErr result (λ e. IsScanDue (self.old.parts ≡ L.parts) e
+            self.old.engine pairs.now moment) }
         ensures kept { OnErr result (SameButRoom self.old self.new) }
         ensures crew { C.faulted self.new.crew ≡ faults_by (C.faulted self.old.crew) result }
         ensures consoles { KeepsConsoles self.old.lanes self.new.lanes }
@@ -181,7 +180,8 @@ impl<L: Ledger, C: Drop> Station<L, C> {
         plant: Plant,
     ) -> Result<Reloaded, ReloadRefused>
         ensures ok { IfOk result (λ r. IsReload self.old self.new plant r) }
-        ensures err { IfErr result (λ r. (r.plant ≡ plant) × IsReloadDue (self.old.parts ≡ L.parts) r.fault self.old.engine plant) }
+        ensures err { IfErr result (λ r. (r.plant ≡ plant)
+            × IsReloadDue (self.old.parts ≡ L.parts) r.fault self.old.engine plant) }
         ensures kept { OnErr result (SameButRoom self.old self.new) }
     {
         let reloaded = self.recorder.reload(rt, alloc, plant)?;
@@ -198,10 +198,10 @@ impl<L: Ledger, C: Drop> Station<L, C> {
         requires { All (IsEndIn self.lanes) finished.items }
         ensures engine { result.engine ≡ self.engine }
         ensures crew { result.crew ≡ self.crew }
-        ensures closed { (n : ℕ) → IsClosed (answers_of n self.engine.plant self.engine.history) (left_in n result.lanes) (finished_of n (links_in finished.items)) }
-        ensures within { (n : ℕ) → is_within n (length self.engine.history) result.lanes ≡ has_seen_within (length self.engine.history) (finished_of n (links_in finished.items)) }
+        ensures closed { AreClosed self.engine finished.items result.lanes }
+        ensures within { TellWithin self.engine finished.items result.lanes }
         ensures one { AreBeginnings (entries_of self.engine.plant self.engine.history) finished.items }
-        ensures begins { (n : ℕ) (f : Ended Order Reply) → ended_of n finished.items ≡ Some f → is_within n (length self.engine.history) result.lanes ≡ true → IsPrefix f.mark.entries (entries_of self.engine.plant self.engine.history) }
+        ensures begins { SawBeginnings self.engine finished.items result.lanes }
     {
         let Station {
             recorder,
