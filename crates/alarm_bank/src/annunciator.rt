@@ -48,7 +48,7 @@ impl Model for Annunciator {
     ghost invariant = { λ p. IsAnnunciator p.alarms.items p.moment p.places (vec_capacity p.sites) (vec_capacity p.alarms) (vec_capacity p.spare) };
 }
 
-/// Alarms with room for so many. Fails if allocation fails.
+/// Alarms with room for so many.
 fn alarms_in(alloc: Global, alarms: &[Alarm], places: usize) -> Result<Vec<Alarm>, AllocError>
     ensures items { IfOk result (λ room. room.items ≡ alarms.now) }
     ensures room { IfOk result (λ room. places ≤ vec_capacity room) }
@@ -58,7 +58,7 @@ fn alarms_in(alloc: Global, alarms: &[Alarm], places: usize) -> Result<Vec<Alarm
     Ok(room)
 }
 
-/// Areas and priorities with room for so many. Fails if allocation fails.
+/// Areas and priorities with room for so many.
 fn sites_in(alloc: Global, sites: &[Site], places: usize) -> Result<Vec<Site>, AllocError>
     ensures items { IfOk result (λ room. room.items ≡ sites.now) }
     ensures room { IfOk result (λ room. places ≤ vec_capacity room) }
@@ -94,7 +94,7 @@ fn fill_sites(news: &[NewAlarm], room: &mut Vec<Site>)
 }
 
 impl Annunciator {
-    /// The alarms of a bank, with places for so many. Fails if allocation fails.
+    /// The alarms of a bank, with places for so many.
     pub fn of(alloc: Global, bank: &Bank, places: usize) -> Result<Annunciator, AllocError>
         requires within { length bank.now.alarms ≤ places }
         ensures { IfOk result (λ made. made ≡ record { bank = bank.now; places = places }) }
@@ -144,7 +144,9 @@ impl Annunciator {
     /// Puts an alarm in the place of another one.
     fn put(&mut self, at: usize, alarm: &Alarm)
         requires { at < length self.old.bank.alarms }
-        ensures { self.new ≡ record self.old { bank = record self.old.bank { alarms = slice_set self.old.bank.alarms at alarm.now } } }
+        ensures { self.new
+            ≡ record self.old
+            { bank = record self.old.bank { alarms = slice_set self.old.bank.alarms at alarm.now } } }
     {
         self.alarms[at] = *alarm;
     }
@@ -154,7 +156,10 @@ impl Annunciator {
         requires conds { length conds.now ≡ length self.old.bank.alarms }
         requires sups { length sups.now ≡ length self.old.bank.alarms }
         requires moment { moment ≤ LAST_MOMENT }
-        ensures { self.new ≡ record self.old { bank = record self.old.bank { alarms = scan_each conds.now sups.now moment self.old.bank.alarms; moment = moment } } }
+        ensures { self.new
+            ≡ record self.old
+            {bank = record self.old.bank
+            { alarms = scan_each conds.now sups.now moment self.old.bank.alarms; moment = moment }} }
     {
         for at in 0..conds.len() {
             let mut alarm = self.alarms[at];
@@ -181,7 +186,8 @@ impl Annunciator {
 
     /// Takes an order, if its alarm is there and takes it.
     fn order(&mut self, alarm: u32, verb: Verb)
-        ensures { self.new ≡ record self.old { bank = after_event (BankEvent.Order alarm verb) self.old.bank } }
+        ensures { self.new
+            ≡ record self.old { bank = after_event (BankEvent.Order alarm verb) self.old.bank } }
     {
         let at = alarm as usize;
         if let Some(found) = self.alarms.get(at) {

@@ -79,7 +79,7 @@ fn put_end(shelf: &mut Shelf, at: usize, old: &Alarm, new: &Alarm)
     }
 }
 
-/// The ends of the shelves of alarms. Fails if allocation fails.
+/// The ends of the shelves of alarms.
 fn shelf_of(alloc: Global, alarms: &[Alarm]) -> Result<Shelf, AllocError>
     requires { length alarms.now < 2 ^ 32 }
     ensures ends { IfOk result (λ shelf. shelf ≡ map (λ a. end_or_never (end_of a.state)) alarms.now) }
@@ -94,7 +94,7 @@ fn shelf_of(alloc: Global, alarms: &[Alarm]) -> Result<Shelf, AllocError>
     Ok(shelf)
 }
 
-/// The alarms as a summary counts them. Fails if allocation fails.
+/// The alarms as a summary counts them.
 fn counted(alloc: Global, sites: &[Site], alarms: &[Alarm]) -> Result<Vec<Counted>, AllocError>
     requires { length sites.now ≡ length alarms.now }
     ensures { IfOk result (λ rows. rows.items ≡ counted sites.now alarms.now) }
@@ -112,7 +112,7 @@ fn counted(alloc: Global, sites: &[Site], alarms: &[Alarm]) -> Result<Vec<Counte
     Ok(rows)
 }
 
-/// The summary of alarms of so many areas. Fails if allocation fails.
+/// The summary of alarms of so many areas.
 fn summary_of(
     alloc: Global,
     areas: u32,
@@ -130,7 +130,6 @@ fn summary_of(
 
 impl Bank {
     /// Makes a bank of alarms before its first scan, with the area and the priority of each. There are at most 64 areas.
-    /// Fails if allocation fails.
     pub fn new(
         alloc: Global,
         areas: u32,
@@ -141,12 +140,13 @@ impl Bank {
         requires few { length alarms.items < 2 ^ 32 }
         requires areas { areas ≤ 64 }
         requires sites { All (IsSite areas) sites.items }
-        ensures { IfOk result (λ bank. bank ≡ record { sites = sites.items; alarms = alarms.items; moment = 0 }) }
+        ensures { IfOk result (λ bank. bank
+            ≡ record { sites = sites.items; alarms = alarms.items; moment = 0 }) }
     {
         Bank::at(alloc, areas, sites, alarms, 0)
     }
 
-    /// Makes a bank of alarms after a last scan at a moment, or before the first at 0. Fails if allocation fails.
+    /// Makes a bank of alarms after a last scan at a moment, or before the first at 0.
     fn at(
         alloc: Global,
         areas: u32,
@@ -158,7 +158,8 @@ impl Bank {
         requires few { length alarms.items < 2 ^ 32 }
         requires sites { All (IsSite areas) sites.items }
         requires moment { moment ≤ LAST_MOMENT }
-        ensures { IfOk result (λ bank. bank ≡ record { sites = sites.items; alarms = alarms.items; moment = moment }) }
+        ensures { IfOk result (λ bank. bank
+            ≡ record { sites = sites.items; alarms = alarms.items; moment = moment }) }
     {
         let summary = summary_of(alloc, areas, sites.as_slice(), alarms.as_slice())?;
         let shelf = shelf_of(alloc, alarms.as_slice())?;
@@ -178,9 +179,9 @@ impl Bank {
         all_fit(self.alarms.len(), news)
     }
 
-    /// The bank with new alarms that fit in the place of its own, of at most 64 areas. One that keeps the state of an old alarm has that alarm's state, the
-    /// end of its shelf and its last condition and suppression; the others are as before their first scan. The moment stays. The
-    /// old bank stays as it is. Fails if allocation fails.
+    /// The bank with new alarms that fit in the place of its own, of at most 64 areas. One that keeps the state of an old alarm has that alarm's
+    /// state, the end of its shelf and its last condition and suppression; the others are as before their first scan. The moment stays. The old bank
+    /// stays as it is.
     pub fn reloaded(&self, alloc: Global, areas: u32, news: &[NewAlarm]) -> Result<Bank, AllocError>
         requires few { length news.now < 2 ^ 32 }
         requires areas { areas ≤ 64 }
@@ -263,7 +264,9 @@ impl Bank {
         requires conds { length conds.now ≡ length self.old.alarms }
         requires sups { length sups.now ≡ length self.old.alarms }
         requires moment { moment ≤ LAST_MOMENT }
-        ensures { self.new ≡ record self.old { alarms = scan_each conds.now sups.now moment self.old.alarms; moment = moment } }
+        ensures { self.new
+            ≡ record self.old
+            { alarms = scan_each conds.now sups.now moment self.old.alarms; moment = moment } }
     {
         for at in 0..conds.len() {
             let mut alarm = self.alarms[at];
@@ -337,8 +340,7 @@ impl Bank {
         }
     }
 
-    /// Adds the alarm of a number to a list as a scan leaves it, unless it rests, and the change of its code to another list, if there is one. Fails
-    /// if allocation fails.
+    /// Adds the alarm of a number to a list as a scan leaves it, unless it rests, and the change of its code to another list, if there is one.
     fn list_move<S: Signals>(
         &self,
         number: u32,
@@ -350,7 +352,9 @@ impl Bank {
         requires there { number < length self.now.alarms }
         requires conditions { length (S.conditions signals.now) ≡ length self.now.alarms }
         requires suppressions { length (S.suppressions signals.now) ≡ length self.now.alarms }
-        ensures { OnOk result (AddsMove number (S.conditions signals.now) (S.suppressions signals.now) moment self.now.alarms moved.old.items moved.new.items changes.old.items changes.new.items) }
+        ensures { OnOk result
+            (AddsMove number (S.conditions signals.now) (S.suppressions signals.now) moment
+            self.now.alarms moved.old.items moved.new.items changes.old.items changes.new.items) }
     {
         let condition = signals.condition(number);
         let suppression = signals.suppression(number);
@@ -368,7 +372,7 @@ impl Bank {
 
     /// Lists the alarms that a scan moves, in order, each by its number and as the scan leaves it, and the changes of their codes, both in place of
     /// what was listed before; alarms that rest are passed over. The bank stays as it is. The lists take memory only where they grow beyond their
-    /// room. Fails if allocation fails.
+    /// room.
     pub fn list_moved<S: Signals>(
         &self,
         signals: &S,
@@ -378,7 +382,10 @@ impl Bank {
     ) -> Result<(), AllocError>
         requires conditions { length (S.conditions signals.now) ≡ length self.now.alarms }
         requires suppressions { length (S.suppressions signals.now) ≡ length self.now.alarms }
-        ensures { OnOk result (AreMovesOf self.now.alarms (scan_each (S.conditions signals.now) (S.suppressions signals.now) moment self.now.alarms) moved.new.items changes.new.items) }
+        ensures { OnOk result
+            (AreMovesOf self.now.alarms
+            (scan_each (S.conditions signals.now) (S.suppressions signals.now) moment self.now.alarms)
+            moved.new.items changes.new.items) }
     {
         moved.clear();
         changes.clear();
@@ -389,8 +396,8 @@ impl Bank {
     }
 
     /// Lists the alarms that a scan moves, and the changes of their codes, as `list_moved` does. It looks at the marked alarms alone, which lie from
-    /// a first place up to before an end, unless a shelf ends by the scan's moment: each of the others has the condition and the suppression that it had in the
-    /// last scan. Fails if allocation fails.
+    /// a first place up to before an end, unless a shelf ends by the scan's moment: each of the others has the condition and the suppression that it
+    /// had in the last scan.
     // The bits of a word are taken off one by one, lowest first, which is the shortest way from one mark to the next.
     pub fn list_moved_among<S: Signals>(
         &self,
@@ -406,10 +413,14 @@ impl Bank {
         requires first { first ≤ length marks.now }
         requires clear { (n : ℕ) → n < first → slice_get marks.now n ≡ Some false }
         requires rest { (n : ℕ) → end ≤ n → n < length marks.now → slice_get marks.now n ≡ Some false }
-        requires unmarked { UnmarkedStay marks.now (S.conditions signals.now) (S.suppressions signals.now) self.now.alarms }
+        requires unmarked { UnmarkedStay marks.now (S.conditions signals.now)
+            (S.suppressions signals.now) self.now.alarms }
         requires conditions { length (S.conditions signals.now) ≡ length self.now.alarms }
         requires suppressions { length (S.suppressions signals.now) ≡ length self.now.alarms }
-        ensures { OnOk result (AreMovesOf self.now.alarms (scan_each (S.conditions signals.now) (S.suppressions signals.now) moment self.now.alarms) moved.new.items changes.new.items) }
+        ensures { OnOk result
+            (AreMovesOf self.now.alarms
+            (scan_each (S.conditions signals.now) (S.suppressions signals.now) moment self.now.alarms)
+            moved.new.items changes.new.items) }
     {
         if self.shelf_ends(moment) {
             return self.list_moved(signals, moment, moved, changes);
@@ -451,8 +462,10 @@ impl Bank {
     /// each alarm is what the scan makes of it.
     pub fn apply(&mut self, moved: &[(u32, Alarm)], moment: u64)
         requires { moment ≤ LAST_MOMENT }
-        ensures put { self.new ≡ record self.old { alarms = put_all self.old.alarms moved.now; moment = moment } }
-        ensures scanned { (new : List PlainAlarm) → AreMoved 0 self.old.alarms new moved.now → self.new ≡ record self.old { alarms = new; moment = moment } }
+        ensures put { self.new
+            ≡ record self.old { alarms = put_all self.old.alarms moved.now; moment = moment } }
+        ensures scanned { (new : List PlainAlarm) → AreMoved 0 self.old.alarms new moved.now
+            → self.new ≡ record self.old { alarms = new; moment = moment } }
     {
         for (number, alarm) in moved {
             self.put_at(*number, alarm);

@@ -32,7 +32,7 @@ impl Model for Marks {
     ghost invariant = { λ m. AreMarks m.count m.words.items };
 }
 
-/// So many words without a bit, in the room of other words. Fails if allocation fails; then the others stay.
+/// So many words without a bit, in the room of other words. Fails if memory is refused; then the others stay.
 fn clear_words(alloc: Global, words: &mut Vec<u64>, many: usize) -> Result<(), AllocError>
     ensures many { IfOk result (λ r. length words.new.items ≡ many) }
     ensures clear { IfOk result (λ r. (n : ℕ) → slice_index words.new.items n ≡ 0) }
@@ -49,7 +49,7 @@ fn clear_words(alloc: Global, words: &mut Vec<u64>, many: usize) -> Result<(), A
 }
 
 impl Marks {
-    /// No marks. Fails if allocation fails.
+    /// No marks.
     pub fn new(alloc: Global) -> Result<Marks, AllocError>
         ensures { IfOk result (λ marks. marks ≡ replicate 0 false) }
     {
@@ -65,8 +65,7 @@ impl Marks {
         self.count
     }
 
-    /// Makes marks for so many places, of which none is set, in the room of others. Fails if allocation fails; then the others
-    /// stay.
+    /// Makes marks for so many places, of which none is set, in the room of others. Fails if memory is refused; then the others stay.
     pub fn clear(&mut self, alloc: Global, count: usize) -> Result<(), AllocError>
         ensures ok { IfOk result (λ r. self.new ≡ replicate count false) }
         ensures err { OnErr result (self.new ≡ self.old) }

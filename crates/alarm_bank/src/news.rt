@@ -36,7 +36,7 @@ pub fn all_fit(count: usize, news: &[NewAlarm]) -> bool
     true
 }
 
-/// The areas and priorities of new alarms. Fails if allocation fails.
+/// The areas and priorities of new alarms.
 pub fn sites_of(alloc: Global, news: &[NewAlarm]) -> Result<Vec<Site>, AllocError>
     ensures { IfOk result (λ sites. sites.items ≡ sites_of news.now) }
 {
@@ -62,7 +62,7 @@ pub fn alarm_of(old: &[Alarm], new: &NewAlarm) -> Alarm
     }
 }
 
-/// What new alarms are after old ones. Fails if allocation fails.
+/// What new alarms are after old ones.
 pub fn alarms_of(alloc: Global, old: &[Alarm], news: &[NewAlarm]) -> Result<Vec<Alarm>, AllocError>
     requires { All IsShelvable news.now }
     ensures { IfOk result (λ alarms. alarms.items ≡ map (alarm_of old.now) news.now) }

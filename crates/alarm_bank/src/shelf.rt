@@ -57,8 +57,10 @@ fn mark_below(tree: &[u64], count: usize, node: usize, most: u64, marks: &mut Ma
     requires marks { length marks.old ≡ count }
     ensures size { length marks.new ≡ length marks.old }
     ensures kept { (n : ℕ) → slice_get marks.new n ≡ Some false → slice_get marks.old n ≡ Some false }
-    ensures marked { (k n : ℕ) → n < count → IsUnder k node (count + n) → slice_index tree.now (count + n) ≤ most → slice_get marks.new n ≡ Some false → ⊥ }
-    ensures others { (n : ℕ) → n < count → most < slice_index tree.now (count + n) → slice_get marks.new n ≡ slice_get marks.old n }
+    ensures marked { (k n : ℕ) → n < count → IsUnder k node (count + n)
+        → slice_index tree.now (count + n) ≤ most → slice_get marks.new n ≡ Some false → ⊥ }
+    ensures others { (n : ℕ) → n < count → most < slice_index tree.now (count + n)
+        → slice_get marks.new n ≡ slice_get marks.old n }
 {
     if tree[node] > most {
         return;
@@ -72,7 +74,7 @@ fn mark_below(tree: &[u64], count: usize, node: usize, most: u64, marks: &mut Ma
 }
 
 impl Shelf {
-    /// The greatest number of 64 bits at each of so many places. Fails if allocation fails.
+    /// The greatest number of 64 bits at each of so many places.
     pub fn new(alloc: Global, count: usize) -> Result<Shelf, AllocError>
         requires { count < 2 ^ 32 }
         ensures { IfOk result (λ s. s ≡ replicate count 18446744073709551615) }
@@ -112,9 +114,12 @@ impl Shelf {
         requires few { length self.now < 2 ^ 32 }
         requires marks { length marks.old ≡ length self.now }
         ensures size { length marks.new ≡ length marks.old }
-        ensures kept { (n : ℕ) → slice_get marks.new n ≡ Some false → slice_get marks.old n ≡ Some false }
-        ensures marked { (n : ℕ) → n < length self.now → slice_index self.now n ≤ most → slice_get marks.new n ≡ Some false → ⊥ }
-        ensures others { (n : ℕ) → n < length self.now → most < slice_index self.now n → slice_get marks.new n ≡ slice_get marks.old n }
+        ensures kept { (n : ℕ) → slice_get marks.new n ≡ Some false
+            → slice_get marks.old n ≡ Some false }
+        ensures marked { (n : ℕ) → n < length self.now → slice_index self.now n ≤ most
+            → slice_get marks.new n ≡ Some false → ⊥ }
+        ensures others { (n : ℕ) → n < length self.now → most < slice_index self.now n
+            → slice_get marks.new n ≡ slice_get marks.old n }
     {
         if self.count > 0 {
             mark_below(self.tree.as_slice(), self.count, 1, most, marks);

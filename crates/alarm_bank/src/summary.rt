@@ -42,7 +42,7 @@ fn cell(area: u32, priority: u32, code: Code) -> usize
     area as usize * 36 + (priority as usize - 1) * 9 + code.rank() as usize
 }
 
-/// The counts of alarms of so many areas. Fails if allocation fails.
+/// The counts of alarms of so many areas.
 fn tallied(alloc: Global, areas: u32, rows: &[Counted]) -> Result<Vec<u32>, AllocError>
     requires kept { All (HasCell (36 * areas)) rows.now }
     requires few { length rows.now < 2 ^ 32 }
@@ -57,7 +57,7 @@ fn tallied(alloc: Global, areas: u32, rows: &[Counted]) -> Result<Vec<u32>, Allo
 }
 
 impl Summary {
-    /// The summary of alarms of so many areas. Fails if allocation fails.
+    /// The summary of alarms of so many areas.
     pub(crate) fn new(alloc: Global, areas: u32, rows: Vec<Counted>) -> Result<Summary, AllocError>
         requires kept { All (HasCell (36 * areas)) rows.items }
         requires few { length rows.items < 2 ^ 32 }

@@ -86,7 +86,7 @@ fn tags_of(alloc: Global, rows: &[DatabaseRow]) -> Result<Tags, DbFault>
 /// Reads the alarm database of a text of comma-separated values: a header with the names of the columns, then a row for each alarm. A byte order mark at the
 /// text's start is skipped, and so are records of no bytes.
 ///
-/// Every fault but `Memory` is the first that the text has, in the order of `DbFault`. `Memory` comes if allocation fails.
+/// Every fault but `Memory` is the first that the text has, in the order of `DbFault`. `Memory` comes if memory is refused.
 pub fn read(alloc: Global, text: &[u8]) -> Result<AlarmDatabase, DbFault>
     ensures rows { IfOk result (λ rows. (first_fault text.now ≡ None) × (rows ≡ rows_of text.now)) }
     ensures refused { IfErr result (Refuses (first_fault text.now)) }

@@ -28,14 +28,16 @@ pub(crate) struct Gathered {
     rows: Vec<DatabaseRow>,
 }
 
-/// Adds the row of a record, of which so many come before it, or notes its fault. Fails if allocation fails.
+/// Adds the row of a record, of which so many come before it, or notes its fault.
 fn add_row(
     alloc: Global,
     version: Version,
     gathered: &mut Gathered,
     row: &ByteRecord,
 ) -> Result<(), AllocError>
-    ensures { OnOk result ((rows : List (List (List ℕ))) → HasGathered version rows gathered.old → HasGathered version (rows ++ fields_of row.now ∷ []) gathered.new) }
+    ensures { OnOk result
+        ((rows : List (List (List ℕ))) → HasGathered version rows gathered.old
+        → HasGathered version (rows ++ fields_of row.now ∷ []) gathered.new) }
 {
     if gathered.count >= MOST_ROWS {
         gathered.fault = Some(DbFault::TooMany);
@@ -62,7 +64,9 @@ fn add_row(
 
 /// The rows that were gathered, or the fault.
 fn finished(gathered: Gathered) -> Result<Vec<DatabaseRow>, DbFault>
-    ensures { (v : Version) (rows : List (List (List ℕ))) → HasGathered v rows gathered → MatchResult result (λ found. (forms_fault v rows ≡ None) × (found.items ≡ map (row_of v) rows)) (λ fault. forms_fault v rows ≡ Some fault) }
+    ensures { (v : Version) (rows : List (List (List ℕ))) → HasGathered v rows gathered
+        → MatchResult result (λ found. (forms_fault v rows ≡ None) × (found.items ≡ map (row_of v) rows))
+        (λ fault. forms_fault v rows ≡ Some fault) }
 {
     match gathered.fault {
         Some(fault) => Err(fault),
@@ -73,8 +77,8 @@ fn finished(gathered: Gathered) -> Result<Vec<DatabaseRow>, DbFault>
 /// The rows of the records of a text, or their first fault, but for tags. The first record is the header.
 pub(crate) fn rows_in(alloc: Global, text: &[u8]) -> Result<Vec<DatabaseRow>, DbFault>
     ensures { MatchResult result
-        (λ rows. (early_fault (records_of text.now) ≡ None) × (rows.items ≡ rows_in (records_of text.now)))
-        (Refuses (early_fault (records_of text.now))) }
+        (λ rows. (early_fault (records_of text.now) ≡ None)
+        × (rows.items ≡ rows_in (records_of text.now))) (Refuses (early_fault (records_of text.now))) }
 {
     let mut reader = reader_of(alloc, text);
     let mut row = ByteRecord::new(alloc);

@@ -22,7 +22,9 @@ pub(crate) fn is_even(row: &ByteRecord, version: Version) -> bool
 
 /// Whether a record has the names of the columns of a version.
 fn are_names(row: &ByteRecord, version: Version) -> bool
-    ensures { result ≡ list_all (λ c. bytes_eq (field_of version (fields_of row.now) c) (column_name c)) (columns version) }
+    ensures { result
+        ≡ list_all (λ c. bytes_eq (field_of version (fields_of row.now) c) (column_name c))
+        (columns version) }
 {
     version.columns().iter().all(|column| field(row, version, *column) == column.name().as_bytes())
 }
@@ -54,10 +56,12 @@ pub(crate) fn reader_of(alloc: Global, text: &[u8]) -> Reader<&[u8]>
         .from_reader(alloc, text)
 }
 
-/// Reads the next record into `row`, and returns true; false at the text's end. Fails if allocation fails.
+/// Reads the next record into `row`, and returns true; false at the text's end.
 pub(crate) fn next_record(reader: &mut Reader<&[u8]>, row: &mut ByteRecord) -> Result<bool, DbFault>
-    ensures read { IfOk result (λ found. (text : List ℕ) (records : List (List (List ℕ))) → HasRead text records reader.old
-        → MatchBool found (HasRead text (records ++ fields_of row.new ∷ []) reader.new) (records ≡ records_of text)) }
+    ensures read { IfOk result (λ found. (text : List ℕ) (records : List (List (List ℕ)))
+        → HasRead text records reader.old
+        → MatchBool found (HasRead text (records ++ fields_of row.new ∷ []) reader.new)
+        (records ≡ records_of text)) }
     ensures refused { IfErr result (λ fault. fault ≡ DbFault.Memory) }
 {
     let Ok(found) = reader.read_byte_record(row) else {

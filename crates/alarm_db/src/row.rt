@@ -41,7 +41,8 @@ pub struct DatabaseRow {
 
 /// The first of the columns whose field doesn't have its form; `None` if all have.
 fn wrong_among(columns: &[Column], row: &ByteRecord, version: Version) -> Option<Column>
-    ensures { result ≡ find (λ c. not (has_form c (field_of version (fields_of row.now) c))) columns.now }
+    ensures { result
+        ≡ find (λ c. not (has_form c (field_of version (fields_of row.now) c))) columns.now }
 {
     columns
         .iter()
@@ -57,7 +58,7 @@ pub(crate) fn wrong_column(row: &ByteRecord, version: Version) -> Option<Column>
     wrong_among(version.columns(), row, version)
 }
 
-/// Copies a field as a text. Fails if allocation fails.
+/// Copies a field as a text.
 fn text(alloc: Global, field: &[u8]) -> Result<Text, AllocError>
     requires { IsUtf8 field.now }
     ensures { IfOk result (λ text. text ≡ field.now) }
@@ -68,7 +69,7 @@ fn text(alloc: Global, field: &[u8]) -> Result<Text, AllocError>
     }
 }
 
-/// Copies the word in a field; `None` for an empty field. Fails if allocation fails.
+/// Copies the word in a field; `None` for an empty field.
 fn word(alloc: Global, field: &[u8]) -> Result<Option<Text>, AllocError>
     requires { IsUtf8 field.now }
     ensures { IfOk result (λ word. word ≡ word_of field.now) }
@@ -101,7 +102,7 @@ fn delay(field: &[u8]) -> u32
     }
 }
 
-/// The alarm of a row whose fields have their forms. Fails if allocation fails.
+/// The alarm of a row whose fields have their forms.
 pub(crate) fn row_of(
     alloc: Global,
     row: &ByteRecord,

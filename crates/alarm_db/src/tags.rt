@@ -63,15 +63,16 @@ impl Tags {
         self.table.find(tag)
     }
 
-    /// Adds a tag if it isn't there yet. Returns whether it was added. Fails if allocation fails.
+    /// Adds a tag if it isn't there yet. Returns whether it was added.
     pub(crate) fn add(&mut self, alloc: Global, tag: &str) -> Result<bool, AllocError>
         ensures added { IfOk result (λ added. added ≡ not (is_among self.old tag.now)) }
-        ensures tags { IfOk result (λ added. self.new ≡ (if added then self.old ++ tag.now ∷ [] else self.old)) }
+        ensures tags { IfOk result (λ added. self.new
+            ≡ (if added then self.old ++ tag.now ∷ [] else self.old)) }
     {
         self.table.add(alloc, tag)
     }
 
-    /// The same tags, each with its number. Fails if allocation fails.
+    /// The same tags, each with its number.
     pub fn copy(&self) -> Result<Tags, AllocError>
         ensures { IfOk result (λ copy. copy ≡ self.now) }
     {

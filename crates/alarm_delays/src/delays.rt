@@ -70,7 +70,7 @@ fn have_none(delays: &[u32]) -> bool
     true
 }
 
-/// Of so many conditions none is met. Fails if allocation fails.
+/// Of so many conditions none is met.
 fn none_yet(alloc: Global, count: usize) -> Result<Vec<Since>, AllocError>
     ensures { IfOk result (λ since. since.items ≡ replicate count None) }
 {
@@ -148,10 +148,11 @@ impl<'a, S: Signals> Signals for Counting<'a, S> {
 }
 
 impl Delays {
-    /// The delays of alarms before the first scan. Fails if allocation fails.
+    /// The delays of alarms before the first scan.
     pub fn new(alloc: Global, delays: Vec<u32>) -> Result<Delays, AllocError>
         requires { length delays.items < 2 ^ 32 }
-        ensures { IfOk result (λ made. made ≡ record { delays = delays.items; since = replicate (length delays.items) None; last = 0 }) }
+        ensures { IfOk result (λ made. made
+            ≡ record { delays = delays.items; since = replicate (length delays.items) None; last = 0 }) }
     {
         let since = none_yet(alloc, delays.len())?;
         let due = Shelf::new(alloc, delays.len())?;
@@ -208,8 +209,8 @@ impl Delays {
         self.last
     }
 
-    /// The delays of new alarms, after the same last scan. One that keeps the scans of the old alarm of a number has been met since when that one has,
-    /// whatever its own delay is; the others have had no scan yet. The old delays stay as they are. Fails if allocation fails.
+    /// The delays of new alarms, after the same last scan. One that keeps the scans of the old alarm of a number has been met since when that one
+    /// has, whatever its own delay is; the others have had no scan yet. The old delays stay as they are.
     pub fn reloaded(
         &self,
         alloc: Global,
@@ -231,7 +232,8 @@ impl Delays {
     /// Whether the condition of an alarm counts in a scan.
     fn counts(&self, at: usize, condition: bool, moment: u64) -> bool
         requires { at < length self.now.delays }
-        ensures { (delay : ℕ) (r : Option ℕ) → slice_get self.now.delays at ≡ Some delay → slice_get self.now.since at ≡ Some r → result ≡ delayed condition delay moment r }
+        ensures { (delay : ℕ) (r : Option ℕ) → slice_get self.now.delays at ≡ Some delay
+            → slice_get self.now.since at ≡ Some r → result ≡ delayed condition delay moment r }
     {
         delayed(condition, self.delays[at], moment, self.since[at].start())
     }
@@ -248,7 +250,8 @@ impl Delays {
     /// Takes the condition of one alarm in the scan of the last moment. It allocates nothing.
     fn put(&mut self, at: usize, condition: bool)
         requires { at < length self.old.delays }
-        ensures { self.new ≡ record self.old { since = put_since self.old.last self.old.since (at, condition) } }
+        ensures { self.new
+            ≡ record self.old { since = put_since self.old.last self.old.since (at, condition) } }
     {
         let last = self.last;
         let before = self.since[at];
@@ -257,7 +260,8 @@ impl Delays {
 
     /// Takes the condition of the alarm of a number in the scan of the last moment. A number that isn't there changes nothing.
     fn put_at(&mut self, number: u32, condition: bool)
-        ensures { self.new ≡ record self.old { since = put_since self.old.last self.old.since (number, condition) } }
+        ensures { self.new
+            ≡ record self.old { since = put_since self.old.last self.old.since (number, condition) } }
     {
         let at = number as usize;
         if at < self.delays.len() {
@@ -278,7 +282,9 @@ impl Delays {
     /// Takes the last conditions of alarms, by their numbers, in the scan of the last moment, where no alarm has a delay.
     fn put_last(&mut self, moved: &[(u32, Alarm)])
         requires { have_none self.old.delays ≡ true }
-        ensures { self.new ≡ record self.old { since = fold (put_since self.old.last) self.old.since (last_conditions moved.now) } }
+        ensures { self.new
+            ≡ record self.old
+            { since = fold (put_since self.old.last) self.old.since (last_conditions moved.now) } }
     {
         put_last(&mut self.since, moved, self.last);
     }
@@ -299,8 +305,8 @@ impl Delays {
         }
     }
 
-    /// Lists the marked alarms, of which none comes before a first place, in order, each by its number with its condition, in place of what was listed
-    /// before. Returns a place before which all of them are. Fails if allocation fails.
+    /// Lists the marked alarms, of which none comes before a first place, in order, each by its number with its condition, in place of what was
+    /// listed before. Returns a place before which all of them are.
     // The bits of a word are taken off one by one, lowest first, which is the shortest way from one mark to the next.
     fn list_met<S: Signals>(
         &self,
@@ -315,7 +321,8 @@ impl Delays {
         requires marks { length marks.now ≡ length self.now.since }
         requires unmarked { ConditionsStay marks.now (S.conditions raw.now) self.now.since }
         ensures met { OnOk result (AreMet 0 (S.conditions raw.now) self.now.since met.new.items) }
-        ensures end { IfOk result (λ end. (n : ℕ) → end ≤ n → n < length marks.now → slice_get marks.now n ≡ Some false) }
+        ensures end { IfOk result (λ end. (n : ℕ) → end ≤ n → n < length marks.now
+            → slice_get marks.now n ≡ Some false) }
     {
         met.clear();
         let words = marks.words();
@@ -333,9 +340,9 @@ impl Delays {
         Ok(end)
     }
 
-    /// Lists the alarms of a bank that a scan moves, and the changes of their codes, as `Bank::list_moved` does, by the conditions that count; and the
-    /// alarms whose conditions may have changed, for `apply`. It looks at the marked alarms, and marks and looks at those whose conditions may come to
-    /// count by time alone. Fails if allocation fails.
+    /// Lists the alarms of a bank that a scan moves, and the changes of their codes, as `Bank::list_moved` does, by the conditions that count; and
+    /// the alarms whose conditions may have changed, for `apply`. It looks at the marked alarms, and marks and looks at those whose conditions may
+    /// come to count by time alone.
     pub fn list_moved<S: Signals>(
         &self,
         bank: &Bank,
@@ -351,9 +358,15 @@ impl Delays {
         requires marks { length marks.old ≡ length self.now.delays }
         requires conditions { length (S.conditions raw.now) ≡ length self.now.delays }
         requires suppressions { length (S.suppressions raw.now) ≡ length self.now.delays }
-        requires unmarked { RawStay marks.old (S.conditions raw.now) (S.suppressions raw.now) self.now bank.now.alarms }
-        ensures moved { OnOk result (AreMovesOf bank.now.alarms (scan_each (delayed_each (S.conditions raw.now) moment self.now.delays self.now.since) (S.suppressions raw.now) moment bank.now.alarms) moved.new.items changes.new.items) }
-        ensures met { OnOk result (after_met met.new.items moment moved.new.items self.now ≡ after_conditions (S.conditions raw.now) moment self.now) }
+        requires unmarked { RawStay marks.old (S.conditions raw.now) (S.suppressions raw.now) self.now
+            bank.now.alarms }
+        ensures moved { OnOk result
+            (AreMovesOf bank.now.alarms
+            (scan_each (delayed_each (S.conditions raw.now) moment self.now.delays self.now.since)
+            (S.suppressions raw.now) moment bank.now.alarms) moved.new.items changes.new.items) }
+        ensures met { OnOk result
+            (after_met met.new.items moment moved.new.items self.now
+            ≡ after_conditions (S.conditions raw.now) moment self.now) }
     {
         self.due.mark_most(moment, marks);
         let first = marks.first();
@@ -367,8 +380,8 @@ impl Delays {
         Ok(())
     }
 
-    /// Lists the same where no alarm has a delay, and where the last condition of each alarm is the one that counted in the last scan. It looks at the marked
-    /// alarms once: that a condition has changed is told by the alarm, which moves. Fails if allocation fails.
+    /// Lists the same where no alarm has a delay, and where the last condition of each alarm is the one that counted in the last scan. It looks at
+    /// the marked alarms once: that a condition has changed is told by the alarm, which moves.
     pub fn list_plain<S: Signals>(
         &self,
         bank: &Bank,
@@ -386,9 +399,15 @@ impl Delays {
         requires marks { length marks.now ≡ length self.now.delays }
         requires conditions { length (S.conditions raw.now) ≡ length self.now.delays }
         requires suppressions { length (S.suppressions raw.now) ≡ length self.now.delays }
-        requires unmarked { RawStay marks.now (S.conditions raw.now) (S.suppressions raw.now) self.now bank.now.alarms }
-        ensures moved { OnOk result (AreMovesOf bank.now.alarms (scan_each (delayed_each (S.conditions raw.now) moment self.now.delays self.now.since) (S.suppressions raw.now) moment bank.now.alarms) moved.new.items changes.new.items) }
-        ensures met { OnOk result (after_met met.new.items moment moved.new.items self.now ≡ after_conditions (S.conditions raw.now) moment self.now) }
+        requires unmarked { RawStay marks.now (S.conditions raw.now) (S.suppressions raw.now) self.now
+            bank.now.alarms }
+        ensures moved { OnOk result
+            (AreMovesOf bank.now.alarms
+            (scan_each (delayed_each (S.conditions raw.now) moment self.now.delays self.now.since)
+            (S.suppressions raw.now) moment bank.now.alarms) moved.new.items changes.new.items) }
+        ensures met { OnOk result
+            (after_met met.new.items moment moved.new.items self.now
+            ≡ after_conditions (S.conditions raw.now) moment self.now) }
     {
         let _last = self.last;
         met.clear();

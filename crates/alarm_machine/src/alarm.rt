@@ -192,8 +192,14 @@ impl Alarm {
     /// Takes a state, with the condition and the suppression of a scan.
     #[tactic(auto, using(crate::proofs::Kept::state_back))]
     fn put(&mut self, state: AlarmState, condition: bool, suppressed: bool)
-        requires { IsAlarm (record { latching = self.old.latching; max_shelve_ms = self.old.max_shelve_ms; state = state; condition = condition; suppressed = suppressed }) }
-        ensures { self.new ≡ record { latching = self.old.latching; max_shelve_ms = self.old.max_shelve_ms; state = state; condition = condition; suppressed = suppressed } }
+        requires { IsAlarm
+            (record
+            {latching = self.old.latching; max_shelve_ms = self.old.max_shelve_ms; state = state;
+            condition = condition; suppressed = suppressed}) }
+        ensures { self.new
+            ≡ record
+            {latching = self.old.latching; max_shelve_ms = self.old.max_shelve_ms; state = state;
+            condition = condition; suppressed = suppressed} }
     {
         self.code = state.code();
         self.end = kept_end(state);
@@ -217,7 +223,8 @@ impl Alarm {
     fn on_order(&self, verb: Verb, last: u64) -> Result<AlarmState, OrderFault>
         requires { last ≤ LAST_MOMENT }
         ensures state { result ≡ on_order verb last self.now }
-        ensures stays { IfOk result (λ s. EndsInRange s × (is_settled s self.now.condition self.now.suppressed ≡ true)) }
+        ensures stays { IfOk result (λ s. EndsInRange s
+            × (is_settled s self.now.condition self.now.suppressed ≡ true)) }
     {
         match (verb, self.state()) {
             (Verb::Ack, AlarmState::Unack) => Ok(AlarmState::Acked),

@@ -10,10 +10,12 @@ use plant_cells::Cells;
 use std::alloc::{AllocError, Global};
 use std::mem::replace;
 
-/// Puts a link at the head of a global's chain, and returns the one that was there. Fails if allocation fails.
+/// Puts a link at the head of a global's chain, and returns the one that was there.
 fn put_first(first: &mut Vec<u32>, global: u32, link: u32) -> Result<u32, AllocError>
     ensures found { IfOk result (λ found. found ≡ slice_index first.old.items global) }
-    ensures put { IfOk result (λ found. (g : ℕ) → slice_index first.new.items g ≡ (if g == global then link else slice_index first.old.items g)) }
+    ensures put { IfOk result (λ found. (g : ℕ)
+        → slice_index first.new.items g
+        ≡ (if g == global then link else slice_index first.old.items g)) }
 {
     let at = global as usize;
     while first.len() <= at {
@@ -36,7 +38,7 @@ impl Drop for Chains {
     }
 }
 
-/// The chains of alarms by the global of each, if it has one. Fails if allocation fails.
+/// The chains of alarms by the global of each, if it has one.
 pub fn chains_of(alloc: Global, keys: &[Option<u32>]) -> Result<Chains, AllocError>
     requires { length keys.now < 2 ^ 32 }
     ensures { IfOk result (λ chains. AreChains keys.now chains.first.items chains.next.items) }
@@ -70,12 +72,15 @@ impl Drop for Ranges {
     }
 }
 
-/// Appends the alarms of a chain. Fails if allocation fails.
+/// Appends the alarms of a chain.
 fn push_chain(next: &[u32], from: u32, alarms: &mut Vec<u32>) -> Result<(), AllocError>
     requires down { GoesDown next.now }
     requires from { from ≤ length next.now }
     ensures front { OnOk result (IsLonger (length next.now) alarms.old.items alarms.new.items) }
-    ensures stand { OnOk result ((keys : List (Option ℕ)) (first : List ℕ) (g n : ℕ) → AreChains keys first next.now → from ≡ slice_index first g → HasKey keys n g → StandsIn alarms.new.items (length alarms.old.items) (length alarms.new.items) n) }
+    ensures stand { OnOk result
+        ((keys : List (Option ℕ)) (first : List ℕ) (g n : ℕ) → AreChains keys first next.now
+        → from ≡ slice_index first g → HasKey keys n g
+        → StandsIn alarms.new.items (length alarms.old.items) (length alarms.new.items) n) }
 {
     let mut link = from;
     while link != 0 {
@@ -95,12 +100,15 @@ fn place_of(number: usize) -> Result<u32, AllocError>
     }
 }
 
-/// The alarms of each global side by side, by their chains. Fails if allocation fails.
+/// The alarms of each global side by side, by their chains.
 pub fn ranges_of(alloc: Global, chains: &Chains) -> Result<Ranges, AllocError>
     requires down { GoesDown chains.now.next.items }
     requires tops { HaveTops chains.now.first.items chains.now.next.items }
-    ensures ranges { IfOk result (λ ranges. AreRanges (length chains.now.next.items) ranges.starts.items ranges.alarms.items) }
-    ensures stand { IfOk result (λ ranges. (keys : List (Option ℕ)) → AreChains keys chains.now.first.items chains.now.next.items → HaveRanges keys ranges.starts.items ranges.alarms.items) }
+    ensures ranges { IfOk result (λ ranges. AreRanges (length chains.now.next.items) ranges.starts.items
+        ranges.alarms.items) }
+    ensures stand { IfOk result (λ ranges. (keys : List (Option ℕ))
+        → AreChains keys chains.now.first.items chains.now.next.items
+        → HaveRanges keys ranges.starts.items ranges.alarms.items) }
 {
     let mut starts = Vec::new(alloc);
     let mut alarms = Vec::new(alloc);
@@ -119,7 +127,8 @@ fn mark_between(alarms: &[u32], start: usize, stop: usize, marks: &mut Marks)
     requires numbers { (p : ℕ) → p < length alarms.now → slice_index alarms.now p < length marks.old }
     ensures size { length marks.new ≡ length marks.old }
     ensures kept { (n : ℕ) → slice_get marks.new n ≡ Some false → slice_get marks.old n ≡ Some false }
-    ensures marked { (n : ℕ) → StandsIn alarms.now start stop n → slice_get marks.new n ≡ Some false → ⊥ }
+    ensures marked { (n : ℕ) → StandsIn alarms.now start stop n → slice_get marks.new n ≡ Some false
+        → ⊥ }
 {
     for place in start..stop {
         marks.set(alarms[place] as usize);
@@ -133,7 +142,9 @@ fn mark_global(ranges: &Ranges, before: &Cells, now: &Cells, at: usize, marks: &
     requires at { at + 1 < length ranges.now.starts.items }
     ensures size { length marks.new ≡ length marks.old }
     ensures kept { (n : ℕ) → slice_get marks.new n ≡ Some false → slice_get marks.old n ≡ Some false }
-    ensures marked { (keys : List (Option ℕ)) (n : ℕ) → HaveRanges keys ranges.now.starts.items ranges.now.alarms.items → HasKey keys n at → slice_get marks.new n ≡ Some false → value_at before.now at ≡ value_at now.now at }
+    ensures marked { (keys : List (Option ℕ)) (n : ℕ)
+        → HaveRanges keys ranges.now.starts.items ranges.now.alarms.items → HasKey keys n at
+        → slice_get marks.new n ≡ Some false → value_at before.now at ≡ value_at now.now at }
 {
     if number_at(before, at) == number_at(now, at) {
         return;
@@ -156,7 +167,9 @@ fn mark_globals(
     requires ranges { AreRanges (length marks.old) ranges.now.starts.items ranges.now.alarms.items }
     ensures size { length marks.new ≡ length marks.old }
     ensures kept { (n : ℕ) → slice_get marks.new n ≡ Some false → slice_get marks.old n ≡ Some false }
-    ensures marked { (keys : List (Option ℕ)) → HaveRanges keys ranges.now.starts.items ranges.now.alarms.items → ChangesOfAreMarked from end keys (value_at before.now) (value_at now.now) marks.new }
+    ensures marked { (keys : List (Option ℕ))
+        → HaveRanges keys ranges.now.starts.items ranges.now.alarms.items
+        → ChangesOfAreMarked from end keys (value_at before.now) (value_at now.now) marks.new }
 {
     for at in from..end.min(ranges.starts.len().saturating_sub(1)) {
         mark_global(ranges, before, now, at, marks);
@@ -172,7 +185,8 @@ const BLOCK: usize = 8;
 fn is_same(before: &[i64], now: &[i64], from: usize) -> bool
     requires before { from + 8 ≤ length before.now }
     requires now { from + 8 ≤ length now.now }
-    ensures { result ≡ true → (g : ℕ) → from ≤ g → g < from + 8 → slice_index_or before.now g (pos 0) ≡ slice_index_or now.now g (pos 0) }
+    ensures { result ≡ true → (g : ℕ) → from ≤ g → g < from + 8
+        → slice_index_or before.now g (pos 0) ≡ slice_index_or now.now g (pos 0) }
 {
     let mut same = true;
     for at in from..from + BLOCK {
@@ -192,11 +206,17 @@ pub fn mark_changed(
     now: &Cells,
     marks: &mut Marks,
 )
-    requires conditions { AreRanges (length marks.old) conditions.now.starts.items conditions.now.alarms.items }
-    requires suppressions { AreRanges (length marks.old) suppressions.now.starts.items suppressions.now.alarms.items }
+    requires conditions { AreRanges (length marks.old) conditions.now.starts.items
+        conditions.now.alarms.items }
+    requires suppressions { AreRanges (length marks.old) suppressions.now.starts.items
+        suppressions.now.alarms.items }
     ensures size { length marks.new ≡ length marks.old }
-    ensures conditions { (keys : List (Option ℕ)) → HaveRanges keys conditions.now.starts.items conditions.now.alarms.items → ChangesAreMarked keys (value_at before.now) (value_at now.now) marks.new }
-    ensures suppressions { (keys : List (Option ℕ)) → HaveRanges keys suppressions.now.starts.items suppressions.now.alarms.items → ChangesAreMarked keys (value_at before.now) (value_at now.now) marks.new }
+    ensures conditions { (keys : List (Option ℕ))
+        → HaveRanges keys conditions.now.starts.items conditions.now.alarms.items
+        → ChangesAreMarked keys (value_at before.now) (value_at now.now) marks.new }
+    ensures suppressions { (keys : List (Option ℕ))
+        → HaveRanges keys suppressions.now.starts.items suppressions.now.alarms.items
+        → ChangesAreMarked keys (value_at before.now) (value_at now.now) marks.new }
 {
     let old = before.as_slice();
     let new = now.as_slice();

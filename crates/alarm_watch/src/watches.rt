@@ -45,7 +45,7 @@ impl Model for Watches {
     ghost invariant = { λ w. IsIndex w.watches.items w.conditions.starts.items w.conditions.alarms.items w.suppressions.starts.items w.suppressions.alarms.items };
 }
 
-/// The global of each alarm's condition. Fails if allocation fails.
+/// The global of each alarm's condition.
 fn condition_keys(alloc: Global, watches: &[Watch]) -> Result<Vec<Option<u32>>, AllocError>
     ensures { IfOk result (λ keys. keys.items ≡ condition_keys watches.now) }
 {
@@ -56,7 +56,7 @@ fn condition_keys(alloc: Global, watches: &[Watch]) -> Result<Vec<Option<u32>>, 
     Ok(keys)
 }
 
-/// The global that suppresses each alarm, if it has one. Fails if allocation fails.
+/// The global that suppresses each alarm, if it has one.
 fn suppress_keys(alloc: Global, watches: &[Watch]) -> Result<Vec<Option<u32>>, AllocError>
     ensures { IfOk result (λ keys. keys.items ≡ suppress_keys watches.now) }
 {
@@ -95,7 +95,7 @@ pub struct LastScan<'a> {
 }
 
 impl Watches {
-    /// Makes an index of what each alarm watches. Fails if allocation fails.
+    /// Makes an index of what each alarm watches.
     pub fn new(alloc: Global, watches: Vec<Watch>) -> Result<Watches, AllocError>
         requires { length watches.items < 2 ^ 32 }
         ensures { IfOk result (λ made. made ≡ watches.items) }
@@ -115,16 +115,18 @@ impl Watches {
     fn mark(&self, before: &Cells, now: &Cells, marks: &mut Marks)
         requires { length marks.old ≡ length self.now }
         ensures size { length marks.new ≡ length marks.old }
-        ensures conditions { ChangesAreMarked (condition_keys self.now) (value_at before.now) (value_at now.now) marks.new }
-        ensures suppressions { ChangesAreMarked (suppress_keys self.now) (value_at before.now) (value_at now.now) marks.new }
+        ensures conditions { ChangesAreMarked (condition_keys self.now) (value_at before.now)
+            (value_at now.now) marks.new }
+        ensures suppressions { ChangesAreMarked (suppress_keys self.now) (value_at before.now)
+            (value_at now.now) marks.new }
     {
         mark_changed(&self.conditions, &self.suppressions, before, now, marks);
     }
 
-    /// Lists the alarms that a scan moves, and the changes of their codes, as `Bank::list_moved` does, by the conditions that count; and the alarms whose
-    /// conditions may have changed, for `Delays::apply`. `now` is what the scan's programs leave. Where the alarms follow the cells, it looks only at
-    /// the alarms one of whose globals changed and at those that come to count by time alone, or at all if a shelf ends. The marks are for their
-    /// room. Fails if allocation fails.
+    /// Lists the alarms that a scan moves, and the changes of their codes, as `Bank::list_moved` does, by the conditions that count; and the alarms
+    /// whose conditions may have changed, for `Delays::apply`. `now` is what the scan's programs leave. Where the alarms follow the cells, it looks
+    /// only at the alarms one of whose globals changed and at those that come to count by time alone, or at all if a shelf ends. The marks are for
+    /// their room.
     pub fn list_moved(
         &self,
         alloc: Global,
@@ -139,9 +141,17 @@ impl Watches {
         requires later { last.now.delays.now.last ≤ moment }
         requires each { length last.now.bank.now.alarms ≡ length self.now }
         requires delays { length last.now.delays.now.delays ≡ length self.now }
-        requires follow { last.now.follows ≡ true → Follow (value_at last.now.cells.now) self.now last.now.delays.now last.now.bank.now.alarms }
-        ensures moved { OnOk result (AreMovesOf last.now.bank.now.alarms (alarms_watched (value_at now.now) moment self.now last.now.delays.now last.now.bank.now.alarms) moved.new.items changes.new.items) }
-        ensures met { OnOk result (after_met met.new.items moment moved.new.items last.now.delays.now ≡ after_conditions (watched_conditions (value_at now.now) self.now) moment last.now.delays.now) }
+        requires follow { last.now.follows ≡ true
+            → Follow (value_at last.now.cells.now) self.now last.now.delays.now
+            last.now.bank.now.alarms }
+        ensures moved { OnOk result
+            (AreMovesOf last.now.bank.now.alarms
+            (alarms_watched (value_at now.now) moment self.now last.now.delays.now
+            last.now.bank.now.alarms) moved.new.items changes.new.items) }
+        ensures met { OnOk result
+            (after_met met.new.items moment moved.new.items last.now.delays.now
+            ≡ after_conditions (watched_conditions (value_at now.now) self.now) moment
+            last.now.delays.now) }
     {
         let LastScan {
             bank,

@@ -13,7 +13,7 @@ use std::thread::Threads;
 /// Workers that run the programs of a plant.
 pub type Workers = Standing<Job, Start, Done, Ungated>;
 
-/// So many workers, of which the caller is one. Fails if allocation fails, or a thread isn't to be had.
+/// So many workers, of which the caller is one. Fails if memory is refused, or a thread isn't to be had.
 pub fn workers<R: Threads + Wait + Clone + Send + Drop + 'static>(
     rt: &R,
     alloc: Global,

@@ -56,7 +56,9 @@ pub(crate) fn order_in(
     order: Order,
 ) -> Result<PreparedOrder, EngineFault>
     ensures engine { (engine.new.plant ≡ engine.old.plant) × (engine.new.history ≡ engine.old.history) }
-    ensures ok { IfOk result (λ p. FitsOrder engine.new p × (order_event (state_of engine.old) console order ≡ Ok (event.Order p.console p.order)) × (p.console ≡ console) × (p.order ≡ order)) }
+    ensures ok { IfOk result (λ p. FitsOrder engine.new p
+        × (order_event (state_of engine.old) console order ≡ Ok (event.Order p.console p.order))
+        × (p.console ≡ console) × (p.order ≡ order)) }
     ensures err { IfErr result (λ e. IsDue e (order_event (state_of engine.old) console order)) }
     ensures fault { IfErr result (λ e. IsOrderFault e) }
 {
@@ -64,7 +66,7 @@ pub(crate) fn order_in(
 }
 
 impl<L: Ledger> Book<L> {
-    /// The book of a plant before the first event. Fails if memory was refused.
+    /// The book of a plant before the first event.
     pub fn new(alloc: Global, plant: Plant, tally: Tally<L>) -> Result<Book<L>, AllocError>
         requires { tally.total ≡ 0 }
         ensures { IfOk result (λ b. (b.plant ≡ plant) × (b.history ≡ [])) }
@@ -85,9 +87,10 @@ impl<L: Ledger> Book<L> {
     }
 
     /// The texts of exactly the journal's rows whose numbers are `from` and the next, `n` in all, in order: fewer where the journal ends before, and
-    /// none behind its end. Rows are numbered from 1. Fails if memory was refused.
+    /// none behind its end. Rows are numbered from 1.
     pub fn page(&self, alloc: Global, from: u64, n: u32) -> Result<Vec<String>, AllocError>
-        ensures { IfOk result (λ lines. IsPage self.now.plant.epoch (journal_of self.now.plant self.now.history) from n (map string_bytes lines.items)) }
+        ensures { IfOk result (λ lines. IsPage self.now.plant.epoch
+            (journal_of self.now.plant self.now.history) from n (map string_bytes lines.items)) }
     {
         page_of(alloc, &self.engine, from, n)
     }
@@ -103,7 +106,8 @@ impl<L: Ledger> Book<L> {
     ) -> Result<Prepared, EngineFault>
         ensures plant { self.new.plant ≡ self.old.plant }
         ensures history { self.new.history ≡ self.old.history }
-        ensures ok { IfOk result (λ p. Fits self.new p × (scan_event (state_of self.old) pairs.now moment ≡ Ok p.event)) }
+        ensures ok { IfOk result (λ p. Fits self.new p
+            × (scan_event (state_of self.old) pairs.now moment ≡ Ok p.event)) }
         ensures err { IfErr result (λ e. IsDue e (scan_event (state_of self.old) pairs.now moment)) }
         ensures no_crew { IsNoCrews result }
     {
@@ -135,7 +139,9 @@ impl<L: Ledger> Book<L> {
     ) -> Result<PreparedOrder, EngineFault>
         ensures plant { self.new.plant ≡ self.old.plant }
         ensures history { self.new.history ≡ self.old.history }
-        ensures ok { IfOk result (λ p. FitsOrder self.new p × (order_event (state_of self.old) console order ≡ Ok (event.Order p.console p.order)) × (p.console ≡ console) × (p.order ≡ order)) }
+        ensures ok { IfOk result (λ p. FitsOrder self.new p
+            × (order_event (state_of self.old) console order ≡ Ok (event.Order p.console p.order))
+            × (p.console ≡ console) × (p.order ≡ order)) }
         ensures err { IfErr result (λ e. IsDue e (order_event (state_of self.old) console order)) }
         ensures fault { IfErr result (λ e. IsOrderFault e) }
     {
@@ -147,7 +153,8 @@ impl<L: Ledger> Book<L> {
         requires fits { FitsOrder self.old prepared }
         requires part { 0 < share.old.parts }
         ensures plant { self.new.plant ≡ self.old.plant }
-        ensures history { self.new.history ≡ self.old.history ++ event.Order prepared.console prepared.order ∷ [] }
+        ensures history { self.new.history
+            ≡ self.old.history ++ event.Order prepared.console prepared.order ∷ [] }
         ensures amount { share.new.amount ≡ share.old.amount + 1 }
         ensures parts { share.new.parts ≡ share.old.parts }
     {
@@ -165,7 +172,8 @@ impl<L: Ledger> Book<L> {
         ensures plant { self.new.plant ≡ self.old.plant }
         ensures history { self.new.history ≡ self.old.history }
         ensures ok { IfOk result (λ p. FitsReload self.new p × (p.plant ≡ plant)) }
-        ensures err { IfErr result (λ r. IsReloadRefusal (state_of self.old) plant r.fault × (r.plant ≡ plant)) }
+        ensures err { IfErr result (λ r. IsReloadRefusal (state_of self.old) plant r.fault
+            × (r.plant ≡ plant)) }
     {
         self.engine.prepare_reload(alloc, plant)
     }

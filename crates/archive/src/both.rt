@@ -57,9 +57,12 @@ pub fn ready_scan<L: Ledger, C: Crew<Job, Start, Done, H>, H>(
     requires asked { C.asks }
     ensures engine { (engine.new.plant ≡ engine.old.plant) × (engine.new.history ≡ engine.old.history) }
     ensures book { (book.new.plant ≡ book.old.plant) × (book.new.history ≡ book.old.history) }
-    ensures own { IfOk result (λ r. Fits engine.new r.own × (scan_event (state_of engine.old) pairs.now moment ≡ Ok r.own.event)) }
-    ensures kept { IfOk result (λ r. Fits book.new r.kept × (scan_event (state_of book.old) pairs.now moment ≡ Ok r.kept.event)) }
-    ensures err { IfErr result (λ e. IsDueInBoth e (scan_event (state_of engine.old) pairs.now moment) (scan_event (state_of book.old) pairs.now moment)) }
+    ensures own { IfOk result (λ r. Fits engine.new r.own
+        × (scan_event (state_of engine.old) pairs.now moment ≡ Ok r.own.event)) }
+    ensures kept { IfOk result (λ r. Fits book.new r.kept
+        × (scan_event (state_of book.old) pairs.now moment ≡ Ok r.kept.event)) }
+    ensures err { IfErr result (λ e. IsDueInBoth e (scan_event (state_of engine.old) pairs.now moment)
+        (scan_event (state_of book.old) pairs.now moment)) }
     ensures crew { C.faulted crew.new ≡ faults_by (C.faulted crew.old) result }
 {
     let own = engine.prepare(rt, alloc, crew, pairs, moment)?;
@@ -104,9 +107,13 @@ pub fn ready_order<L: Ledger>(
 ) -> Result<ReadyOrder, EngineFault>
     ensures engine { (engine.new.plant ≡ engine.old.plant) × (engine.new.history ≡ engine.old.history) }
     ensures book { (book.new.plant ≡ book.old.plant) × (book.new.history ≡ book.old.history) }
-    ensures own { IfOk result (λ r. FitsOrder engine.new r.own × (order_event (state_of engine.old) console order ≡ Ok (event.Order console order)) × (r.own.console ≡ console) × (r.own.order ≡ order)) }
-    ensures kept { IfOk result (λ r. FitsOrder book.new r.kept × (r.kept.console ≡ console) × (r.kept.order ≡ order)) }
-    ensures err { IfErr result (λ e. IsDueInBoth e (order_event (state_of engine.old) console order) (order_event (state_of book.old) console order)) }
+    ensures own { IfOk result (λ r. FitsOrder engine.new r.own
+        × (order_event (state_of engine.old) console order ≡ Ok (event.Order console order))
+        × (r.own.console ≡ console) × (r.own.order ≡ order)) }
+    ensures kept { IfOk result (λ r. FitsOrder book.new r.kept × (r.kept.console ≡ console)
+        × (r.kept.order ≡ order)) }
+    ensures err { IfErr result (λ e. IsDueInBoth e (order_event (state_of engine.old) console order)
+        (order_event (state_of book.old) console order)) }
     ensures fault { IfErr result (λ e. IsOrderFault e) }
 {
     let own = order_in(alloc, engine, console, order)?;
@@ -125,8 +132,10 @@ pub fn commit_order<L: Ledger>(
     requires kept { FitsOrder book.old ready.kept }
     requires part { 0 < share.old.parts }
     ensures plants { (engine.new.plant ≡ engine.old.plant) × (book.new.plant ≡ book.old.plant) }
-    ensures engine { engine.new.history ≡ engine.old.history ++ event.Order ready.own.console ready.own.order ∷ [] }
-    ensures book { book.new.history ≡ book.old.history ++ event.Order ready.kept.console ready.kept.order ∷ [] }
+    ensures engine { engine.new.history
+        ≡ engine.old.history ++ event.Order ready.own.console ready.own.order ∷ [] }
+    ensures book { book.new.history
+        ≡ book.old.history ++ event.Order ready.kept.console ready.kept.order ∷ [] }
     ensures share { (share.new.amount ≡ share.old.amount + 1) × (share.new.parts ≡ share.old.parts) }
     ensures reply { result ≡ reply_to (state_of engine.old) ready.own.console ready.own.order }
 {
@@ -163,7 +172,8 @@ pub fn ready_reload<L: Ledger>(
     ensures book { (book.new.plant ≡ book.old.plant) × (book.new.history ≡ book.old.history) }
     ensures own { IfOk result (λ r. FitsReload engine.new r.own × (r.own.plant ≡ plant)) }
     ensures kept { IfOk result (λ r. FitsReload book.new r.kept × (r.kept.plant ≡ plant)) }
-    ensures err { IfErr result (λ r. IsReloadRefusedInBoth (state_of engine.old) (state_of book.old) plant r.fault × (r.plant ≡ plant)) }
+    ensures err { IfErr result (λ r. IsReloadRefusedInBoth (state_of engine.old) (state_of book.old)
+        plant r.fault × (r.plant ≡ plant)) }
 {
     let own = engine.prepare_reload(alloc, plant)?;
     match kept_reload(alloc, book, own.plant()) {

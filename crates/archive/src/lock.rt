@@ -44,7 +44,9 @@ impl<L: Ledger> Archive<L> {
         from: u64,
         n: u32,
     ) -> Result<Vec<String>, AllocError>
-        ensures { IfOk result (λ lines. (b : PlainEngine) × IsLawfulHistory b.plant b.history × IsPage b.plant.epoch (journal_of b.plant b.history) from n (map string_bytes lines.items)) }
+        ensures { IfOk result (λ lines. (b : PlainEngine) × IsLawfulHistory b.plant b.history
+            × IsPage b.plant.epoch (journal_of b.plant b.history) from n
+            (map string_bytes lines.items)) }
     {
         let book = self.book.lock(rt);
         page_of(alloc, book.engine(), from, n)

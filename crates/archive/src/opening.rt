@@ -12,7 +12,7 @@ use std::sync::ledger::{Blank, Ledger, Share};
 use std::sync::{Arc, Wait};
 use trace::Trace;
 
-/// The archive of a plant before the first event, and the whole share of its ledger. Fails if memory was refused.
+/// The archive of a plant before the first event, and the whole share of its ledger.
 fn open_archive<L: Ledger>(
     alloc: Global,
     plant: &Plant,

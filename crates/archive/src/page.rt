@@ -17,14 +17,15 @@ fn page_end(rows: u64, from: u64, n: u32) -> u64
     }
 }
 
-/// The texts of the journal's rows whose numbers are from one on, so many at most, in order. Fails if memory was refused.
+/// The texts of the journal's rows whose numbers are from one on, so many at most, in order.
 pub(crate) fn page_of(
     alloc: Global,
     engine: &Engine,
     from: u64,
     n: u32,
 ) -> Result<Vec<String>, AllocError>
-    ensures { IfOk result (λ lines. IsPage engine.now.plant.epoch (journal_of engine.now.plant engine.now.history) from n (map string_bytes lines.items)) }
+    ensures { IfOk result (λ lines. IsPage engine.now.plant.epoch
+        (journal_of engine.now.plant engine.now.history) from n (map string_bytes lines.items)) }
 {
     let rows = engine.journal().len();
     let mut lines = Vec::new(alloc);

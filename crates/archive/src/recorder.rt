@@ -76,14 +76,19 @@ impl<L: Ledger> Recorder<L> {
         requires asked { C.asks }
         ensures plant { self.new.engine.plant ≡ self.old.engine.plant }
         ensures ok { IfOk result (λ r. TakesScan self.old.engine self.new.engine pairs.now moment r) }
-        ensures err { IfErr result (λ e. IsScanDue (self.old.share.parts ≡ L.parts) e self.old.engine pairs.now moment) }
+        ensures err { IfErr result (λ e. IsScanDue (self.old.share.parts ≡ L.parts) e self.old.engine
+            pairs.now moment) }
         ensures kept { OnErr result (self.new.engine.history ≡ self.old.engine.history) }
-        ensures unshown { OnErr result ((published self.new.board ≡ published self.old.board) × (self.new.refusals ≡ self.old.refusals)) }
+        ensures unshown { OnErr result
+            ((published self.new.board ≡ published self.old.board)
+            × (self.new.refusals ≡ self.old.refusals)) }
         ensures crew { C.faulted crew.new ≡ faults_by (C.faulted crew.old) result }
         ensures share { self.new.share.parts ≡ self.old.share.parts }
         ensures log { log_kept self.new.board ≡ log_kept self.old.board }
         ensures counted { length self.old.refusals ≤ length self.new.refusals }
-        ensures shown { OnOk result (length self.new.refusals ≡ length self.old.refusals → ShowsAll self.new.engine.history self.new.board) }
+        ensures shown { OnOk result
+            (length self.new.refusals ≡ length self.old.refusals
+            → ShowsAll self.new.engine.history self.new.board) }
     {
         let Recorder {
             engine,
@@ -123,13 +128,18 @@ impl<L: Ledger> Recorder<L> {
     ) -> Result<Reloaded, ReloadRefused>
         ensures plant { self.new.engine.plant ≡ self.old.engine.plant }
         ensures ok { IfOk result (λ r. TakesReload self.old.engine self.new.engine plant r) }
-        ensures err { IfErr result (λ r. (r.plant ≡ plant) × IsReloadDue (self.old.share.parts ≡ L.parts) r.fault self.old.engine plant) }
+        ensures err { IfErr result (λ r. (r.plant ≡ plant)
+            × IsReloadDue (self.old.share.parts ≡ L.parts) r.fault self.old.engine plant) }
         ensures kept { OnErr result (self.new.engine.history ≡ self.old.engine.history) }
-        ensures unshown { OnErr result ((published self.new.board ≡ published self.old.board) × (self.new.refusals ≡ self.old.refusals)) }
+        ensures unshown { OnErr result
+            ((published self.new.board ≡ published self.old.board)
+            × (self.new.refusals ≡ self.old.refusals)) }
         ensures share { self.new.share.parts ≡ self.old.share.parts }
         ensures log { log_kept self.new.board ≡ log_kept self.old.board }
         ensures counted { length self.old.refusals ≤ length self.new.refusals }
-        ensures shown { OnOk result (length self.new.refusals ≡ length self.old.refusals → ShowsAll self.new.engine.history self.new.board) }
+        ensures shown { OnOk result
+            (length self.new.refusals ≡ length self.old.refusals
+            → ShowsAll self.new.engine.history self.new.board) }
     {
         let Recorder {
             engine,

@@ -36,7 +36,7 @@ const EMPTY_EXTENT: Extent = Extent {
     paths: 0,
 };
 
-/// The variables of each block type. Fails if allocation fails.
+/// The variables of each block type.
 fn members_of(alloc: Global, blocks: &[Routine]) -> Result<Vec<Variables>, AllocError>
     requires { All AreNamedApart (map view_routine blocks.now) }
     ensures { IfOk result (λ members. AreMembers (map view_routine blocks.now) members.items) }
@@ -48,14 +48,15 @@ fn members_of(alloc: Global, blocks: &[Routine]) -> Result<Vec<Variables>, Alloc
     Ok(members)
 }
 
-/// A body over numbers, its statements numbered from 1. Fails if allocation fails.
+/// A body over numbers, its statements numbered from 1.
 fn number_body(
     alloc: Global,
     scope: &Scope<'_>,
     body: &[Stmt<Text>],
 ) -> Result<Vec<Stmt<usize>>, AllocError>
     requires { 1 + count_body (view_body body.now) < 2 ^ 32 }
-    ensures { IfOk result (λ numbered. IsNumberedIn scope.now (view_body body.now) (view_body numbered.items)) }
+    ensures { IfOk result (λ numbered. IsNumberedIn scope.now (view_body body.now)
+        (view_body numbered.items)) }
 {
     let mut number = 1;
     let resolved = resolve_body(alloc, scope, body, &mut number)?;
@@ -69,8 +70,8 @@ fn statements_of(routine: &Routine, is_run: bool) -> &[Stmt<Text>]
     if is_run { &routine.body } else { &[] }
 }
 
-/// The seats of a routine's instances, which know whether the routine calls them, and where the last of them ends. A routine that nothing
-/// comes to call calls none. Fails if allocation fails.
+/// The seats of a routine's instances, which know whether the routine calls them, and where the last of them ends. A routine that nothing comes to
+/// call calls none.
 fn seats_of(
     alloc: Global,
     table: &[Callee],
@@ -78,9 +79,15 @@ fn seats_of(
     is_run: bool,
 ) -> Result<(Vec<Seat>, Extent), AllocError>
     requires own { own_cells (view_routine routine.now) < 2 ^ 32 }
-    requires seats { Fits (ends_by table.now (is_called (framed is_run (view_routine routine.now))) (first_of (view_routine routine.now)) (view_routine routine.now).instances) }
-    ensures seats { IfOk result (λ made. made.0.items ≡ seats_by table.now (is_called (framed is_run (view_routine routine.now))) (first_of (view_routine routine.now)) (view_routine routine.now).instances) }
-    ensures end { IfOk result (λ made. made.1 ≡ ends_by table.now (is_called (framed is_run (view_routine routine.now))) (first_of (view_routine routine.now)) (view_routine routine.now).instances) }
+    requires seats { Fits
+        (ends_by table.now (is_called (framed is_run (view_routine routine.now)))
+        (first_of (view_routine routine.now)) (view_routine routine.now).instances) }
+    ensures seats { IfOk result (λ made. made.0.items
+        ≡ seats_by table.now (is_called (framed is_run (view_routine routine.now)))
+        (first_of (view_routine routine.now)) (view_routine routine.now).instances) }
+    ensures end { IfOk result (λ made. made.1
+        ≡ ends_by table.now (is_called (framed is_run (view_routine routine.now)))
+        (first_of (view_routine routine.now)) (view_routine routine.now).instances) }
 {
     let called = called_in(alloc, statements_of(routine, is_run))?;
     let first = Extent {
@@ -91,7 +98,7 @@ fn seats_of(
     seats_by(alloc, table, &called, first, &routine.instances)
 }
 
-/// The frame of a routine in the scope of its names, without its body if nothing comes to call it, and what it has. Fails if allocation fails.
+/// The frame of a routine in the scope of its names, without its body if nothing comes to call it, and what it has.
 fn frame_in(
     alloc: Global,
     scope: &Scope<'_>,
@@ -100,11 +107,13 @@ fn frame_in(
     is_run: bool,
 ) -> Result<(Frame, Extent), AllocError>
     requires own { AreVariables (own_variables (view_routine routine.now).locals) scope.now.own.now }
-    requires arrays { AreArrays (length (view_routine routine.now).locals) (view_routine routine.now).rows scope.now.own.now.arrays }
+    requires arrays { AreArrays (length (view_routine routine.now).locals)
+        (view_routine routine.now).rows scope.now.own.now.arrays }
     requires instances { AreInstances (view_routine routine.now).instances scope.now.instances.now }
     requires fitting { IsFitting table.now (framed is_run (view_routine routine.now)) }
     ensures few { IfOk result (λ made. made.1.paths < 2 ^ 32) }
-    ensures made { IfOk result (λ made. AllMade scope.now.globals.now scope.now.members.now table.now (framed is_run (view_routine routine.now)) made.0 made.1) }
+    ensures made { IfOk result (λ made. AllMade scope.now.globals.now scope.now.members.now table.now
+        (framed is_run (view_routine routine.now)) made.0 made.1) }
 {
     let statements = statements_of(routine, is_run);
     let (seats, end) = seats_of(alloc, table, routine, is_run)?;
@@ -121,7 +130,7 @@ fn frame_in(
     Ok((frame, end))
 }
 
-/// The frame of a routine, without its body if nothing comes to call it, and what it has. Fails if allocation fails.
+/// The frame of a routine, without its body if nothing comes to call it, and what it has.
 fn frame_of(
     alloc: Global,
     globals: &Variables,
@@ -133,7 +142,8 @@ fn frame_of(
     requires apart { AreNamedApart (view_routine routine.now) }
     requires fitting { IsFitting table.now (framed is_run (view_routine routine.now)) }
     ensures few { IfOk result (λ made. made.1.paths < 2 ^ 32) }
-    ensures made { IfOk result (λ made. AllMade globals.now members.now table.now (framed is_run (view_routine routine.now)) made.0 made.1) }
+    ensures made { IfOk result (λ made. AllMade globals.now members.now table.now
+        (framed is_run (view_routine routine.now)) made.0 made.1) }
 {
     let own = own_variables(alloc, &routine.locals, &routine.rows)?;
     let instances = instances_of(alloc, &routine.instances)?;
@@ -146,7 +156,7 @@ fn frame_of(
     frame_in(alloc, &scope, table, routine, is_run)
 }
 
-/// The frame of a block type, and what it has: nothing, if no program uses it. Fails if allocation fails.
+/// The frame of a block type, and what it has: nothing, if no program uses it.
 fn frame_of_block(
     alloc: Global,
     globals: &Variables,
@@ -159,7 +169,9 @@ fn frame_of_block(
     requires apart { AreNamedApart (view_routine block.now) }
     requires fitting { is_used ≡ true → IsFitting table.now (framed is_run (view_routine block.now)) }
     ensures few { IfOk result (λ made. made.1.paths < 2 ^ 32) }
-    ensures used { IfOk result (λ made. is_used ≡ true → AllMade globals.now members.now table.now (framed is_run (view_routine block.now)) made.0 made.1) }
+    ensures used { IfOk result (λ made. is_used ≡ true
+        → AllMade globals.now members.now table.now (framed is_run (view_routine block.now)) made.0
+        made.1) }
     ensures unused { IfOk result (λ made. is_used ≡ false → IsBlank made.0) }
 {
     if is_used {
@@ -175,7 +187,7 @@ fn frame_of_block(
     Ok((frame, EMPTY_EXTENT))
 }
 
-/// Room for what is known of so many block types. Fails if allocation fails.
+/// Room for what is known of so many block types.
 fn make_table(alloc: Global, count: usize) -> Result<Vec<Callee>, AllocError>
     ensures { IfOk result (λ table. length table.items ≡ count) }
 {
@@ -188,7 +200,7 @@ fn make_table(alloc: Global, count: usize) -> Result<Vec<Callee>, AllocError>
     Ok(table)
 }
 
-/// The frames of the block types in an order, and what is known of each. Fails if allocation fails.
+/// The frames of the block types in an order, and what is known of each.
 fn frames_of_blocks(
     alloc: Global,
     blocks: &[Routine],
@@ -201,9 +213,12 @@ fn frames_of_blocks(
     requires below { AreBelow (map view_routine blocks.now) order.now }
     requires types { All (DeclaresThere (map view_routine blocks.now)) (map view_routine blocks.now) }
     requires apart { All AreNamedApart (map view_routine blocks.now) }
-    requires measured { (source : Source) × (source.blocks ≡ map view_routine blocks.now) × IsMeasured source globals.now members.now used.now run.now }
-    ensures built { IfOk result (λ made. AllBuilt globals.now members.now (map view_routine blocks.now) order.now used.now run.now (length order.now) made.0.items made.1.items) }
-    ensures sized { IfOk result (λ made. (n : ℕ) → n < length blocks.now → flagged used.now n ≡ true → IsSized (map view_routine blocks.now) run.now made.1.items n) }
+    requires measured { (source : Source) × (source.blocks ≡ map view_routine blocks.now)
+        × IsMeasured source globals.now members.now used.now run.now }
+    ensures built { IfOk result (λ made. AllBuilt globals.now members.now (map view_routine blocks.now)
+        order.now used.now run.now (length order.now) made.0.items made.1.items) }
+    ensures sized { IfOk result (λ made. (n : ℕ) → n < length blocks.now → flagged used.now n ≡ true
+        → IsSized (map view_routine blocks.now) run.now made.1.items n) }
 {
     block_type_has_values();
     block_type_has_clocks();
@@ -228,7 +243,7 @@ fn frames_of_blocks(
     Ok((frames, table))
 }
 
-/// Adds the frames of the programs, in order. Fails if allocation fails, and what is left then is of no use.
+/// Adds the frames of the programs, in order. Fails if memory is refused, and what is left then is of no use.
 fn add_programs(
     alloc: Global,
     programs: &[Routine],
@@ -239,7 +254,8 @@ fn add_programs(
 ) -> Result<(), AllocError>
     requires apart { All AreNamedApart (map view_routine programs.now) }
     requires fitting { All (IsFitting table.now) (map view_routine programs.now) }
-    ensures { IfOk result (λ _. AllBegun globals.now members.now (map view_routine programs.now) table.now frames.old.items (length programs.now) frames.new.items) }
+    ensures { IfOk result (λ _. AllBegun globals.now members.now (map view_routine programs.now)
+        table.now frames.old.items (length programs.now) frames.new.items) }
 {
     for program in programs {
         let (frame, _) = frame_of(alloc, globals, members, table, program, true)?;
@@ -248,7 +264,7 @@ fn add_programs(
     Ok(())
 }
 
-/// The variables of a source: the globals, with the global arrays, and those of each block type. Fails if allocation fails.
+/// The variables of a source: the globals, with the global arrays, and those of each block type.
 fn variables_of(alloc: Global, logic: &Logic) -> Result<(Variables, Vec<Variables>), AllocError>
     requires named { IsDistinctlyNamed (source_of logic.now) }
     requires few { global_cells (source_of logic.now) < 2 ^ 32 }
@@ -258,7 +274,7 @@ fn variables_of(alloc: Global, logic: &Logic) -> Result<(Variables, Vec<Variable
     Ok((globals, members_of(alloc, logic.blocks.as_slice())?))
 }
 
-/// The frames of a source whose variables are known, as `frames_of` gives them. Fails if allocation fails.
+/// The frames of a source whose variables are known, as `frames_of` gives them.
 fn frames_by(
     alloc: Global,
     logic: &Logic,
@@ -287,7 +303,7 @@ fn frames_by(
 /// The frames of a source: one for each block type in the order, and then one for each program, as `block_walk` runs them. The order lists
 /// each block type after those that it declares. Each body is gone through once, whatever the number of its instances.
 ///
-/// Fails if allocation fails. The source must be small: no more of anything than its numbers have room for.
+/// Fails if memory is refused. The source must be small: no more of anything than its numbers have room for.
 pub fn frames_of(alloc: Global, logic: &Logic, order: &[usize]) -> Result<Vec<Frame>, AllocError>
     requires below { AreBelow (source_of logic.now).blocks order.now }
     requires types { HasItsTypes (source_of logic.now) }
@@ -299,7 +315,7 @@ pub fn frames_of(alloc: Global, logic: &Logic, order: &[usize]) -> Result<Vec<Fr
     frames_by(alloc, logic, order, &globals, &members)
 }
 
-/// The frame of initial values in the scope of their names. Fails if allocation fails.
+/// The frame of initial values in the scope of their names.
 fn start_in(alloc: Global, scope: &Scope<'_>, starts: &[Stmt<Text>]) -> Result<Frame, AllocError>
     requires { 1 + count_body (view_body starts.now) < 2 ^ 32 }
     ensures { IfOk result (λ frame. IsStartIn scope.now (view_body starts.now) frame) }
@@ -315,7 +331,7 @@ fn start_in(alloc: Global, scope: &Scope<'_>, starts: &[Stmt<Text>]) -> Result<F
     })
 }
 
-/// The frame of the initial values of a source whose variables are known. Fails if allocation fails.
+/// The frame of the initial values of a source whose variables are known.
 fn start_by(
     alloc: Global,
     logic: &Logic,
@@ -337,7 +353,7 @@ fn start_by(
     start_in(alloc, &scope, &logic.starts)
 }
 
-/// The frame of the globals' initial values, as `block_walk` assigns them. Fails if allocation fails.
+/// The frame of the globals' initial values, as `block_walk` assigns them.
 pub fn start_of(alloc: Global, logic: &Logic) -> Result<Frame, AllocError>
     requires named { IsDistinctlyNamed (source_of logic.now) }
     requires cells { global_cells (source_of logic.now) < 2 ^ 32 }

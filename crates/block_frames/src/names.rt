@@ -102,7 +102,7 @@ impl Instances {
     }
 }
 
-/// The names of a routine's own variables, of which no two are the same word. Fails if allocation fails.
+/// The names of a routine's own variables, of which no two are the same word.
 fn names_of_locals(alloc: Global, locals: &[Local]) -> Result<Names, AllocError>
     requires { repeats (own_words locals.now) ≡ false }
     ensures { IfOk result (λ names. names ≡ local_names locals.now) }
@@ -114,7 +114,7 @@ fn names_of_locals(alloc: Global, locals: &[Local]) -> Result<Names, AllocError>
     Ok(names)
 }
 
-/// The kinds of a routine's own variables, in order. Fails if allocation fails.
+/// The kinds of a routine's own variables, in order.
 fn kinds_of_locals(alloc: Global, locals: &[Local]) -> Result<Vec<Kind>, AllocError>
     ensures { IfOk result (λ kinds. kinds.items ≡ local_kinds locals.now) }
 {
@@ -125,7 +125,7 @@ fn kinds_of_locals(alloc: Global, locals: &[Local]) -> Result<Vec<Kind>, AllocEr
     Ok(kinds)
 }
 
-/// The names of arrays, of which no two are the same word. Fails if allocation fails.
+/// The names of arrays, of which no two are the same word.
 fn names_of_rows(alloc: Global, rows: &[Row]) -> Result<Names, AllocError>
     requires { repeats (row_words rows.now) ≡ false }
     ensures { IfOk result (λ names. names ≡ row_names rows.now) }
@@ -137,8 +137,7 @@ fn names_of_rows(alloc: Global, rows: &[Row]) -> Result<Names, AllocError>
     Ok(names)
 }
 
-/// Arrays one after another, in order, from a number on, and the number at which the last one ends, which is one of 32 bits. Fails if
-/// allocation fails.
+/// Arrays one after another, in order, from a number on, and the number at which the last one ends, which is one of 32 bits.
 fn laid_of(alloc: Global, from: u32, rows: &[Row]) -> Result<(Vec<Laid>, u32), AllocError>
     requires { from + row_cells rows.now < 2 ^ 32 }
     ensures laid { IfOk result (λ made. made.0.items ≡ laid_from from rows.now) }
@@ -158,7 +157,7 @@ fn laid_of(alloc: Global, from: u32, rows: &[Row]) -> Result<(Vec<Laid>, u32), A
     Ok((laid, first))
 }
 
-/// Arrays behind so many variables. No two of the arrays have one name, and together they have few cells. Fails if allocation fails.
+/// Arrays behind so many variables. No two of the arrays have one name, and together they have few cells.
 fn arrays_of(alloc: Global, variables: usize, rows: &[Row]) -> Result<Arrays, AllocError>
     requires apart { repeats (row_words rows.now) ≡ false }
     requires few { variables + row_cells rows.now < 2 ^ 32 }
@@ -180,7 +179,7 @@ fn no_arrays(alloc: Global) -> Arrays
     }
 }
 
-/// A block type's variables, of which no two have one name, as they are seen from outside: its arrays aren't. Fails if allocation fails.
+/// A block type's variables, of which no two have one name, as they are seen from outside: its arrays aren't.
 pub fn member_variables(alloc: Global, locals: &[Local]) -> Result<Variables, AllocError>
     requires { repeats (own_words locals.now) ≡ false }
     ensures { IfOk result (AreVariables (own_variables locals.now)) }
@@ -192,8 +191,7 @@ pub fn member_variables(alloc: Global, locals: &[Local]) -> Result<Variables, Al
     })
 }
 
-/// A routine's own variables, and behind them its own arrays. No two of either have one name, and together they have few cells. Fails if
-/// allocation fails.
+/// A routine's own variables, and behind them its own arrays. No two of either have one name, and together they have few cells.
 pub fn own_variables(alloc: Global, locals: &[Local], rows: &[Row]) -> Result<Variables, AllocError>
     requires locals { repeats (own_words locals.now) ≡ false }
     requires rows { repeats (row_words rows.now) ≡ false }
@@ -220,7 +218,7 @@ pub fn no_variables(alloc: Global) -> Variables
     }
 }
 
-/// The names of globals, of which no two are the same word. Fails if allocation fails.
+/// The names of globals, of which no two are the same word.
 fn names_of_globals(alloc: Global, globals: &[Variable]) -> Result<Names, AllocError>
     requires { repeats (global_words globals.now) ≡ false }
     ensures { IfOk result (λ names. names ≡ global_names globals.now) }
@@ -232,7 +230,7 @@ fn names_of_globals(alloc: Global, globals: &[Variable]) -> Result<Names, AllocE
     Ok(names)
 }
 
-/// The kinds of globals, in order. Fails if allocation fails.
+/// The kinds of globals, in order.
 fn kinds_of_globals(alloc: Global, globals: &[Variable]) -> Result<Vec<Kind>, AllocError>
     ensures { IfOk result (λ kinds. kinds.items ≡ global_kinds globals.now) }
 {
@@ -243,8 +241,7 @@ fn kinds_of_globals(alloc: Global, globals: &[Variable]) -> Result<Vec<Kind>, Al
     Ok(kinds)
 }
 
-/// The globals, and behind them the global arrays. No two of either have one name, and together they have few cells. Fails if allocation
-/// fails.
+/// The globals, and behind them the global arrays. No two of either have one name, and together they have few cells.
 pub fn global_variables(
     alloc: Global,
     globals: &[Variable],
@@ -254,7 +251,8 @@ pub fn global_variables(
     requires rows { repeats (row_words rows.now) ≡ false }
     requires few { length globals.now + row_cells rows.now < 2 ^ 32 }
     ensures variables { IfOk result (AreVariables (global_variables globals.now)) }
-    ensures arrays { IfOk result (λ variables. AreArrays (length globals.now) rows.now variables.arrays) }
+    ensures arrays { IfOk result (λ variables. AreArrays (length globals.now) rows.now
+        variables.arrays) }
 {
     Ok(Variables {
         names: names_of_globals(alloc, globals)?,
@@ -263,7 +261,7 @@ pub fn global_variables(
     })
 }
 
-/// The names of instances, of which no two are the same word. Fails if allocation fails.
+/// The names of instances, of which no two are the same word.
 fn names_of_instances(alloc: Global, list: &[Instance]) -> Result<Names, AllocError>
     requires { repeats (instance_words list.now) ≡ false }
     ensures { IfOk result (λ names. names ≡ map (λ i. i.name) list.now) }
@@ -275,7 +273,7 @@ fn names_of_instances(alloc: Global, list: &[Instance]) -> Result<Names, AllocEr
     Ok(names)
 }
 
-/// The blocks of instances, in order. Fails if allocation fails.
+/// The blocks of instances, in order.
 fn blocks_of_instances(alloc: Global, list: &[Instance]) -> Result<Vec<BlockRef>, AllocError>
     ensures { IfOk result (λ blocks. blocks.items ≡ map (λ i. i.of) list.now) }
 {
@@ -286,7 +284,7 @@ fn blocks_of_instances(alloc: Global, list: &[Instance]) -> Result<Vec<BlockRef>
     Ok(blocks)
 }
 
-/// A routine's instances, of which no two have one name. Fails if allocation fails.
+/// A routine's instances, of which no two have one name.
 pub fn instances_of(alloc: Global, list: &[Instance]) -> Result<Instances, AllocError>
     requires { repeats (instance_words list.now) ≡ false }
     ensures { IfOk result (AreInstances list.now) }

@@ -30,7 +30,9 @@ fn flag_block(flags: &mut Vec<bool>, block: BlockRef)
 
 /// Flags the block type of an instance, if it counts: always, or only if its name is called.
 fn flag_instance(calls: bool, called: &Names, instance: &Instance, flags: &mut Vec<bool>)
-    ensures { flags.new.items ≡ flag_all flags.old.items (number_of (not calls || is_among called.now instance.now.name) instance.now.of) }
+    ensures { flags.new.items
+        ≡ flag_all flags.old.items
+        (number_of (not calls || is_among called.now instance.now.name) instance.now.of) }
 {
     if !calls || is_among(called, &instance.name) {
         flag_block(flags, instance.of);
@@ -39,35 +41,39 @@ fn flag_instance(calls: bool, called: &Names, instance: &Instance, flags: &mut V
 
 /// Flags the block types of instances: of all, or of those alone whose names are called.
 fn flag_instances(calls: bool, called: &Names, list: &[Instance], flags: &mut Vec<bool>)
-    ensures { flags.new.items ≡ flag_all flags.old.items (numbers_of (λ name. not calls || is_among called.now name) list.now) }
+    ensures { flags.new.items
+        ≡ flag_all flags.old.items
+        (numbers_of (λ name. not calls || is_among called.now name) list.now) }
 {
     for instance in list {
         flag_instance(calls, called, instance, flags);
     }
 }
 
-/// Flags the block types that a routine asks for. Fails if allocation fails.
+/// Flags the block types that a routine asks for.
 fn flag_asked(
     alloc: Global,
     calls: bool,
     routine: &Routine,
     flags: &mut Vec<bool>,
 ) -> Result<(), AllocError>
-    ensures { IfOk result (λ _. flags.new.items ≡ flag_asked calls flags.old.items (view_routine routine.now)) }
+    ensures { IfOk result (λ _. flags.new.items
+        ≡ flag_asked calls flags.old.items (view_routine routine.now)) }
 {
     let called = called_in(alloc, &routine.body)?;
     flag_instances(calls, &called, &routine.instances, flags);
     Ok(())
 }
 
-/// Flags the block types that programs ask for. Fails if allocation fails.
+/// Flags the block types that programs ask for.
 fn flag_programs(
     alloc: Global,
     calls: bool,
     programs: &[Routine],
     flags: &mut Vec<bool>,
 ) -> Result<(), AllocError>
-    ensures { IfOk result (λ _. flags.new.items ≡ flag_programs calls flags.old.items (map view_routine programs.now)) }
+    ensures { IfOk result (λ _. flags.new.items
+        ≡ flag_programs calls flags.old.items (map view_routine programs.now)) }
 {
     for program in programs {
         flag_asked(alloc, calls, program, flags)?;
@@ -75,7 +81,7 @@ fn flag_programs(
     Ok(())
 }
 
-/// Flags the block types that the one of a number asks for, if it is flagged. Fails if allocation fails.
+/// Flags the block types that the one of a number asks for, if it is flagged.
 fn flag_onward(
     alloc: Global,
     calls: bool,
@@ -83,7 +89,8 @@ fn flag_onward(
     number: usize,
     flags: &mut Vec<bool>,
 ) -> Result<(), AllocError>
-    ensures { IfOk result (λ _. flags.new.items ≡ flag_onward calls (map view_routine blocks.now) number flags.old.items) }
+    ensures { IfOk result (λ _. flags.new.items
+        ≡ flag_onward calls (map view_routine blocks.now) number flags.old.items) }
 {
     if !flagged(flags, number) {
         return Ok(());
@@ -94,7 +101,7 @@ fn flag_onward(
     }
 }
 
-/// Flags the block types that flagged ones ask for, the last of an order first. Fails if allocation fails.
+/// Flags the block types that flagged ones ask for, the last of an order first.
 fn flag_back(
     alloc: Global,
     calls: bool,
@@ -102,7 +109,8 @@ fn flag_back(
     order: &[usize],
     flags: &mut Vec<bool>,
 ) -> Result<(), AllocError>
-    ensures { IfOk result (λ _. flags.new.items ≡ flag_back calls (map view_routine blocks.now) order.now flags.old.items) }
+    ensures { IfOk result (λ _. flags.new.items
+        ≡ flag_back calls (map view_routine blocks.now) order.now flags.old.items) }
 {
     let mut left = order.len();
     while 0 < left {
@@ -112,8 +120,7 @@ fn flag_back(
     Ok(())
 }
 
-/// A flag for each block type, which is set if the programs reach it: through instances, or through calls alone. Each body is gone through
-/// once. Fails if allocation fails.
+/// A flag for each block type, which is set if the programs reach it: through instances, or through calls alone. Each body is gone through once.
 pub fn reached(
     alloc: Global,
     calls: bool,
@@ -121,7 +128,8 @@ pub fn reached(
     blocks: &[Routine],
     order: &[usize],
 ) -> Result<Vec<bool>, AllocError>
-    ensures { IfOk result (λ flags. flags.items ≡ reached calls (map view_routine programs.now) (map view_routine blocks.now) order.now) }
+    ensures { IfOk result (λ flags. flags.items
+        ≡ reached calls (map view_routine programs.now) (map view_routine blocks.now) order.now) }
 {
     let mut flags = vec![in alloc; false; blocks.len()]?;
     flag_programs(alloc, calls, programs, &mut flags)?;

@@ -119,7 +119,8 @@ fn resolve_argument(
     instance: &Text,
     argument: &Argument<Text>,
 ) -> Result<Argument<usize>, AllocError>
-    ensures { IfOk result (λ a. view_argument a ≡ flat_argument scope.now instance.now (view_argument argument.now)) }
+    ensures { IfOk result (λ a. view_argument a
+        ≡ flat_argument scope.now instance.now (view_argument argument.now)) }
 {
     match argument {
         Argument::Input(name, expr) => {
@@ -140,7 +141,9 @@ fn resolve_arguments(
     instance: &Text,
     arguments: &[Argument<Text>],
 ) -> Result<Vec<Argument<usize>>, AllocError>
-    ensures { IfOk result (λ r. map view_argument r.items ≡ map (mapped_argument (mapping_of scope.now) instance.now) (map (resolved_argument (scope_kinds scope.now)) (map view_argument arguments.now))) }
+    ensures { IfOk result (λ r. map view_argument r.items
+        ≡ map (mapped_argument (mapping_of scope.now) instance.now)
+        (map (resolved_argument (scope_kinds scope.now)) (map view_argument arguments.now))) }
 {
     let mut resolved = Vec::with_capacity(alloc, arguments.len())?;
     for argument in arguments {
@@ -169,7 +172,10 @@ fn resolve_store(
     index: &Expr<Text>,
     value: &Expr<Text>,
 ) -> Result<Stmt<usize>, AllocError>
-    ensures { IfOk result (λ s. view_stmt s ≡ store number ((mapping_of scope.now).array array.now) ((scope_kinds scope.now).bounds array.now) (flat_expr scope.now (view_expr index.now)) (flat_expr scope.now (view_expr value.now))) }
+    ensures { IfOk result (λ s. view_stmt s
+        ≡ store number ((mapping_of scope.now).array array.now)
+        ((scope_kinds scope.now).bounds array.now) (flat_expr scope.now (view_expr index.now))
+        (flat_expr scope.now (view_expr value.now))) }
 {
     let index = resolve_expr(alloc, scope, index)?;
     let value = resolve_expr(alloc, scope, value)?;
@@ -254,8 +260,10 @@ fn resolve_branches(
     number: &mut u32,
 ) -> Result<Vec<Branch<usize>>, AllocError>
     requires { number.old + count_branches (view_branches branches.now) < 2 ^ 32 }
-    ensures branches { IfOk result (λ r. view_branches r.items ≡ flat_branches scope.now number.old (view_branches branches.now)) }
-    ensures count { IfOk result (λ r. number.new ≡ number.old + count_branches (view_branches branches.now)) }
+    ensures branches { IfOk result (λ r. view_branches r.items
+        ≡ flat_branches scope.now number.old (view_branches branches.now)) }
+    ensures count { IfOk result (λ r. number.new
+        ≡ number.old + count_branches (view_branches branches.now)) }
 {
     let mut resolved = Vec::with_capacity(alloc, branches.len())?;
     for branch in branches {
@@ -275,8 +283,10 @@ fn resolve_choices(
     number: &mut u32,
 ) -> Result<Vec<Choice<usize>>, AllocError>
     requires { number.old + count_choices (view_choices choices.now) < 2 ^ 32 }
-    ensures choices { IfOk result (λ r. view_choices r.items ≡ flat_choices scope.now number.old (view_choices choices.now)) }
-    ensures count { IfOk result (λ r. number.new ≡ number.old + count_choices (view_choices choices.now)) }
+    ensures choices { IfOk result (λ r. view_choices r.items
+        ≡ flat_choices scope.now number.old (view_choices choices.now)) }
+    ensures count { IfOk result (λ r. number.new
+        ≡ number.old + count_choices (view_choices choices.now)) }
 {
     let mut resolved = Vec::with_capacity(alloc, choices.len())?;
     for choice in choices {
@@ -296,7 +306,8 @@ pub fn resolve_body(
     number: &mut u32,
 ) -> Result<Vec<Stmt<usize>>, AllocError>
     requires { number.old + count_body (view_body body.now) < 2 ^ 32 }
-    ensures body { IfOk result (λ r. view_body r.items ≡ flat_body scope.now number.old (view_body body.now)) }
+    ensures body { IfOk result (λ r. view_body r.items
+        ≡ flat_body scope.now number.old (view_body body.now)) }
     ensures count { IfOk result (λ r. number.new ≡ number.old + count_body (view_body body.now)) }
 {
     let mut resolved = Vec::with_capacity(alloc, body.len())?;

@@ -136,8 +136,8 @@ impl Walk {
     }
 }
 
-/// A number for each number of the graph, which is that of its strongly connected component. A step never leads to a component with a
-/// greater number. Neither is proved. Fails if allocation fails.
+/// A number for each number of the graph, which is that of its strongly connected component. A step never leads to a component with a greater number.
+/// Neither is proved.
 pub fn components(alloc: Global, graph: &[Vec<usize>]) -> Result<Vec<usize>, AllocError> {
     let mut walk = Walk::new(alloc, graph.len())?;
     for from in 0..graph.len() {

@@ -59,7 +59,7 @@ fn never_rises(graph: &[Vec<usize>], components: &[usize]) -> bool
     true
 }
 
-/// Numbers of components, to a greater one of which no step leads. Fails if allocation fails.
+/// Numbers of components, to a greater one of which no step leads.
 fn falling(alloc: Global, graph: &[Vec<usize>]) -> Result<Vec<usize>, AllocError>
     ensures { IfOk result (λ components. NeverRises graph.now components.items) }
 {
@@ -71,7 +71,7 @@ fn falling(alloc: Global, graph: &[Vec<usize>]) -> Result<Vec<usize>, AllocError
     }
 }
 
-/// Whether a number holds itself. Fails if allocation fails.
+/// Whether a number holds itself.
 fn holds_itself(
     alloc: Global,
     graph: &[Vec<usize>],
@@ -90,7 +90,7 @@ fn holds_itself(
     }
 }
 
-/// The first number that holds itself; `None` if none does. Fails if allocation fails.
+/// The first number that holds itself; `None` if none does.
 fn first_holder(alloc: Global, graph: &[Vec<usize>]) -> Result<Option<usize>, AllocError>
     requires { InRange graph.now (length graph.now) }
     ensures { IfOk result (λ first. FirstHolder graph.now first) }
@@ -104,8 +104,8 @@ fn first_holder(alloc: Global, graph: &[Vec<usize>]) -> Result<Option<usize>, Al
     Ok(None)
 }
 
-/// The numbers in an order in which each stands after those to which it leads. Fails for the first that holds itself, or else where
-/// one has a chain of 16 steps, or if allocation fails.
+/// The numbers in an order in which each stands after those to which it leads. Fails for the first that holds itself, or else where one has a chain
+/// of 16 steps, or if memory is refused.
 pub fn judge(alloc: Global, graph: &[Vec<usize>]) -> Result<Vec<usize>, NestingFault>
     requires { InRange graph.now (length graph.now) }
     ensures { MatchResult result (λ order. IsSound graph.now order.items) (IsGraphFault graph.now) }

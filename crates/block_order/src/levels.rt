@@ -20,9 +20,10 @@ fn any_marked(marks: &[bool], row: &[usize]) -> bool
     false
 }
 
-/// Marks the numbers from which there is a chain of one step more. Fails if allocation fails.
+/// Marks the numbers from which there is a chain of one step more.
 fn longer(alloc: Global, graph: &[Vec<usize>], chains: &[bool]) -> Result<Vec<bool>, AllocError>
-    ensures { IfOk result (λ more. more.items ≡ map (λ row. list_any (λ w. get_or chains.now w false) row.items) graph.now) }
+    ensures { IfOk result (λ more. more.items
+        ≡ map (λ row. list_any (λ w. get_or chains.now w false) row.items) graph.now) }
 {
     let mut more = Vec::new(alloc);
     for row in graph {
@@ -43,7 +44,7 @@ fn has_mark(marks: &[bool]) -> bool
     false
 }
 
-/// Adds a number if there is a chain from it and none of one step more. Fails if allocation fails.
+/// Adds a number if there is a chain from it and none of one step more.
 fn add_where(
     order: &mut Vec<usize>,
     chains: &[bool],
@@ -52,7 +53,9 @@ fn add_where(
 ) -> Result<(), AllocError>
     requires chain { a < length chains.now }
     requires more { a < length more.now }
-    ensures { IfOk result (λ _. order.new.items ≡ order.old.items ++ (if get_or chains.now a false && not (get_or more.now a false) then a ∷ [] else [])) }
+    ensures { IfOk result (λ _. order.new.items
+        ≡ order.old.items
+        ++ (if get_or chains.now a false && not (get_or more.now a false) then a ∷ [] else [])) }
 {
     let chain = chains.get(a).copied().unwrap_or(false);
     let longer = more.get(a).copied().unwrap_or(false);
@@ -62,7 +65,7 @@ fn add_where(
     Ok(())
 }
 
-/// Adds the numbers from which there is a chain and none of one step more. Fails if allocation fails.
+/// Adds the numbers from which there is a chain and none of one step more.
 fn add_ranked(order: &mut Vec<usize>, chains: &[bool], more: &[bool]) -> Result<(), AllocError>
     requires { length chains.now ≡ length more.now }
     ensures { IfOk result (λ _. order.new.items ≡ order.old.items ++ ranked 0 chains.now more.now) }
@@ -73,15 +76,14 @@ fn add_ranked(order: &mut Vec<usize>, chains: &[bool], more: &[bool]) -> Result<
     Ok(())
 }
 
-/// Marks for so many numbers, all set. Fails if allocation fails.
+/// Marks for so many numbers, all set.
 fn all_marks(alloc: Global, count: usize) -> Result<Vec<bool>, AllocError>
     ensures { IfOk result (λ marks. marks.items ≡ replicate count true) }
 {
     Ok(vec![in alloc; true; count]?)
 }
 
-/// The numbers in an order in which each stands after those to which it leads; `None` if there is a chain of so many steps. Fails if
-/// allocation fails.
+/// The numbers in an order in which each stands after those to which it leads; `None` if there is a chain of so many steps.
 pub fn order_of(
     alloc: Global,
     graph: &[Vec<usize>],

@@ -16,7 +16,11 @@ fn add_name<'a>(
     name: &'a str,
     number: usize,
 ) -> Result<(), AllocError>
-    ensures { OnOk result ((word : List ℕ) → get same_word names.new word ≡ found_or (get same_word names.old word) (if same_word word name.now then Some number else None)) }
+    ensures { OnOk result
+        ((word : List ℕ)
+        → get same_word names.new word
+        ≡ found_or (get same_word names.old word)
+        (if same_word word name.now then Some number else None)) }
 {
     if names.contains_key(&Word::new(name)) {
         return Ok(());
@@ -25,7 +29,7 @@ fn add_name<'a>(
     Ok(())
 }
 
-/// The number of each block type's name: that of the first which has it. Fails if allocation fails.
+/// The number of each block type's name: that of the first which has it.
 pub fn names_of<'a>(
     alloc: Global,
     blocks: &[Block<'a>],
@@ -68,7 +72,8 @@ fn numbers_of<'a>(
     words: &[&'a str],
 ) -> Result<Vec<usize>, AllocError>
     requires { IsNaming blocks.now (get same_word names.now) }
-    ensures { IfOk result (λ numbers. numbers.items ≡ map (λ word. number blocks.now (folded word.now)) words.now) }
+    ensures { IfOk result (λ numbers. numbers.items
+        ≡ map (λ word. number blocks.now (folded word.now)) words.now) }
 {
     let mut numbers = Vec::new(alloc);
     for word in words {
@@ -110,7 +115,7 @@ fn row_of<'a>(
     }
 }
 
-/// The rows of the block types, and behind them the empty one of the standard blocks. Fails if allocation fails.
+/// The rows of the block types, and behind them the empty one of the standard blocks.
 pub fn graph_of<'a>(
     alloc: Global,
     names: &IndexMap<Word<'a>, usize>,
@@ -127,7 +132,7 @@ pub fn graph_of<'a>(
     Ok(graph)
 }
 
-/// Those of the numbers whose block type is the first of its name, in their order. Fails if allocation fails.
+/// Those of the numbers whose block type is the first of its name, in their order.
 pub fn firsts<'a>(
     alloc: Global,
     names: &IndexMap<Word<'a>, usize>,

@@ -13,9 +13,10 @@ use std::alloc::Global;
 /// name, in any letter case, the first counts, and the others aren't listed.
 ///
 /// Fails for the first block type that holds itself, directly or through others, or else where one is more than 16 deep (this
-/// profile), or if allocation fails.
+/// profile), or if memory is refused.
 pub fn order_blocks(alloc: Global, blocks: &[Block<'_>]) -> Result<Vec<usize>, NestingFault>
-    ensures order { MatchResult result (λ order. AreOrdered blocks.now order.items) (IsNestingFault blocks.now) }
+    ensures order { MatchResult result (λ order. AreOrdered blocks.now order.items)
+        (IsNestingFault blocks.now) }
     ensures range { IfOk result (λ order. All (λ a. a < length blocks.now) order.items) }
 {
     let names = names_of(alloc, blocks)?;

@@ -8,17 +8,18 @@ ghost use Rattle.block_order.specs.Search.{seen_all};
 
 use std::alloc::{AllocError, Global};
 
-/// Marks for so many numbers, none set. Fails if allocation fails.
+/// Marks for so many numbers, none set.
 fn no_marks(alloc: Global, count: usize) -> Result<Vec<bool>, AllocError>
     ensures { IfOk result (λ marks. marks.items ≡ replicate count false) }
 {
     Ok(vec![in alloc; false; count]?)
 }
 
-/// Marks each number of a row that isn't marked, and lists it. Fails if allocation fails.
+/// Marks each number of a row that isn't marked, and lists it.
 fn visit(marks: &mut Vec<bool>, found: &mut Vec<usize>, row: &[usize]) -> Result<(), AllocError>
     requires { All (λ w. w < length marks.old.items) row.now }
-    ensures { IfOk result (λ _. (marks.new.items, found.new.items) ≡ seen_all row.now (marks.old.items, found.old.items)) }
+    ensures { IfOk result (λ _. (marks.new.items, found.new.items)
+        ≡ seen_all row.now (marks.old.items, found.old.items)) }
 {
     for w in row {
         if !marks[*w] {
@@ -29,7 +30,7 @@ fn visit(marks: &mut Vec<bool>, found: &mut Vec<usize>, row: &[usize]) -> Result
     Ok(())
 }
 
-/// Marks and lists the numbers to which one leads by a step. Fails if allocation fails.
+/// Marks and lists the numbers to which one leads by a step.
 fn go_on(
     graph: &[Vec<usize>],
     marks: &mut Vec<bool>,
@@ -38,12 +39,13 @@ fn go_on(
 ) -> Result<(), AllocError>
     requires range { InRange graph.now (length marks.old.items) }
     requires at { at < length graph.now }
-    ensures { IfOk result (λ _. (marks.new.items, found.new.items) ≡ seen_all (next_of graph.now at) (marks.old.items, found.old.items)) }
+    ensures { IfOk result (λ _. (marks.new.items, found.new.items)
+        ≡ seen_all (next_of graph.now at) (marks.old.items, found.old.items)) }
 {
     visit(marks, found, &graph[at])
 }
 
-/// Whether a list of numbers leads from one to another. Each row is read once. Fails if allocation fails.
+/// Whether a list of numbers leads from one to another. Each row is read once.
 pub fn leads(
     alloc: Global,
     graph: &[Vec<usize>],

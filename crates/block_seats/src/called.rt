@@ -19,18 +19,21 @@ pub fn is_among(names: &Names, name: &Text) -> bool
     names.find(name.as_str()).is_some()
 }
 
-/// Adds a name. Fails if allocation fails.
+/// Adds a name.
 fn add_name(alloc: Global, names: &mut Names, name: &Text) -> Result<(), AllocError>
-    ensures { IfOk result (λ _. (n : List ℕ) → is_among names.new n ≡ (is_among names.old n || same_word n name.now)) }
+    ensures { IfOk result (λ _. (n : List ℕ)
+        → is_among names.new n ≡ (is_among names.old n || same_word n name.now)) }
 {
     let _is_new = names.add(alloc, name.as_str())?;
     Ok(())
 }
 
-/// Adds the names of the instances that a statement calls. Fails if allocation fails.
+/// Adds the names of the instances that a statement calls.
 #[cycle(calls)]
 fn add_stmt(alloc: Global, names: &mut Names, stmt: &Stmt<Text>) -> Result<(), AllocError>
-    ensures { IfOk result (λ _. (n : List ℕ) → is_among names.new n ≡ (is_among names.old n || list_any (same_word n) (called_in_stmt (view_stmt stmt.now)))) }
+    ensures { IfOk result (λ _. (n : List ℕ)
+        → is_among names.new n
+        ≡ (is_among names.old n || list_any (same_word n) (called_in_stmt (view_stmt stmt.now)))) }
 {
     match stmt {
         Stmt::Empty(_) | Stmt::Assign(_, _, _) | Stmt::Store { .. } => Ok(()),
@@ -47,14 +50,17 @@ fn add_stmt(alloc: Global, names: &mut Names, stmt: &Stmt<Text>) -> Result<(), A
     }
 }
 
-/// Adds the names of the instances that the branches of an IF call. Fails if allocation fails.
+/// Adds the names of the instances that the branches of an IF call.
 #[cycle(calls)]
 fn add_branches(
     alloc: Global,
     names: &mut Names,
     branches: &[Branch<Text>],
 ) -> Result<(), AllocError>
-    ensures { IfOk result (λ _. (n : List ℕ) → is_among names.new n ≡ (is_among names.old n || list_any (same_word n) (called_in_branches (view_branches branches.now)))) }
+    ensures { IfOk result (λ _. (n : List ℕ)
+        → is_among names.new n
+        ≡ (is_among names.old n || list_any (same_word n)
+        (called_in_branches (view_branches branches.now)))) }
 {
     for branch in branches {
         add_body(alloc, names, &branch.body)?;
@@ -62,10 +68,13 @@ fn add_branches(
     Ok(())
 }
 
-/// Adds the names of the instances that the choices of a CASE call. Fails if allocation fails.
+/// Adds the names of the instances that the choices of a CASE call.
 #[cycle(calls)]
 fn add_choices(alloc: Global, names: &mut Names, choices: &[Choice<Text>]) -> Result<(), AllocError>
-    ensures { IfOk result (λ _. (n : List ℕ) → is_among names.new n ≡ (is_among names.old n || list_any (same_word n) (called_in_choices (view_choices choices.now)))) }
+    ensures { IfOk result (λ _. (n : List ℕ)
+        → is_among names.new n
+        ≡ (is_among names.old n || list_any (same_word n)
+        (called_in_choices (view_choices choices.now)))) }
 {
     for choice in choices {
         add_body(alloc, names, &choice.body)?;
@@ -73,10 +82,12 @@ fn add_choices(alloc: Global, names: &mut Names, choices: &[Choice<Text>]) -> Re
     Ok(())
 }
 
-/// Adds the names of the instances that a body calls. Fails if allocation fails.
+/// Adds the names of the instances that a body calls.
 #[cycle(calls)]
 fn add_body(alloc: Global, names: &mut Names, body: &[Stmt<Text>]) -> Result<(), AllocError>
-    ensures { IfOk result (λ _. (n : List ℕ) → is_among names.new n ≡ (is_among names.old n || list_any (same_word n) (called_in (view_body body.now)))) }
+    ensures { IfOk result (λ _. (n : List ℕ)
+        → is_among names.new n
+        ≡ (is_among names.old n || list_any (same_word n) (called_in (view_body body.now)))) }
 {
     for stmt in body {
         add_stmt(alloc, names, stmt)?;
@@ -84,9 +95,10 @@ fn add_body(alloc: Global, names: &mut Names, body: &[Stmt<Text>]) -> Result<(),
     Ok(())
 }
 
-/// The names of the instances that a body calls, each word once. Fails if allocation fails.
+/// The names of the instances that a body calls, each word once.
 pub fn called_in(alloc: Global, body: &[Stmt<Text>]) -> Result<Names, AllocError>
-    ensures { IfOk result (λ names. (n : List ℕ) → is_among names n ≡ list_any (same_word n) (called_in (view_body body.now))) }
+    ensures { IfOk result (λ names. (n : List ℕ)
+        → is_among names n ≡ list_any (same_word n) (called_in (view_body body.now))) }
 {
     let mut names = Names::new(alloc);
     add_body(alloc, &mut names, body)?;

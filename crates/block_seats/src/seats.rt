@@ -128,7 +128,7 @@ pub fn has_starts(table: &[Callee], starts: &[Stmt<usize>], list: &[Instance]) -
     !starts.is_empty() || any_starts(table, list)
 }
 
-/// The seat of an instance. Fails if allocation fails.
+/// The seat of an instance.
 fn seat_by(
     alloc: Global,
     table: &[Callee],
@@ -148,8 +148,8 @@ fn seat_by(
     })
 }
 
-/// The seats of a routine's instances one after another, by the names of those that it calls, and where the last ends: numbers that must fit
-/// their types. Fails if allocation fails.
+/// The seats of a routine's instances one after another, by the names of those that it calls, and where the last ends: numbers that must fit their
+/// types.
 pub fn seats_by(
     alloc: Global,
     table: &[Callee],
@@ -158,7 +158,8 @@ pub fn seats_by(
     list: &[Instance],
 ) -> Result<(Vec<Seat>, Extent), AllocError>
     requires { Fits (ends_by table.now (is_among called.now) first list.now) }
-    ensures seats { IfOk result (λ made. made.0.items ≡ seats_by table.now (is_among called.now) first list.now) }
+    ensures seats { IfOk result (λ made. made.0.items
+        ≡ seats_by table.now (is_among called.now) first list.now) }
     ensures end { IfOk result (λ made. made.1 ≡ ends_by table.now (is_among called.now) first list.now) }
 {
     let mut seats = Vec::new(alloc);

@@ -7,7 +7,7 @@ use crate::frame::{Frame, Seat};
 use st_tree::copy_body;
 use std::alloc::{AllocError, Global};
 
-/// The same instances in the same order. Fails if allocation fails.
+/// The same instances in the same order.
 pub fn copy_seats(alloc: Global, seats: &[Seat]) -> Result<Vec<Seat>, AllocError>
     ensures { IfOk result (λ copies. copies.items ≡ seats.now) }
 {
@@ -25,7 +25,7 @@ pub fn copy_seats(alloc: Global, seats: &[Seat]) -> Result<Vec<Seat>, AllocError
     Ok(copies)
 }
 
-/// The same frame. Fails if allocation fails.
+/// The same frame.
 fn copy_frame(alloc: Global, frame: &Frame) -> Result<Frame, AllocError>
     ensures { IfOk result (λ copy. view_frame copy ≡ view_frame frame.now) }
 {
@@ -38,7 +38,7 @@ fn copy_frame(alloc: Global, frame: &Frame) -> Result<Frame, AllocError>
     })
 }
 
-/// The same frames in the same order. Fails if allocation fails.
+/// The same frames in the same order.
 pub fn copy_frames(alloc: Global, frames: &[Frame]) -> Result<Vec<Frame>, AllocError>
     ensures { IfOk result (λ copies. map view_frame copies.items ≡ map view_frame frames.now) }
 {

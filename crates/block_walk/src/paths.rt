@@ -50,7 +50,9 @@ fn push_within(
     requires there { limit ≤ length frames.now }
     requires in_turn { AreInTurn frames.now }
     requires path { path < length (frame_paths frames.now limit k) }
-    ensures { IfOk result (λ _. string_bytes text.new ≡ string_bytes text.old ++ path_suffix (slice_index_or (frame_paths frames.now limit k) path [])) }
+    ensures { IfOk result (λ _. string_bytes text.new
+        ≡ string_bytes text.old
+        ++ path_suffix (slice_index_or (frame_paths frames.now limit k) path [])) }
 {
     let frame = &frames[k];
     if path == 0 {
@@ -65,12 +67,14 @@ fn push_within(
     }
 }
 
-/// Appends the path of a number below the frame of a number, from the frame down: a point and the name of each instance on the way, and
-/// nothing for the frame itself. Fails if allocation fails; what was appended then is of no use.
+/// Appends the path of a number below the frame of a number, from the frame down: a point and the name of each instance on the way, and nothing for
+/// the frame itself. Fails if memory is refused; what was appended then is of no use.
 pub fn push_path(frames: &[Frame], k: usize, path: u32, text: &mut String) -> Result<(), AllocError>
     requires in_turn { AreInTurn frames.now }
     requires path { path < length (frame_paths frames.now (length frames.now) k) }
-    ensures { IfOk result (λ _. string_bytes text.new ≡ string_bytes text.old ++ path_suffix (slice_index_or (frame_paths frames.now (length frames.now) k) path [])) }
+    ensures { IfOk result (λ _. string_bytes text.new
+        ≡ string_bytes text.old
+        ++ path_suffix (slice_index_or (frame_paths frames.now (length frames.now) k) path [])) }
 {
     push_within(frames, frames.len(), k, path, text)
 }

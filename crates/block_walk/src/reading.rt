@@ -110,7 +110,8 @@ pub(crate) fn set_element(
     index: i64,
     value: i64,
 )
-    ensures { cells.new ≡ assigned cells.old (row_place (slot_of globals base array) bounds index) value }
+    ensures { cells.new
+        ≡ assigned cells.old (row_place (slot_of globals base array) bounds index) value }
 {
     let offset = offset_of(bounds, index);
     if array < globals {
@@ -206,7 +207,10 @@ pub(crate) fn call_clock(
     standard: Standard,
     moment: u64,
 )
-    ensures { cells.new ≡ clocked cells.old (base.clocks + seat.now.clocks) (call (is_true (value_at cells.old (member_slot base seat.now 0))) (pt_of standard base seat.now cells.old) moment) }
+    ensures { cells.new
+        ≡ clocked cells.old (base.clocks + seat.now.clocks)
+        (call (is_true (value_at cells.old (member_slot base seat.now 0)))
+        (pt_of standard base seat.now cells.old) moment) }
 {
     let input = member(cells, base, seat, 0) != 0;
     let pt = match standard {
@@ -281,7 +285,8 @@ pub(crate) fn step_of(
 /// Places a trap in the statement of a number of the frame that runs.
 pub(crate) fn in_statement<T>(statement: u32, evaluated: Result<T, Trap>) -> Result<T, Stop>
     ensures ok { IfOk result (λ value. evaluated ≡ Ok value) }
-    ensures err { IfErr result (λ stop. (stop.place ≡ record { path = 0; statement = statement }) × (evaluated ≡ Err stop.trap)) }
+    ensures err { IfErr result (λ stop. (stop.place ≡ record { path = 0; statement = statement })
+        × (evaluated ≡ Err stop.trap)) }
 {
     evaluated.map_err(|trap| Stop {
         place: Place { path: 0, statement },
@@ -299,7 +304,9 @@ pub(crate) fn take_inputs(
     base: Base,
     cells: &mut Cells,
 ) -> Result<(), Stop>
-    ensures run { ended ([] ∷ []) result cells.new ≡ take_inputs (still globals seats.now base) statement instance (map view_argument arguments.now) cells.old }
+    ensures run { ended ([] ∷ []) result cells.new
+        ≡ take_inputs (still globals seats.now base) statement instance (map view_argument arguments.now)
+        cells.old }
     ensures path { IfErr result (λ stop. stop.place.path ≡ 0) }
 {
     for argument in arguments {
@@ -320,7 +327,9 @@ pub(crate) fn give_outputs(
     base: Base,
     cells: &mut Cells,
 )
-    ensures { cells.new ≡ give_outputs (still globals seats.now base) instance (map view_argument arguments.now) cells.old }
+    ensures { cells.new
+        ≡ give_outputs (still globals seats.now base) instance (map view_argument arguments.now)
+        cells.old }
 {
     for argument in arguments {
         if let Argument::Output(name, taker) = argument {

@@ -17,7 +17,8 @@ fn push_within(
 ) -> Result<(), AllocError>
     requires there { limit ≤ length frames.now }
     requires counted { ClocksAreCounted frames.now }
-    ensures { IfOk result (λ _. standards.new.items ≡ standards.old.items ++ frame_standards frames.now limit k) }
+    ensures { IfOk result (λ _. standards.new.items
+        ≡ standards.old.items ++ frame_standards frames.now limit k) }
 {
     if k < limit {
         let frame = &frames[k];
@@ -38,7 +39,8 @@ fn push_seats(
 ) -> Result<(), AllocError>
     requires there { limit ≤ length frames.now }
     requires counted { ClocksAreCounted frames.now }
-    ensures { IfOk result (λ _. standards.new.items ≡ standards.old.items ++ seats_standards (frame_standards frames.now limit) seats.now) }
+    ensures { IfOk result (λ _. standards.new.items
+        ≡ standards.old.items ++ seats_standards (frame_standards frames.now limit) seats.now) }
 {
     for seat in seats {
         match seat.of {
@@ -49,16 +51,16 @@ fn push_seats(
     Ok(())
 }
 
-/// Appends the standard blocks of the frame of a number, instance by instance, nested ones too, as the clocks of its cells lie. An instance
-/// without any is skipped by the mark of its frame. Fails if allocation fails; what was appended then is of no use. A frame that isn't there
-/// has none.
+/// Appends the standard blocks of the frame of a number, instance by instance, nested ones too, as the clocks of its cells lie. An instance without
+/// any is skipped by the mark of its frame. Fails if memory is refused; what was appended then is of no use. A frame that isn't there has none.
 pub fn push_standards(
     frames: &[Frame],
     k: usize,
     standards: &mut Vec<Standard>,
 ) -> Result<(), AllocError>
     requires { ClocksAreCounted frames.now }
-    ensures { IfOk result (λ _. standards.new.items ≡ standards.old.items ++ frame_standards frames.now (length frames.now) k) }
+    ensures { IfOk result (λ _. standards.new.items
+        ≡ standards.old.items ++ frame_standards frames.now (length frames.now) k) }
 {
     push_within(frames, frames.len(), k, standards)
 }

@@ -68,7 +68,9 @@ pub fn start_frame(
     cells: &mut Cells,
 )
     requires { StartsAreMarked frames.now }
-    ensures { cells.new ≡ frame_begun globals frames.now (length frames.now) k (record { values = values; clocks = clocks }) cells.old }
+    ensures { cells.new
+        ≡ frame_begun globals frames.now (length frames.now) k
+        (record { values = values; clocks = clocks }) cells.old }
 {
     let base = Base {
         values: values as u128,

@@ -32,7 +32,8 @@ fn run_within(
     requires there { limit ≤ length frames.now }
     requires in_turn { AreInTurn frames.now }
     requires room { HasRoom base limit }
-    ensures ran { ended (frame_paths frames.now limit k) result cells.new ≡ run_within moment globals frames.now limit k base cells.old }
+    ensures ran { ended (frame_paths frames.now limit k) result cells.new
+        ≡ run_within moment globals frames.now limit k base cells.old }
     ensures path { IfErr result (λ stop. stop.place.path < length (frame_paths frames.now limit k)) }
 {
     if k < limit {
@@ -68,8 +69,11 @@ pub(crate) fn run_body(
     requires in_turn { AreInTurn frames.now }
     requires own { InTurn (frame_paths frames.now limit) seats.now }
     requires room { HasRoom base (limit + 1) }
-    ensures ran { ended (paths_within frames.now limit seats.now) result cells.new ≡ run_all (space_within moment globals frames.now limit seats.now base) (view_body body.now) cells.old }
-    ensures path { IfErr result (λ stop. stop.place.path < length (paths_within frames.now limit seats.now)) }
+    ensures ran { ended (paths_within frames.now limit seats.now) result cells.new
+        ≡ run_all (space_within moment globals frames.now limit seats.now base) (view_body body.now)
+        cells.old }
+    ensures path { IfErr result (λ stop. stop.place.path
+        < length (paths_within frames.now limit seats.now)) }
 {
     for stmt in body {
         run_stmt(frames, limit, seats, globals, base, stmt, cells, moment)?;
@@ -93,8 +97,11 @@ fn run_stmt(
     requires in_turn { AreInTurn frames.now }
     requires own { InTurn (frame_paths frames.now limit) seats.now }
     requires room { HasRoom base (limit + 1) }
-    ensures ran { ended (paths_within frames.now limit seats.now) result cells.new ≡ run (space_within moment globals frames.now limit seats.now base) (view_stmt stmt.now) cells.old }
-    ensures path { IfErr result (λ stop. stop.place.path < length (paths_within frames.now limit seats.now)) }
+    ensures ran { ended (paths_within frames.now limit seats.now) result cells.new
+        ≡ run (space_within moment globals frames.now limit seats.now base) (view_stmt stmt.now)
+        cells.old }
+    ensures path { IfErr result (λ stop. stop.place.path
+        < length (paths_within frames.now limit seats.now)) }
 {
     match stmt {
         Stmt::Empty(_) => Ok(()),
@@ -175,8 +182,11 @@ fn run_call(
     requires in_turn { AreInTurn frames.now }
     requires own { InTurn (frame_paths frames.now limit) seats.now }
     requires room { HasRoom base (limit + 1) }
-    ensures ran { ended (paths_within frames.now limit seats.now) result cells.new ≡ run (space_within moment globals frames.now limit seats.now base) (call number instance (map view_argument arguments.now)) cells.old }
-    ensures path { IfErr result (λ stop. stop.place.path < length (paths_within frames.now limit seats.now)) }
+    ensures ran { ended (paths_within frames.now limit seats.now) result cells.new
+        ≡ run (space_within moment globals frames.now limit seats.now base)
+        (call number instance (map view_argument arguments.now)) cells.old }
+    ensures path { IfErr result (λ stop. stop.place.path
+        < length (paths_within frames.now limit seats.now)) }
 {
     match take_inputs(number, instance, arguments, globals, seats, base, cells) {
         Ok(()) => match run_called(frames, limit, seats, globals, base, instance, cells, moment) {
@@ -206,8 +216,11 @@ fn run_called(
     requires in_turn { AreInTurn frames.now }
     requires own { InTurn (frame_paths frames.now limit) seats.now }
     requires room { HasRoom base (limit + 1) }
-    ensures ran { ended (paths_within frames.now limit seats.now) result cells.new ≡ called moment (placed (run_within moment globals frames.now limit)) (slice_get seats.now instance) base [] cells.old }
-    ensures path { IfErr result (λ stop. stop.place.path < length (paths_within frames.now limit seats.now)) }
+    ensures ran { ended (paths_within frames.now limit seats.now) result cells.new
+        ≡ called moment (placed (run_within moment globals frames.now limit))
+        (slice_get seats.now instance) base [] cells.old }
+    ensures path { IfErr result (λ stop. stop.place.path
+        < length (paths_within frames.now limit seats.now)) }
 {
     match seats.get(instance) {
         Some(seat) => match seat.of {
@@ -256,8 +269,11 @@ fn run_first_true(
     requires in_turn { AreInTurn frames.now }
     requires own { InTurn (frame_paths frames.now limit) seats.now }
     requires room { HasRoom base (limit + 1) }
-    ensures ran { chosen (paths_within frames.now limit seats.now) result cells.new ≡ first_true (space_within moment globals frames.now limit seats.now base) statement (view_branches branches.now) cells.old }
-    ensures path { IfErr result (λ stop. stop.place.path < length (paths_within frames.now limit seats.now)) }
+    ensures ran { chosen (paths_within frames.now limit seats.now) result cells.new
+        ≡ first_true (space_within moment globals frames.now limit seats.now base) statement
+        (view_branches branches.now) cells.old }
+    ensures path { IfErr result (λ stop. stop.place.path
+        < length (paths_within frames.now limit seats.now)) }
 {
     for branch in branches {
         if in_statement(
@@ -298,8 +314,11 @@ fn run_first_fit(
     requires in_turn { AreInTurn frames.now }
     requires own { InTurn (frame_paths frames.now limit) seats.now }
     requires room { HasRoom base (limit + 1) }
-    ensures ran { chosen (paths_within frames.now limit seats.now) result cells.new ≡ first_fit (space_within moment globals frames.now limit seats.now base) n (view_choices choices.now) cells.old }
-    ensures path { IfErr result (λ stop. stop.place.path < length (paths_within frames.now limit seats.now)) }
+    ensures ran { chosen (paths_within frames.now limit seats.now) result cells.new
+        ≡ first_fit (space_within moment globals frames.now limit seats.now base) n
+        (view_choices choices.now) cells.old }
+    ensures path { IfErr result (λ stop. stop.place.path
+        < length (paths_within frames.now limit seats.now)) }
 {
     for choice in choices {
         if labels_fit(n, &choice.labels) {
@@ -337,8 +356,12 @@ fn run_turns(
     requires in_turn { AreInTurn frames.now }
     requires own { InTurn (frame_paths frames.now limit) seats.now }
     requires room { HasRoom base (limit + 1) }
-    ensures ran { ended (paths_within frames.now limit seats.now) result cells.new ≡ turns (λ w n. (space_within moment globals frames.now limit seats.now base).put w slot n) (run_all (space_within moment globals frames.now limit seats.now base) (view_body body.now)) (control_values span) cells.old }
-    ensures path { IfErr result (λ stop. stop.place.path < length (paths_within frames.now limit seats.now)) }
+    ensures ran { ended (paths_within frames.now limit seats.now) result cells.new
+        ≡ turns (λ w n. (space_within moment globals frames.now limit seats.now base).put w slot n)
+        (run_all (space_within moment globals frames.now limit seats.now base) (view_body body.now))
+        (control_values span) cells.old }
+    ensures path { IfErr result (λ stop. stop.place.path
+        < length (paths_within frames.now limit seats.now)) }
 {
     if span.step > 0 {
         count_up(
@@ -376,8 +399,12 @@ fn count_up(
     requires own { InTurn (frame_paths frames.now limit) seats.now }
     requires room { HasRoom base (limit + 1) }
     requires step { pos 0 <ℤ step }
-    ensures ran { ended (paths_within frames.now limit seats.now) result cells.new ≡ turns (λ w n. (space_within moment globals frames.now limit seats.now base).put w slot n) (run_all (space_within moment globals frames.now limit seats.now base) (view_body body.now)) (up from to step) cells.old }
-    ensures path { IfErr result (λ stop. stop.place.path < length (paths_within frames.now limit seats.now)) }
+    ensures ran { ended (paths_within frames.now limit seats.now) result cells.new
+        ≡ turns (λ w n. (space_within moment globals frames.now limit seats.now base).put w slot n)
+        (run_all (space_within moment globals frames.now limit seats.now base) (view_body body.now))
+        (up from to step) cells.old }
+    ensures path { IfErr result (λ stop. stop.place.path
+        < length (paths_within frames.now limit seats.now)) }
 {
     let mut at = i128::from(from);
     while at <= i128::from(to) {
@@ -409,8 +436,12 @@ fn count_down(
     requires own { InTurn (frame_paths frames.now limit) seats.now }
     requires room { HasRoom base (limit + 1) }
     requires step { step <ℤ pos 0 }
-    ensures ran { ended (paths_within frames.now limit seats.now) result cells.new ≡ turns (λ w n. (space_within moment globals frames.now limit seats.now base).put w slot n) (run_all (space_within moment globals frames.now limit seats.now base) (view_body body.now)) (down from to step) cells.old }
-    ensures path { IfErr result (λ stop. stop.place.path < length (paths_within frames.now limit seats.now)) }
+    ensures ran { ended (paths_within frames.now limit seats.now) result cells.new
+        ≡ turns (λ w n. (space_within moment globals frames.now limit seats.now base).put w slot n)
+        (run_all (space_within moment globals frames.now limit seats.now base) (view_body body.now))
+        (down from to step) cells.old }
+    ensures path { IfErr result (λ stop. stop.place.path
+        < length (paths_within frames.now limit seats.now)) }
 {
     let mut at = i128::from(from);
     while i128::from(to) <= at {
@@ -434,8 +465,12 @@ pub fn walk_frame(
     moment: u64,
 ) -> Result<(), Stop>
     requires in_turn { AreInTurn frames.now }
-    ensures ran { (path : Path) → under path (ended (frame_paths frames.now (length frames.now) k) result cells.new) ≡ run_frame moment globals frames.now (length frames.now) k (record { values = values; clocks = clocks }) path cells.old }
-    ensures path { IfErr result (λ stop. stop.place.path < length (frame_paths frames.now (length frames.now) k)) }
+    ensures ran { (path : Path)
+        → under path (ended (frame_paths frames.now (length frames.now) k) result cells.new)
+        ≡ run_frame moment globals frames.now (length frames.now) k
+        (record { values = values; clocks = clocks }) path cells.old }
+    ensures path { IfErr result (λ stop. stop.place.path
+        < length (frame_paths frames.now (length frames.now) k)) }
 {
     let base = Base {
         values: values as u128,

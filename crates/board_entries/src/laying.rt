@@ -32,7 +32,7 @@ fn is_met(cells: &Cells, row: &AlarmRow) -> bool
     value_at(cells, row.condition) != 0
 }
 
-/// The condition of each alarm, by cells. Fails if memory was refused.
+/// The condition of each alarm, by cells.
 fn conditions(alloc: Global, rows: &[AlarmRow], cells: &Cells) -> Result<Vec<bool>, AllocError>
     ensures { IfOk result (λ flags. flags.items ≡ conditions (value_at cells.now) rows.now) }
 {
@@ -53,7 +53,7 @@ fn is_suppressed(cells: &Cells, row: &AlarmRow) -> bool
     }
 }
 
-/// The suppression of each alarm, by cells. Fails if memory was refused.
+/// The suppression of each alarm, by cells.
 fn suppressions(alloc: Global, rows: &[AlarmRow], cells: &Cells) -> Result<Vec<bool>, AllocError>
     ensures { IfOk result (λ flags. flags.items ≡ suppressions (value_at cells.now) rows.now) }
 {
@@ -64,7 +64,7 @@ fn suppressions(alloc: Global, rows: &[AlarmRow], cells: &Cells) -> Result<Vec<b
     Ok(flags)
 }
 
-/// What a scan gives to alarms with these delays that leaves these cells. Fails if memory was refused.
+/// What a scan gives to alarms with these delays that leaves these cells.
 fn given(
     alloc: Global,
     rows: &[AlarmRow],
@@ -73,7 +73,10 @@ fn given(
     moment: u64,
 ) -> Result<BankEvent, AllocError>
     requires { length delays.now.delays ≡ length rows.now }
-    ensures { IfOk result (λ event. event ≡ Scan moment (delayed_each (conditions (value_at cells.now) rows.now) moment delays.now.delays delays.now.since) (suppressions (value_at cells.now) rows.now)) }
+    ensures { IfOk result (λ event. event
+        ≡ Scan moment
+        (delayed_each (conditions (value_at cells.now) rows.now) moment delays.now.delays
+        delays.now.since) (suppressions (value_at cells.now) rows.now)) }
 {
     let mut conds = conditions(alloc, rows, cells)?;
     delays.which_count(conds.as_mut_slice(), moment);
@@ -104,8 +107,11 @@ pub fn lay_scan(
 ) -> Result<(), AllocError>
     requires has { HasHistory engine.now.plant engine.now.history board.old }
     requires fits { Fits engine.now prepared.now }
-    ensures same { (published board.new ≡ published board.old) × (log_kept board.new ≡ log_kept board.old) }
-    ensures laid { MatchResult result (λ _. HasHistory engine.now.plant (engine.now.history ++ prepared.now.event ∷ []) board.new) (λ _. HasHistory engine.now.plant engine.now.history board.new) }
+    ensures same { (published board.new ≡ published board.old)
+        × (log_kept board.new ≡ log_kept board.old) }
+    ensures laid { MatchResult result
+        (λ _. HasHistory engine.now.plant (engine.now.history ++ prepared.now.event ∷ []) board.new)
+        (λ _. HasHistory engine.now.plant engine.now.history board.new) }
 {
     engine.leaves_a_state(prepared);
     let rows = engine.plant().alarm_rows();
@@ -124,8 +130,12 @@ pub fn lay_order(
 ) -> Result<(), AllocError>
     requires has { HasHistory engine.now.plant engine.now.history board.old }
     requires fits { FitsOrder engine.now prepared.now }
-    ensures same { (published board.new ≡ published board.old) × (log_kept board.new ≡ log_kept board.old) }
-    ensures laid { MatchResult result (λ _. HasHistory engine.now.plant (engine.now.history ++ Order prepared.now.console prepared.now.order ∷ []) board.new) (λ _. HasHistory engine.now.plant engine.now.history board.new) }
+    ensures same { (published board.new ≡ published board.old)
+        × (log_kept board.new ≡ log_kept board.old) }
+    ensures laid { MatchResult result
+        (λ _. HasHistory engine.now.plant
+        (engine.now.history ++ Order prepared.now.console prepared.now.order ∷ []) board.new)
+        (λ _. HasHistory engine.now.plant engine.now.history board.new) }
 {
     let answer = Answer {
         order: prepared.order,
@@ -143,8 +153,11 @@ pub fn lay_reload(
 ) -> Result<(), AllocError>
     requires has { HasHistory engine.now.plant engine.now.history board.old }
     requires taken { IsTaken (state_of engine.now) (Reload new.now) }
-    ensures same { (published board.new ≡ published board.old) × (log_kept board.new ≡ log_kept board.old) }
-    ensures laid { MatchResult result (λ _. HasHistory engine.now.plant (engine.now.history ++ Reload new.now ∷ []) board.new) (λ _. HasHistory engine.now.plant engine.now.history board.new) }
+    ensures same { (published board.new ≡ published board.old)
+        × (log_kept board.new ≡ log_kept board.old) }
+    ensures laid { MatchResult result
+        (λ _. HasHistory engine.now.plant (engine.now.history ++ Reload new.now ∷ []) board.new)
+        (λ _. HasHistory engine.now.plant engine.now.history board.new) }
 {
     let news = news_of(alloc, engine.plant(), new)?;
     board.lay(Entry::Reload(Items::from_vec(news)))

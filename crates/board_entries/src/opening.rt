@@ -14,7 +14,7 @@ use plant_system::opening_state;
 use std::alloc::{AllocError, Global};
 use std::sync::Wait;
 
-/// The alarms of a plant before the first event. Fails if memory was refused.
+/// The alarms of a plant before the first event.
 fn opening_bank(alloc: Global, plant: &Plant) -> Result<Bank, AllocError>
     ensures { IfOk result (λ bank. bank ≡ bank_of (opening_system plant.now)) }
 {
@@ -25,7 +25,7 @@ fn opening_bank(alloc: Global, plant: &Plant) -> Result<Bank, AllocError>
 /// For how many alarms a board has places: as many as a plant may have.
 const PLACES: usize = 20_000;
 
-/// The alarms of a plant before the first event in the places of a board. Fails if memory was refused.
+/// The alarms of a plant before the first event in the places of a board.
 fn opening_panel(alloc: Global, plant: &Plant) -> Result<Annunciator, AllocError>
     ensures { IfOk result (λ panel. panel ≡ panel_of (opening_system plant.now)) }
 {
@@ -34,7 +34,7 @@ fn opening_panel(alloc: Global, plant: &Plant) -> Result<Annunciator, AllocError
     Annunciator::of(alloc, &bank, PLACES)
 }
 
-/// A tally for each console, with no order yet. Fails if memory was refused.
+/// A tally for each console, with no order yet.
 fn tallies_of(alloc: Global, consoles: &[Console]) -> Result<Vec<Tally>, AllocError>
     ensures none { IfOk result (λ tallies. All (λ t. t.orders ≡ 0) tallies.items) }
     ensures all { IfOk result (λ tallies. consoles_in tallies.items ≡ counted_consoles consoles.now) }
@@ -49,16 +49,17 @@ fn tallies_of(alloc: Global, consoles: &[Console]) -> Result<Vec<Tally>, AllocEr
     Ok(tallies)
 }
 
-/// A board of a plant before the first event, which counts the orders of its consoles. Fails if memory was refused.
+/// A board of a plant before the first event, which counts the orders of its consoles.
 fn opening_board(alloc: Global, plant: &Plant) -> Result<Board, AllocError>
-    ensures { IfOk result (λ board. (board.opening.value ≡ picture_of (opening_system plant.now)) × (board.list ≡ [])) }
+    ensures { IfOk result (λ board. (board.opening.value ≡ picture_of (opening_system plant.now))
+        × (board.list ≡ [])) }
 {
     let panel = opening_panel(alloc, plant)?;
     let tallies = tallies_of(alloc, plant.consoles())?;
     Ok(Board::new(panel, tallies))
 }
 
-/// The writer of a board of a plant before the first event, with a place for a reader for each console of the plant. Fails if memory was refused.
+/// The writer of a board of a plant before the first event, with a place for a reader for each console of the plant.
 pub fn open_board<R: Wait>(rt: &R, alloc: Global, plant: &Plant) -> Result<BoardWriter, AllocError>
     ensures { IfOk result (HasHistory plant.now []) }
 {

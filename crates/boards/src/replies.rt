@@ -102,7 +102,9 @@ fn answer(panel: &mut Annunciator, answer: Answer)
 /// Takes in an entry, if it may come next, and tells whether it may; one that may not changes nothing.
 pub(crate) fn take(panel: &mut Annunciator, entry: &Entry) -> bool
     ensures allowed { result ≡ panel_allows_entry panel.old entry.now }
-    ensures taken { panel.new ≡ (if panel_allows_entry panel.old entry.now then panel_after_entry panel.old entry.now else panel.old) }
+    ensures taken { panel.new
+        ≡ (if panel_allows_entry panel.old entry.now then panel_after_entry panel.old entry.now else
+        panel.old) }
 {
     match entry {
         Entry::Scan(event) => {

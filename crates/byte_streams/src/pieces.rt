@@ -9,7 +9,7 @@ use std::alloc::{AllocError, Global};
 /// How many bytes are asked of a feed at once.
 const PIECE: usize = 65_536;
 
-/// Allocates the buffer for a piece of what a feed gives. Fails if allocation fails.
+/// Allocates the buffer for a piece of what a feed gives.
 pub fn empty_piece(alloc: Global) -> Result<Vec<u8>, AllocError>
     ensures { IfOk result (λ v. vec_len v ≡ 65536) }
 {

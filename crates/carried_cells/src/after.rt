@@ -9,7 +9,7 @@ use crate::kept::{kept_calls, kept_values, places_of, standard_paths, value_path
 use plant_cells::Clock;
 use std::alloc::{AllocError, Global};
 
-/// The values of a new source, by those of the old one and those before the new one's first scan. Fails if allocation fails.
+/// The values of a new source, by those of the old one and those before the new one's first scan.
 pub fn values_after(
     alloc: Global,
     both: &Both,
@@ -25,7 +25,7 @@ pub fn values_after(
     Ok(after)
 }
 
-/// The clocks of a new source, by those of the old one and those before the new one's first scan. Fails if allocation fails.
+/// The clocks of a new source, by those of the old one and those before the new one's first scan.
 pub fn clocks_after(
     alloc: Global,
     both: &Both,

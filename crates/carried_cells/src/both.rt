@@ -27,7 +27,7 @@ pub struct Both {
     pub paths: usize,
 }
 
-/// Lists a source by a table of paths, which grows. Fails if allocation fails.
+/// Lists a source by a table of paths, which grows.
 fn listed_on(
     alloc: Global,
     numbers: HashMap<u128, usize>,
@@ -35,7 +35,8 @@ fn listed_on(
 ) -> Result<Listed, AllocError>
     requires { AreNumbered (get nat_eq numbers) (hash_map_len numbers) }
     ensures numbered { IfOk result IsNumbered }
-    ensures listed { IfOk result (λ listed. (words : List ℕ → Option ℕ) (source : Source) → IsSourceShape words shape.now source → IsListed words (get nat_eq numbers) listed source) }
+    ensures listed { IfOk result (λ listed. (words : List ℕ → Option ℕ) (source : Source)
+        → IsSourceShape words shape.now source → IsListed words (get nat_eq numbers) listed source) }
 {
     let mut listed = Listed {
         numbers,
@@ -46,9 +47,11 @@ fn listed_on(
     Ok(listed)
 }
 
-/// Lists an old source and a new one that have the same numbers of words. Fails if allocation fails.
+/// Lists an old source and a new one that have the same numbers of words.
 pub fn both_of(alloc: Global, old: &SourceShape, new: &SourceShape) -> Result<Both, AllocError>
-    ensures { IfOk result (λ both. (words : List ℕ → Option ℕ) (before after : Source) → IsSourceShape words old.now before → IsSourceShape words new.now after → AreBoth words both before after) }
+    ensures { IfOk result (λ both. (words : List ℕ → Option ℕ) (before after : Source)
+        → IsSourceShape words old.now before → IsSourceShape words new.now after
+        → AreBoth words both before after) }
 {
     let first = listed_on(alloc, HashMap::new(alloc), old)?;
     let Listed {

@@ -34,14 +34,15 @@ fn carried_clock(before: &[Clock], here: Clock, kept: Option<usize>) -> Clock
     }
 }
 
-/// Values after the old ones of these numbers were carried to them. Fails if allocation fails.
+/// Values after the old ones of these numbers were carried to them.
 pub fn carried_values(
     alloc: Global,
     before: &[i64],
     here: &[i64],
     kept: &[Option<usize>],
 ) -> Result<Vec<i64>, AllocError>
-    ensures { IfOk result (λ after. AreCarried before.now here.now kept.now (length here.now) after.items) }
+    ensures { IfOk result (λ after. AreCarried before.now here.now kept.now (length here.now)
+        after.items) }
 {
     let mut after = Vec::with_capacity(alloc, here.len())?;
     for number in 0..here.len() {
@@ -52,14 +53,15 @@ pub fn carried_values(
     Ok(after)
 }
 
-/// Clocks after the old ones of these numbers were carried to them. Fails if allocation fails.
+/// Clocks after the old ones of these numbers were carried to them.
 pub fn carried_clocks(
     alloc: Global,
     before: &[Clock],
     here: &[Clock],
     kept: &[Option<usize>],
 ) -> Result<Vec<Clock>, AllocError>
-    ensures { IfOk result (λ after. AreCarried before.now here.now kept.now (length here.now) after.items) }
+    ensures { IfOk result (λ after. AreCarried before.now here.now kept.now (length here.now)
+        after.items) }
 {
     let mut after = Vec::with_capacity(alloc, here.len())?;
     for number in 0..here.len() {

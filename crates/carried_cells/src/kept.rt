@@ -55,7 +55,7 @@ fn same_standard(a: BlockRef, b: BlockRef) -> bool
     }
 }
 
-/// The paths of values, by their numbers. Fails if allocation fails.
+/// The paths of values, by their numbers.
 pub fn value_paths(alloc: Global, values: &[ValueAt]) -> Result<Vec<usize>, AllocError>
     ensures { IfOk result (λ paths. paths.items ≡ map value_path values.now) }
 {
@@ -66,7 +66,7 @@ pub fn value_paths(alloc: Global, values: &[ValueAt]) -> Result<Vec<usize>, Allo
     Ok(paths)
 }
 
-/// The paths of standard blocks, by their numbers. Fails if allocation fails.
+/// The paths of standard blocks, by their numbers.
 pub fn standard_paths(alloc: Global, standards: &[StandardAt]) -> Result<Vec<usize>, AllocError>
     ensures { IfOk result (λ paths. paths.items ≡ map standard_path standards.now) }
 {
@@ -77,7 +77,7 @@ pub fn standard_paths(alloc: Global, standards: &[StandardAt]) -> Result<Vec<usi
     Ok(paths)
 }
 
-/// So many places where nothing is. Fails if allocation fails.
+/// So many places where nothing is.
 fn empty_places(alloc: Global, size: usize) -> Result<Vec<Option<usize>>, AllocError>
     ensures { IfOk result (λ places. places.items ≡ replicate size None) }
 {
@@ -98,7 +98,7 @@ fn put_place(places: &mut Vec<Option<usize>>, path: usize, number: usize)
     }
 }
 
-/// Where in a list each path stands, for paths below a number. Fails if allocation fails.
+/// Where in a list each path stands, for paths below a number.
 pub fn places_of(
     alloc: Global,
     size: usize,
@@ -176,7 +176,7 @@ fn kept_call(old: &[StandardAt], places: &[Option<usize>], standard: StandardAt)
     }
 }
 
-/// For each value the number of the old one that goes over to it, by the places of the old ones. Fails if allocation fails.
+/// For each value the number of the old one that goes over to it, by the places of the old ones.
 pub fn kept_values(
     alloc: Global,
     old: &[ValueAt],
@@ -192,7 +192,7 @@ pub fn kept_values(
     Ok(kept)
 }
 
-/// For each standard block the number of the old one whose calls go over to it, by the places of the old ones. Fails if allocation fails.
+/// For each standard block the number of the old one whose calls go over to it, by the places of the old ones.
 pub fn kept_calls(
     alloc: Global,
     old: &[StandardAt],

@@ -73,12 +73,13 @@ pub struct SourceShape {
     pub table: Table,
 }
 
-/// Lists variables at the path of a number. Fails if allocation fails.
+/// Lists variables at the path of a number.
 fn list_own(own: &[Own], path: usize, listed: &mut Listed) -> Result<(), AllocError>
     requires { IsListing listed.old }
     ensures numbered { OnOk result (IsListing listed.new) }
-    ensures lists { OnOk result ((words : List ℕ → Option ℕ) (locals : List Local) (q : Path) → AreOwn words own.now locals → HasPath words listed.old path q
-        → Adds words listed.old listed.new (local_kinds locals q) []) }
+    ensures lists { OnOk result
+        ((words : List ℕ → Option ℕ) (locals : List Local) (q : Path) → AreOwn words own.now locals
+        → HasPath words listed.old path q → Adds words listed.old listed.new (local_kinds locals q) []) }
 {
     for variable in own {
         let below = path_number(&mut listed.numbers, path, variable.word)?;
@@ -91,12 +92,14 @@ fn list_own(own: &[Own], path: usize, listed: &mut Listed) -> Result<(), AllocEr
     Ok(())
 }
 
-/// Lists the elements of an array at its path's number. Fails if allocation fails.
+/// Lists the elements of an array at its path's number.
 fn list_row(row: OwnRow, path: usize, listed: &mut Listed) -> Result<(), AllocError>
     requires { IsListing listed.old }
     ensures numbered { OnOk result (IsListing listed.new) }
-    ensures lists { OnOk result ((words : List ℕ → Option ℕ) (q : Path) → IsMeasured row → HasPath words listed.old path q
-        → Adds words listed.old listed.new (map (element_at row.kind row.bounds) (element_values row.bounds q)) []) }
+    ensures lists { OnOk result
+        ((words : List ℕ → Option ℕ) (q : Path) → IsMeasured row → HasPath words listed.old path q
+        → Adds words listed.old listed.new
+        (map (element_at row.kind row.bounds) (element_values row.bounds q)) []) }
 {
     let first = FIRST_ELEMENT + row.first as usize;
     let count = row.last as usize + 1;
@@ -111,12 +114,13 @@ fn list_row(row: OwnRow, path: usize, listed: &mut Listed) -> Result<(), AllocEr
     Ok(())
 }
 
-/// Lists arrays at the path of a number, element by element. Fails if allocation fails.
+/// Lists arrays at the path of a number, element by element.
 fn list_rows(rows: &[OwnRow], path: usize, listed: &mut Listed) -> Result<(), AllocError>
     requires { IsListing listed.old }
     ensures numbered { OnOk result (IsListing listed.new) }
-    ensures lists { OnOk result ((words : List ℕ → Option ℕ) (arrays : List Row) (q : Path) → AreRows words rows.now arrays → HasPath words listed.old path q
-        → Adds words listed.old listed.new (row_kinds arrays q) []) }
+    ensures lists { OnOk result
+        ((words : List ℕ → Option ℕ) (arrays : List Row) (q : Path) → AreRows words rows.now arrays
+        → HasPath words listed.old path q → Adds words listed.old listed.new (row_kinds arrays q) []) }
 {
     for row in rows {
         let below = path_number(&mut listed.numbers, path, row.word)?;
@@ -125,7 +129,7 @@ fn list_rows(rows: &[OwnRow], path: usize, listed: &mut Listed) -> Result<(), Al
     Ok(())
 }
 
-/// Lists a standard block at the path of a number, with its inputs. Fails if allocation fails.
+/// Lists a standard block at the path of a number, with its inputs.
 fn list_standard(
     inputs: &[Own],
     of: BlockRef,
@@ -134,7 +138,9 @@ fn list_standard(
 ) -> Result<(), AllocError>
     requires { IsListing listed.old }
     ensures numbered { OnOk result (IsListing listed.new) }
-    ensures lists { OnOk result ((words : List ℕ → Option ℕ) (locals : List Local) (q : Path) → AreOwn words inputs.now locals → HasPath words listed.old path q
+    ensures lists { OnOk result
+        ((words : List ℕ → Option ℕ) (locals : List Local) (q : Path) → AreOwn words inputs.now locals
+        → HasPath words listed.old path q
         → Adds words listed.old listed.new (local_kinds locals q) (record { of = of; path = q } ∷ [])) }
 {
     list_own(inputs, path, listed)?;
@@ -142,7 +148,7 @@ fn list_standard(
     Ok(())
 }
 
-/// Lists an instance at the path of a number, with those below it, so many levels deep. Fails if allocation fails.
+/// Lists an instance at the path of a number, with those below it, so many levels deep.
 #[cycle(lists)]
 fn list_block(
     table: &Table,
@@ -153,8 +159,12 @@ fn list_block(
 ) -> Result<(), AllocError>
     requires { IsListing listed.old }
     ensures numbered { OnOk result (IsListing listed.new) }
-    ensures lists { OnOk result ((words : List ℕ → Option ℕ) (blocks : List PlainRoutine) (q : Path) → AreTable words table.now blocks → HasPath words listed.old path q
-        → Adds words listed.old listed.new (block_kinds (levels (λ path. []) kinds_rule blocks depth) of q) (block_clocks (levels (λ path. []) clocks_rule blocks depth) of q)) }
+    ensures lists { OnOk result
+        ((words : List ℕ → Option ℕ) (blocks : List PlainRoutine) (q : Path)
+        → AreTable words table.now blocks → HasPath words listed.old path q
+        → Adds words listed.old listed.new
+        (block_kinds (levels (λ path. []) kinds_rule blocks depth) of q)
+        (block_clocks (levels (λ path. []) clocks_rule blocks depth) of q)) }
 {
     match of {
         BlockRef::Ton | BlockRef::Tof => list_standard(&table.timer, of, path, listed),
@@ -168,7 +178,7 @@ fn list_block(
     }
 }
 
-/// Lists an instance of the routine at the path of a number, so many levels deep. What holds nothing is passed over. Fails if allocation fails.
+/// Lists an instance of the routine at the path of a number, so many levels deep. What holds nothing is passed over.
 #[cycle(lists)]
 fn list_part(
     table: &Table,
@@ -179,8 +189,12 @@ fn list_part(
 ) -> Result<(), AllocError>
     requires { IsListing listed.old }
     ensures numbered { OnOk result (IsListing listed.new) }
-    ensures lists { OnOk result ((words : List ℕ → Option ℕ) (blocks : List PlainRoutine) (i : Instance) (q : Path) → AreTable words table.now blocks → IsPart words part i → HasPath words listed.old path q
-        → Adds words listed.old listed.new (block_kinds (levels (λ path. []) kinds_rule blocks depth) i.of (folded i.name ∷ q)) (block_clocks (levels (λ path. []) clocks_rule blocks depth) i.of (folded i.name ∷ q))) }
+    ensures lists { OnOk result
+        ((words : List ℕ → Option ℕ) (blocks : List PlainRoutine) (i : Instance) (q : Path)
+        → AreTable words table.now blocks → IsPart words part i → HasPath words listed.old path q
+        → Adds words listed.old listed.new
+        (block_kinds (levels (λ path. []) kinds_rule blocks depth) i.of (folded i.name ∷ q))
+        (block_clocks (levels (λ path. []) clocks_rule blocks depth) i.of (folded i.name ∷ q))) }
 {
     if is_marked(&table.marks, part.of) {
         return Ok(());
@@ -189,8 +203,7 @@ fn list_part(
     list_block(table, depth, part.of, below, listed)
 }
 
-/// Lists a routine at the path of a number, so many levels deep: its own variables and arrays, and then its instances. Fails if allocation
-/// fails.
+/// Lists a routine at the path of a number, so many levels deep: its own variables and arrays, and then its instances.
 #[cycle(lists)]
 fn list_routine(
     table: &Table,
@@ -201,8 +214,11 @@ fn list_routine(
 ) -> Result<(), AllocError>
     requires { IsListing listed.old }
     ensures numbered { OnOk result (IsListing listed.new) }
-    ensures lists { OnOk result ((words : List ℕ → Option ℕ) (blocks : List PlainRoutine) (r : PlainRoutine) (q : Path) → AreTable words table.now blocks → IsShape words shape.now r → HasPath words listed.old path q
-        → Adds words listed.old listed.new (kinds_rule (levels (λ path. []) kinds_rule blocks depth) r q) (clocks_rule (levels (λ path. []) clocks_rule blocks depth) r q)) }
+    ensures lists { OnOk result
+        ((words : List ℕ → Option ℕ) (blocks : List PlainRoutine) (r : PlainRoutine) (q : Path)
+        → AreTable words table.now blocks → IsShape words shape.now r → HasPath words listed.old path q
+        → Adds words listed.old listed.new (kinds_rule (levels (λ path. []) kinds_rule blocks depth) r q)
+        (clocks_rule (levels (λ path. []) clocks_rule blocks depth) r q)) }
 {
     list_own(&shape.own, path, listed)?;
     list_rows(&shape.rows, path, listed)?;
@@ -212,12 +228,15 @@ fn list_routine(
     Ok(())
 }
 
-/// Lists programs, one after another. Fails if allocation fails.
+/// Lists programs, one after another.
 fn list_programs(table: &Table, programs: &[Program], listed: &mut Listed) -> Result<(), AllocError>
     requires { IsListing listed.old }
     ensures numbered { OnOk result (IsListing listed.new) }
-    ensures lists { OnOk result ((words : List ℕ → Option ℕ) (blocks routines : List PlainRoutine) → AreTable words table.now blocks → ArePrograms words programs.now routines
-        → Adds words listed.old listed.new (program_kinds blocks routines) (program_clocks blocks routines)) }
+    ensures lists { OnOk result
+        ((words : List ℕ → Option ℕ) (blocks routines : List PlainRoutine)
+        → AreTable words table.now blocks → ArePrograms words programs.now routines
+        → Adds words listed.old listed.new (program_kinds blocks routines)
+        (program_clocks blocks routines)) }
 {
     for program in programs {
         let path = path_number(&mut listed.numbers, 0, program.word)?;
@@ -226,11 +245,13 @@ fn list_programs(table: &Table, programs: &[Program], listed: &mut Listed) -> Re
     Ok(())
 }
 
-/// Lists a source: its globals, and then program by program. Fails if allocation fails.
+/// Lists a source: its globals, and then program by program.
 pub fn list_source(shape: &SourceShape, listed: &mut Listed) -> Result<(), AllocError>
     requires { IsListing listed.old }
     ensures numbered { OnOk result (IsListing listed.new) }
-    ensures lists { OnOk result ((words : List ℕ → Option ℕ) (source : Source) → IsSourceShape words shape.now source → Adds words listed.old listed.new (all_kinds source) (all_clocks source)) }
+    ensures lists { OnOk result
+        ((words : List ℕ → Option ℕ) (source : Source) → IsSourceShape words shape.now source
+        → Adds words listed.old listed.new (all_kinds source) (all_clocks source)) }
 {
     list_own(&shape.globals, 0, listed)?;
     list_rows(&shape.rows, 0, listed)?;

@@ -53,7 +53,8 @@ fn mark(marks: &mut Vec<bool>, number: usize)
 
 /// Marks a block type if it holds nothing by the marks so far.
 fn mark_one(marks: &mut Vec<bool>, number: usize, shape: &Shape)
-    ensures { marks.new.items ≡ marked_one marks.old.items number (holds_nothing marks.old.items shape.now) }
+    ensures { marks.new.items
+        ≡ marked_one marks.old.items number (holds_nothing marks.old.items shape.now) }
 {
     if holds_nothing(marks, shape) {
         mark(marks, number);
@@ -70,7 +71,7 @@ fn mark_more(marks: &mut Vec<bool>, shapes: &[Shape])
     }
 }
 
-/// So many marks of which none is set. Fails if allocation fails.
+/// So many marks of which none is set.
 fn no_marks(alloc: Global, size: usize) -> Result<Vec<bool>, AllocError>
     ensures { IfOk result (λ marks. marks.items ≡ replicate size false) }
 {
@@ -82,8 +83,8 @@ fn no_marks(alloc: Global, size: usize) -> Result<Vec<bool>, AllocError>
     Ok(marks)
 }
 
-/// The marks of block types: each that is marked holds nothing, and each that holds nothing is marked where they have no more levels than
-/// are allowed. Fails if allocation fails.
+/// The marks of block types: each that is marked holds nothing, and each that holds nothing is marked where they have no more levels than are
+/// allowed.
 pub fn marks_of(alloc: Global, shapes: &[Shape]) -> Result<Vec<bool>, AllocError>
     ensures { IfOk result (λ marks. AreMarked marks.items shapes.now) }
 {

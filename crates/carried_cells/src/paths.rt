@@ -14,7 +14,7 @@ fn path_key(parent: usize, word: usize) -> u128
     parent as u128 * 18_446_744_073_709_551_616 + word as u128
 }
 
-/// Adds a key that isn't there. Fails if allocation fails.
+/// Adds a key that isn't there.
 fn added_path(numbers: &mut HashMap<u128, usize>, key: u128) -> Result<usize, AllocError>
     requires are { AreNumbered (get nat_eq numbers.old) (hash_map_len numbers.old) }
     requires none { get nat_eq numbers.old key ≡ None }
@@ -27,8 +27,7 @@ fn added_path(numbers: &mut HashMap<u128, usize>, key: u128) -> Result<usize, Al
     Ok(number)
 }
 
-/// The number of the path that goes on from the path of a number by a word, which is added to the table if it isn't there. Fails if
-/// allocation fails.
+/// The number of the path that goes on from the path of a number by a word, which is added to the table if it isn't there.
 pub fn path_number(
     numbers: &mut HashMap<u128, usize>,
     parent: usize,

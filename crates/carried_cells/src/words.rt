@@ -43,7 +43,7 @@ pub struct Shape {
     pub parts: Vec<Part>,
 }
 
-/// Adds a name that isn't there. Fails if allocation fails.
+/// Adds a name that isn't there.
 fn added_word(alloc: Global, names: &mut Names, name: &str) -> Result<usize, AllocError>
     requires { find_name names.old name.now ≡ None }
     ensures number { IfOk result (λ number. IsNumbered (find_name names.new) name.now number) }
@@ -54,7 +54,7 @@ fn added_word(alloc: Global, names: &mut Names, name: &str) -> Result<usize, All
     Ok(number)
 }
 
-/// The number of a name among names, to which it is added if it isn't there. Fails if allocation fails.
+/// The number of a name among names, to which it is added if it isn't there.
 pub fn word_number(alloc: Global, names: &mut Names, name: &str) -> Result<usize, AllocError>
     ensures number { IfOk result (λ number. IsNumbered (find_name names.new) name.now number) }
     ensures grows { OnOk result (Grows (find_name names.old) (find_name names.new)) }
@@ -66,7 +66,7 @@ pub fn word_number(alloc: Global, names: &mut Names, name: &str) -> Result<usize
     }
 }
 
-/// Variables of a routine's own by the numbers of their words. Fails if allocation fails.
+/// Variables of a routine's own by the numbers of their words.
 pub fn own_of(alloc: Global, names: &mut Names, locals: &[Local]) -> Result<Vec<Own>, AllocError>
     ensures are { IfOk result (λ own. AreOwn (find_name names.new) own.items locals.now) }
     ensures grows { OnOk result (Grows (find_name names.old) (find_name names.new)) }
@@ -82,13 +82,14 @@ pub fn own_of(alloc: Global, names: &mut Names, locals: &[Local]) -> Result<Vec<
     Ok(own)
 }
 
-/// Global variables by the numbers of their words. Fails if allocation fails.
+/// Global variables by the numbers of their words.
 pub fn globals_of(
     alloc: Global,
     names: &mut Names,
     globals: &[Variable],
 ) -> Result<Vec<Own>, AllocError>
-    ensures are { IfOk result (λ own. AreOwn (find_name names.new) own.items (map as_local globals.now)) }
+    ensures are { IfOk result (λ own. AreOwn (find_name names.new) own.items
+        (map as_local globals.now)) }
     ensures grows { OnOk result (Grows (find_name names.old) (find_name names.new)) }
 {
     let mut own = Vec::with_capacity(alloc, globals.len())?;
@@ -102,7 +103,7 @@ pub fn globals_of(
     Ok(own)
 }
 
-/// Arrays by the numbers of their words. Fails if allocation fails.
+/// Arrays by the numbers of their words.
 pub fn rows_of(alloc: Global, names: &mut Names, rows: &[Row]) -> Result<Vec<OwnRow>, AllocError>
     ensures are { IfOk result (λ own. AreRows (find_name names.new) own.items rows.now) }
     ensures grows { OnOk result (Grows (find_name names.old) (find_name names.new)) }
@@ -121,7 +122,7 @@ pub fn rows_of(alloc: Global, names: &mut Names, rows: &[Row]) -> Result<Vec<Own
     Ok(own)
 }
 
-/// Instances by the numbers of their words. Fails if allocation fails.
+/// Instances by the numbers of their words.
 pub fn parts_of(
     alloc: Global,
     names: &mut Names,

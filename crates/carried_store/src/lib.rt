@@ -14,7 +14,7 @@ use plant_walk::Framed;
 use slice_store::Store;
 use std::alloc::{AllocError, Global};
 
-/// A copy of the cells of a store. Fails if allocation fails.
+/// A copy of the cells of a store.
 fn cells_of(alloc: Global, store: &Store) -> Result<Cells, AllocError>
     ensures { IfOk result (λ cells. cells ≡ store.now.cells) }
 {
@@ -23,8 +23,8 @@ fn cells_of(alloc: Global, store: &Store) -> Result<Cells, AllocError>
     Ok(Cells::new(values, clocks))
 }
 
-/// The store of a plant after it was changed, by that of the old one: its cells go over as by `carry`, no program is faulted, the moment stays, and no job is out.
-/// The cells have to be those of the old plant. Fails if allocation fails; the old store stays as it is.
+/// The store of a plant after it was changed, by that of the old one: its cells go over as by `carry`, no program is faulted, the moment stays, and
+/// no job is out. The cells have to be those of the old plant. Fails if memory is refused; the old store stays as it is.
 pub fn carry_store(
     alloc: Global,
     old: &Framed,

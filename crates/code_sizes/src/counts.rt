@@ -45,7 +45,7 @@ pub fn count_frame(table: &[Count], frame: &Frame) -> Count
     }
 }
 
-/// Counts each frame of a table, once and for all that are made code. Fails if allocation fails.
+/// Counts each frame of a table, once and for all that are made code.
 pub fn count_frames(alloc: Global, frames: &[Frame]) -> Result<FrameCounts, AllocError>
     requires { HasFewLines frames.now }
     ensures { IfOk result (λ counts. AreCounts frames.now counts) }

@@ -52,8 +52,10 @@ fn put_lines(seats: &[Seat], instance: usize) -> u32
 
 /// The instructions that take the inputs of a call.
 pub fn inputs_lines(seats: &[Seat], instance: usize, arguments: &[Argument<usize>]) -> u32
-    requires { sizes.inputs_lines (slice_get seats.now instance) (map view_argument arguments.now) < 2 ^ 32 }
-    ensures { result ≡ sizes.inputs_lines (slice_get seats.now instance) (map view_argument arguments.now) }
+    requires { sizes.inputs_lines (slice_get seats.now instance) (map view_argument arguments.now)
+        < 2 ^ 32 }
+    ensures { result
+        ≡ sizes.inputs_lines (slice_get seats.now instance) (map view_argument arguments.now) }
 {
     let put = put_lines(seats, instance);
     let mut total = 0;
@@ -115,8 +117,13 @@ fn call_lines(
     instance: usize,
     arguments: &[Argument<usize>],
 ) -> u32
-    requires { sizes.inputs_lines (slice_get seats.now instance) (map view_argument arguments.now) + entered 2 (lines_at table.now) (slice_get seats.now instance) + sizes.outputs_lines (map view_argument arguments.now) < 2 ^ 32 }
-    ensures { result ≡ sizes.inputs_lines (slice_get seats.now instance) (map view_argument arguments.now) + entered 2 (lines_at table.now) (slice_get seats.now instance) + sizes.outputs_lines (map view_argument arguments.now) }
+    requires { sizes.inputs_lines (slice_get seats.now instance) (map view_argument arguments.now) +
+        entered 2 (lines_at table.now) (slice_get seats.now instance) + sizes.outputs_lines
+        (map view_argument arguments.now) < 2 ^ 32 }
+    ensures { result
+        ≡ sizes.inputs_lines (slice_get seats.now instance) (map view_argument arguments.now) + entered 2
+        (lines_at table.now) (slice_get seats.now instance) + sizes.outputs_lines
+        (map view_argument arguments.now) }
 {
     let inputs = inputs_lines(seats, instance, arguments);
     let inside = entered_lines(table, seats, instance);
@@ -175,8 +182,10 @@ pub fn body_lines(table: &[Count], seats: &[Seat], body: &[Stmt<usize>]) -> u32
 /// The instructions of the branches of an IF, and of what is done where none is taken.
 #[cycle(lines)]
 pub fn branches_lines(table: &[Count], seats: &[Seat], branches: &[Branch<usize>], last: u32) -> u32
-    requires { sizes.branches_lines seats.now (lines_at table.now) (view_branches branches.now) last < 2 ^ 32 }
-    ensures { result ≡ sizes.branches_lines seats.now (lines_at table.now) (view_branches branches.now) last }
+    requires { sizes.branches_lines seats.now (lines_at table.now) (view_branches branches.now) last
+        < 2 ^ 32 }
+    ensures { result
+        ≡ sizes.branches_lines seats.now (lines_at table.now) (view_branches branches.now) last }
 {
     let mut total = 0;
     for branch in branches {
@@ -189,8 +198,10 @@ pub fn branches_lines(table: &[Count], seats: &[Seat], branches: &[Branch<usize>
 /// The instructions of the choices of a CASE, and of what is done where none fits. A choice without a label has none.
 #[cycle(lines)]
 pub fn choices_lines(table: &[Count], seats: &[Seat], choices: &[Choice<usize>], last: u32) -> u32
-    requires { sizes.choices_lines seats.now (lines_at table.now) (view_choices choices.now) last < 2 ^ 32 }
-    ensures { result ≡ sizes.choices_lines seats.now (lines_at table.now) (view_choices choices.now) last }
+    requires { sizes.choices_lines seats.now (lines_at table.now) (view_choices choices.now) last
+        < 2 ^ 32 }
+    ensures { result
+        ≡ sizes.choices_lines seats.now (lines_at table.now) (view_choices choices.now) last }
 {
     let mut total = 0;
     for choice in choices {

@@ -21,7 +21,8 @@ fn paths_at(table: &[Count], k: usize) -> usize
 
 /// The paths below an instance.
 fn paths_below(table: &[Count], seat: &Seat) -> usize
-    ensures { (paths : ℕ → List Path) → ((k : ℕ) → capped (length (paths k)) ≡ paths_at table.now k) → result ≡ capped (length (paths_below paths seat.now)) }
+    ensures { (paths : ℕ → List Path) → ((k : ℕ) → capped (length (paths k)) ≡ paths_at table.now k)
+        → result ≡ capped (length (paths_below paths seat.now)) }
 {
     if !seat.is_called {
         return 0;
@@ -34,7 +35,8 @@ fn paths_below(table: &[Count], seat: &Seat) -> usize
 
 /// The paths of a routine, by its instances and the counts of the frames before its own.
 pub(crate) fn routine_paths(table: &[Count], seats: &[Seat]) -> usize
-    ensures { (paths : ℕ → List Path) → ((k : ℕ) → capped (length (paths k)) ≡ paths_at table.now k) → result ≡ capped (length (routine_paths paths seats.now)) }
+    ensures { (paths : ℕ → List Path) → ((k : ℕ) → capped (length (paths k)) ≡ paths_at table.now k)
+        → result ≡ capped (length (routine_paths paths seats.now)) }
 {
     let mut total = 1;
     for seat in seats {

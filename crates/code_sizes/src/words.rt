@@ -141,7 +141,8 @@ pub(crate) fn body_words(table: &[Count], seats: &[Seat], body: &[Stmt<usize>]) 
 /// The words of the branches of an IF.
 #[cycle(words)]
 fn branches_words(table: &[Count], seats: &[Seat], branches: &[Branch<usize>]) -> usize
-    ensures { result ≡ capped (sizes.branches_words seats.now (words_at table.now) (view_branches branches.now)) }
+    ensures { result
+        ≡ capped (sizes.branches_words seats.now (words_at table.now) (view_branches branches.now)) }
 {
     let mut total: usize = 0;
     for branch in branches {
@@ -155,7 +156,8 @@ fn branches_words(table: &[Count], seats: &[Seat], branches: &[Branch<usize>]) -
 /// The words of the choices of a CASE.
 #[cycle(words)]
 fn choices_words(table: &[Count], seats: &[Seat], choices: &[Choice<usize>]) -> usize
-    ensures { result ≡ capped (sizes.choices_words seats.now (words_at table.now) (view_choices choices.now)) }
+    ensures { result
+        ≡ capped (sizes.choices_words seats.now (words_at table.now) (view_choices choices.now)) }
 {
     let mut total: usize = 0;
     for choice in choices {

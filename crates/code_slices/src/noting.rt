@@ -27,12 +27,13 @@ fn is_noted(places: &[u32], numbers: &[u32], number: u32) -> bool
     numbers[place] == number
 }
 
-/// Notes a number behind the others, if it isn't noted yet. Fails if memory was refused.
+/// Notes a number behind the others, if it isn't noted yet.
 fn note(places: &mut [u32], numbers: &mut Vec<u32>, number: u32) -> Result<(), AllocError>
     requires there { number < length places.old }
     requires few { length places.old ≤ 2 ^ 32 }
     requires once { AreOnce places.old numbers.old.items }
-    ensures { IfOk result (λ _. Notes (λ s. s ≡ number) places.old numbers.old.items places.new numbers.new.items) }
+    ensures { IfOk result (λ _. Notes (λ s. s ≡ number) places.old numbers.old.items places.new
+        numbers.new.items) }
 {
     if is_noted(places, numbers.as_slice(), number) {
         return Ok(());
@@ -52,7 +53,8 @@ fn note_some(
     requires there { AllByRecursion (λ s. s < length places.old) (listed number) }
     requires few { length places.old ≤ 2 ^ 32 }
     requires once { AreOnce places.old numbers.old.items }
-    ensures { IfOk result (λ _. Notes (Contains (listed number)) places.old numbers.old.items places.new numbers.new.items) }
+    ensures { IfOk result (λ _. Notes (Contains (listed number)) places.old numbers.old.items places.new
+        numbers.new.items) }
 {
     if let Some(number) = number {
         note(places, numbers, number)?;
@@ -60,12 +62,13 @@ fn note_some(
     Ok(())
 }
 
-/// Notes the slots of a row. Fails if memory was refused.
+/// Notes the slots of a row.
 fn note_row(places: &mut [u32], numbers: &mut Vec<u32>, row: Row) -> Result<(), AllocError>
     requires there { row.past ≤ length places.old }
     requires few { length places.old ≤ 2 ^ 32 }
     requires once { AreOnce places.old numbers.old.items }
-    ensures { IfOk result (λ _. Notes (IsInRow row) places.old numbers.old.items places.new numbers.new.items) }
+    ensures { IfOk result (λ _. Notes (IsInRow row) places.old numbers.old.items places.new
+        numbers.new.items) }
 {
     for slot in row.first as usize..row.past {
         let number = slot as u32;
@@ -81,7 +84,7 @@ fn same_row(a: Row, b: Row) -> bool
     a == b
 }
 
-/// Notes the slots of a row, where they aren't noted as those of the last one. Fails if memory was refused.
+/// Notes the slots of a row, where they aren't noted as those of the last one.
 fn note_unless_same(
     places: &mut [u32],
     numbers: &mut Vec<u32>,
@@ -92,7 +95,8 @@ fn note_unless_same(
     requires few { length places.old ≤ 2 ^ 32 }
     requires once { AreOnce places.old numbers.old.items }
     requires noted { (s : ℕ) → IsInRow last s → IsNoted places.old numbers.old.items s }
-    ensures { IfOk result (λ _. Notes (IsInRow row) places.old numbers.old.items places.new numbers.new.items) }
+    ensures { IfOk result (λ _. Notes (IsInRow row) places.old numbers.old.items places.new
+        numbers.new.items) }
 {
     if same_row(row, last) {
         return Ok(());
@@ -100,12 +104,13 @@ fn note_unless_same(
     note_row(places, numbers, row)
 }
 
-/// Notes the slots of rows. Of the same rows that stand side by side the slots are gone through once. Fails if memory was refused.
+/// Notes the slots of rows. Of the same rows that stand side by side the slots are gone through once.
 fn note_rows(places: &mut [u32], numbers: &mut Vec<u32>, rows: &[Row]) -> Result<(), AllocError>
     requires there { (r : Row) → Contains rows.now r → r.past ≤ length places.old }
     requires few { length places.old ≤ 2 ^ 32 }
     requires once { AreOnce places.old numbers.old.items }
-    ensures { IfOk result (λ _. Notes (IsInRows rows.now) places.old numbers.old.items places.new numbers.new.items) }
+    ensures { IfOk result (λ _. Notes (IsInRows rows.now) places.old numbers.old.items places.new
+        numbers.new.items) }
 {
     let mut last = Row { first: 0, past: 0 };
     for row in rows {
@@ -115,16 +120,18 @@ fn note_rows(places: &mut [u32], numbers: &mut Vec<u32>, rows: &[Row]) -> Result
     Ok(())
 }
 
-/// Notes the slots that instructions write, besides those of rows. Fails if memory was refused.
+/// Notes the slots that instructions write, besides those of rows.
 fn note_written_alone(
     places: &mut [u32],
     numbers: &mut Vec<u32>,
     instrs: &[FlatInstr],
 ) -> Result<(), AllocError>
-    requires there { (pc : ℕ) (i : Instr) → slice_get instrs.now pc ≡ Some i → values_past i ≤ length places.old }
+    requires there { (pc : ℕ) (i : Instr) → slice_get instrs.now pc ≡ Some i
+        → values_past i ≤ length places.old }
     requires few { length places.old ≤ 2 ^ 32 }
     requires once { AreOnce places.old numbers.old.items }
-    ensures { IfOk result (λ _. Notes (SomeHas (λ i. (operands i).writes) instrs.now) places.old numbers.old.items places.new numbers.new.items) }
+    ensures { IfOk result (λ _. Notes (SomeHas (λ i. (operands i).writes) instrs.now) places.old
+        numbers.old.items places.new numbers.new.items) }
 {
     for i in instrs {
         note_some(places, numbers, written_by(i))?;
@@ -132,16 +139,18 @@ fn note_written_alone(
     Ok(())
 }
 
-/// Notes the slots that instructions read, besides those of rows. Fails if memory was refused.
+/// Notes the slots that instructions read, besides those of rows.
 fn note_read_alone(
     places: &mut [u32],
     numbers: &mut Vec<u32>,
     instrs: &[FlatInstr],
 ) -> Result<(), AllocError>
-    requires there { (pc : ℕ) (i : Instr) → slice_get instrs.now pc ≡ Some i → values_past i ≤ length places.old }
+    requires there { (pc : ℕ) (i : Instr) → slice_get instrs.now pc ≡ Some i
+        → values_past i ≤ length places.old }
     requires few { length places.old ≤ 2 ^ 32 }
     requires once { AreOnce places.old numbers.old.items }
-    ensures { IfOk result (λ _. Notes (SomeHas (λ i. (operands i).reads) instrs.now) places.old numbers.old.items places.new numbers.new.items) }
+    ensures { IfOk result (λ _. Notes (SomeHas (λ i. (operands i).reads) instrs.now) places.old
+        numbers.old.items places.new numbers.new.items) }
 {
     for i in instrs {
         let (one, other) = read_by(i);
@@ -151,17 +160,19 @@ fn note_read_alone(
     Ok(())
 }
 
-/// Notes the slots that instructions write. Fails if memory was refused.
+/// Notes the slots that instructions write.
 pub(crate) fn note_written(
     alloc: Global,
     places: &mut [u32],
     numbers: &mut Vec<u32>,
     instrs: &[FlatInstr],
 ) -> Result<(), AllocError>
-    requires there { (pc : ℕ) (i : Instr) → slice_get instrs.now pc ≡ Some i → values_past i ≤ length places.old }
+    requires there { (pc : ℕ) (i : Instr) → slice_get instrs.now pc ≡ Some i
+        → values_past i ≤ length places.old }
     requires few { length places.old ≤ 2 ^ 32 }
     requires once { AreOnce places.old numbers.old.items }
-    ensures { IfOk result (λ _. Notes (SomeHas slots_written instrs.now) places.old numbers.old.items places.new numbers.new.items) }
+    ensures { IfOk result (λ _. Notes (SomeHas slots_written instrs.now) places.old numbers.old.items
+        places.new numbers.new.items) }
 {
     note_written_alone(places, numbers, instrs)?;
     let rows = rows_written(alloc, instrs)?;
@@ -169,17 +180,19 @@ pub(crate) fn note_written(
     Ok(())
 }
 
-/// Notes the slots that instructions read. Fails if memory was refused.
+/// Notes the slots that instructions read.
 pub(crate) fn note_read(
     alloc: Global,
     places: &mut [u32],
     numbers: &mut Vec<u32>,
     instrs: &[FlatInstr],
 ) -> Result<(), AllocError>
-    requires there { (pc : ℕ) (i : Instr) → slice_get instrs.now pc ≡ Some i → values_past i ≤ length places.old }
+    requires there { (pc : ℕ) (i : Instr) → slice_get instrs.now pc ≡ Some i
+        → values_past i ≤ length places.old }
     requires few { length places.old ≤ 2 ^ 32 }
     requires once { AreOnce places.old numbers.old.items }
-    ensures { IfOk result (λ _. Notes (SomeHas slots_read instrs.now) places.old numbers.old.items places.new numbers.new.items) }
+    ensures { IfOk result (λ _. Notes (SomeHas slots_read instrs.now) places.old numbers.old.items
+        places.new numbers.new.items) }
 {
     note_read_alone(places, numbers, instrs)?;
     let rows = rows_read(alloc, instrs)?;
@@ -187,16 +200,18 @@ pub(crate) fn note_read(
     Ok(())
 }
 
-/// Notes the clocks that instructions name. Fails if memory was refused.
+/// Notes the clocks that instructions name.
 pub(crate) fn note_clocks(
     places: &mut [u32],
     numbers: &mut Vec<u32>,
     instrs: &[FlatInstr],
 ) -> Result<(), AllocError>
-    requires there { (pc : ℕ) (i : Instr) → slice_get instrs.now pc ≡ Some i → clocks_past i ≤ length places.old }
+    requires there { (pc : ℕ) (i : Instr) → slice_get instrs.now pc ≡ Some i
+        → clocks_past i ≤ length places.old }
     requires few { length places.old ≤ 2 ^ 32 }
     requires once { AreOnce places.old numbers.old.items }
-    ensures { IfOk result (λ _. Notes (SomeHas clocks_of instrs.now) places.old numbers.old.items places.new numbers.new.items) }
+    ensures { IfOk result (λ _. Notes (SomeHas clocks_of instrs.now) places.old numbers.old.items
+        places.new numbers.new.items) }
 {
     for i in instrs {
         note_some(places, numbers, clock_by(i))?;

@@ -67,7 +67,7 @@ fn give_places(places: &mut [u32], slots: &[u32])
     }
 }
 
-/// The places of slots. Fails if memory was refused.
+/// The places of slots.
 fn places_of(alloc: Global, places: &[u32], slots: &[u32]) -> Result<Vec<u32>, AllocError>
     requires inside { (i s : ℕ) → slice_get slots.now i ≡ Some s → s < length places.now }
     ensures { IfOk result (λ found. found.items ≡ map (λ s. get_or places.now s 0) slots.now) }
@@ -79,13 +79,14 @@ fn places_of(alloc: Global, places: &[u32], slots: &[u32]) -> Result<Vec<u32>, A
     Ok(found)
 }
 
-/// The slots that instructions name, in ascending order, and the places there of those that they write. Fails if memory was refused.
+/// The slots that instructions name, in ascending order, and the places there of those that they write.
 fn named_slots(
     alloc: Global,
     places: &mut [u32],
     instrs: &[FlatInstr],
 ) -> Result<(Vec<u32>, Vec<u32>), AllocError>
-    requires there { (pc : ℕ) (i : Instr) → slice_get instrs.now pc ≡ Some i → values_past i ≤ length places.old }
+    requires there { (pc : ℕ) (i : Instr) → slice_get instrs.now pc ≡ Some i
+        → values_past i ≤ length places.old }
     requires few { length places.old ≤ 2 ^ 32 }
     ensures { IfOk result (λ r. AreSlots instrs.now places.new r.0.items r.1.items) }
 {
@@ -100,13 +101,14 @@ fn named_slots(
     Ok((slots, written))
 }
 
-/// The clocks that instructions name. Fails if memory was refused.
+/// The clocks that instructions name.
 fn named_clocks(
     alloc: Global,
     places: &mut [u32],
     instrs: &[FlatInstr],
 ) -> Result<Vec<u32>, AllocError>
-    requires there { (pc : ℕ) (i : Instr) → slice_get instrs.now pc ≡ Some i → clocks_past i ≤ length places.old }
+    requires there { (pc : ℕ) (i : Instr) → slice_get instrs.now pc ≡ Some i
+        → clocks_past i ≤ length places.old }
     requires few { length places.old ≤ 2 ^ 32 }
     ensures { IfOk result (λ clocks. AreClocks instrs.now places.new clocks.items) }
 {
@@ -115,8 +117,8 @@ fn named_clocks(
     Ok(clocks)
 }
 
-/// The part of a code. Two tables are needed, of a number for each slot and for each clock that the code may name; what they hold doesn't
-/// matter, and they serve one code after another. Fails if memory was refused.
+/// The part of a code. Two tables are needed, of a number for each slot and for each clock that the code may name; what they hold doesn't matter, and
+/// they serve one code after another.
 pub fn relocate(
     alloc: Global,
     code: &Code,
@@ -193,8 +195,7 @@ impl Part {
         Cells::new(Vec::new(alloc), Vec::new(alloc))
     }
 
-    /// Gives cells the values and clocks that the part's have among all cells. It allocates nothing where they are as many. Fails if memory was
-    /// refused.
+    /// Gives cells the values and clocks that the part's have among all cells. It allocates nothing where they are as many.
     pub fn load(
         &self,
         values: &[i64],
@@ -202,7 +203,8 @@ impl Part {
         cells: &mut Cells,
     ) -> Result<(), AllocError>
         requires { HasPart self.now (record { values = values.now; clocks = clocks.now }) }
-        ensures { OnOk result (cells.new ≡ loaded self.now (record { values = values.now; clocks = clocks.now })) }
+        ensures { OnOk result
+            (cells.new ≡ loaded self.now (record { values = values.now; clocks = clocks.now })) }
     {
         cells.pick(&self.slots()[..0], self.clocks(), values, clocks)?;
         let (mut picked, timers) = replace(cells, self.no_cells()).into_parts();
@@ -229,7 +231,8 @@ impl Part {
 
     /// Whether another part has the same slots, and writes the same of them: so where their pieces are the same, which may be far fewer.
     fn same_slots(&self, other: &Part) -> bool
-        ensures { IsTrue result ↔ ((self.now.slots ≡ other.now.slots) × (self.now.written ≡ other.now.written)) }
+        ensures { IsTrue result
+            ↔ ((self.now.slots ≡ other.now.slots) × (self.now.written ≡ other.now.written)) }
     {
         if same_pieces(&self.pieces, &other.pieces)
             && same_pieces(&self.written_pieces, &other.written_pieces)

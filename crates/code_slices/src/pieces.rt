@@ -15,7 +15,8 @@ pub(crate) struct Piece {
 
 /// Whether a slot at a place is the next one behind a piece.
 fn continues(last: Piece, place: usize, slot: u32) -> bool
-    ensures { IsTrue result → (place ≡ last.place + (last.more + 1)) × (slot ≡ last.first + (last.more + 1)) }
+    ensures { IsTrue result
+        → (place ≡ last.place + (last.more + 1)) × (slot ≡ last.first + (last.more + 1)) }
 {
     place > last.place
         && slot > last.first
@@ -23,7 +24,7 @@ fn continues(last: Piece, place: usize, slot: u32) -> bool
         && slot - last.first - 1 == last.more
 }
 
-/// Adds a slot at a place: to the last piece, where it is the next one behind it, and else as a piece of its own. Fails if memory was refused.
+/// Adds a slot at a place: to the last piece, where it is the next one behind it, and else as a piece of its own.
 fn add_slot(pieces: &mut Vec<Piece>, place: usize, slot: u32) -> Result<(), AllocError>
     ensures { IfOk result (λ _. AddsSlot place slot pieces.old.items pieces.new.items) }
 {
@@ -47,7 +48,7 @@ fn add_slot(pieces: &mut Vec<Piece>, place: usize, slot: u32) -> Result<(), Allo
     Ok(())
 }
 
-/// The pieces of all slots of a part. Fails if memory was refused.
+/// The pieces of all slots of a part.
 pub(crate) fn pieces_of(alloc: Global, slots: &[u32]) -> Result<Vec<Piece>, AllocError>
     ensures { IfOk result (λ pieces. slots_in pieces.items ≡ slots.now) }
 {
@@ -58,7 +59,7 @@ pub(crate) fn pieces_of(alloc: Global, slots: &[u32]) -> Result<Vec<Piece>, Allo
     Ok(pieces)
 }
 
-/// The pieces of the slots at places of a part. Fails if memory was refused.
+/// The pieces of the slots at places of a part.
 pub(crate) fn pieces_at(
     alloc: Global,
     places: &[u32],
@@ -75,11 +76,13 @@ pub(crate) fn pieces_at(
     Ok(pieces)
 }
 
-/// Writes the values of a piece behind others. Fails if memory was refused.
+/// Writes the values of a piece behind others.
 #[inline(always)]
 fn add_values(picked: &mut Vec<i64>, piece: Piece, values: &[i64]) -> Result<(), AllocError>
     requires { piece.first + piece.more < length values.now }
-    ensures { OnOk result (picked.new.items ≡ picked.old.items ++ map (λ s. slice_index_or values.now s (pos 0)) (piece_slots piece)) }
+    ensures { OnOk result
+        (picked.new.items
+        ≡ picked.old.items ++ map (λ s. slice_index_or values.now s (pos 0)) (piece_slots piece)) }
 {
     let first = piece.first as usize;
     if piece.more == 0 {
@@ -91,15 +94,17 @@ fn add_values(picked: &mut Vec<i64>, piece: Piece, values: &[i64]) -> Result<(),
     Ok(())
 }
 
-/// Becomes the values of pieces in a row of all values, which are so many. Fails if memory was refused.
+/// Becomes the values of pieces in a row of all values, which are so many.
 pub(crate) fn pick_values(
     picked: &mut Vec<i64>,
     many: usize,
     pieces: &[Piece],
     values: &[i64],
 ) -> Result<(), AllocError>
-    requires { (i : ℕ) (q : Piece) → slice_get pieces.now i ≡ Some q → q.first + q.more < length values.now }
-    ensures { OnOk result (picked.new.items ≡ map (λ s. slice_index_or values.now s (pos 0)) (slots_in pieces.now)) }
+    requires { (i : ℕ) (q : Piece) → slice_get pieces.now i ≡ Some q
+        → q.first + q.more < length values.now }
+    ensures { OnOk result
+        (picked.new.items ≡ map (λ s. slice_index_or values.now s (pos 0)) (slots_in pieces.now)) }
 {
     picked.clear();
     picked.reserve_exact(many)?;
@@ -127,8 +132,10 @@ fn put_piece(items: &[i64], piece: Piece, row: &mut [i64])
 
 /// Puts the items at the places of pieces into a row, each under its slot.
 pub(crate) fn put_pieces(items: &[i64], pieces: &[Piece], row: &mut [i64])
-    requires there { (i : ℕ) (q : Piece) → slice_get pieces.now i ≡ Some q → q.place + q.more < length items.now }
-    requires room { (i : ℕ) (q : Piece) → slice_get pieces.now i ≡ Some q → q.first + q.more < length row.old }
+    requires there { (i : ℕ) (q : Piece) → slice_get pieces.now i ≡ Some q
+        → q.place + q.more < length items.now }
+    requires room { (i : ℕ) (q : Piece) → slice_get pieces.now i ≡ Some q
+        → q.first + q.more < length row.old }
     requires apart { HaveOnePlace pieces.now }
     ensures { PutsPieces pieces.now items.now row.old row.new }
 {
@@ -170,7 +177,8 @@ fn read_items(items: &[i64]) -> i64 {
 
 /// One number of the items at the places of pieces.
 pub(crate) fn read_pieces(items: &[i64], pieces: &[Piece]) -> i64
-    requires { (i : ℕ) (q : Piece) → slice_get pieces.now i ≡ Some q → q.place + q.more < length items.now }
+    requires { (i : ℕ) (q : Piece) → slice_get pieces.now i ≡ Some q
+        → q.place + q.more < length items.now }
 {
     let mut all = 0;
     for piece in pieces {

@@ -26,7 +26,7 @@ impl Model for PrintedCode {
 }
 
 impl PrintedCode {
-    /// A code with its prints. Fails if memory was refused.
+    /// A code with its prints.
     pub(crate) fn new(alloc: Global, code: Code) -> Result<PrintedCode, AllocError>
         ensures { IfOk result (λ printed. printed ≡ code) }
     {
@@ -43,7 +43,8 @@ impl PrintedCode {
 
     /// Whether another code has the same instructions with the same places.
     fn has_same_lists(&self, other: &PrintedCode) -> bool
-        ensures { IsTrue result ↔ ((self.now.places ≡ other.now.places) × (self.now.instrs ≡ other.now.instrs)) }
+        ensures { IsTrue result
+            ↔ ((self.now.places ≡ other.now.places) × (self.now.instrs ≡ other.now.instrs)) }
     {
         same_prints(&self.prints, &other.prints)
     }

@@ -62,7 +62,7 @@ pub(crate) struct Prints {
     places: PlacePrints,
 }
 
-/// Writes an item behind others, if it is there. Fails if memory was refused.
+/// Writes an item behind others, if it is there.
 #[inline(always)]
 pub(crate) fn add<T: Drop>(items: &mut Vec<T>, item: Option<T>) -> Result<(), AllocError>
     ensures { IfOk result (λ _. items.new.items ≡ items.old.items ++ listed item) }
@@ -95,7 +95,7 @@ fn binary_kind(op: Option<Binary>) -> Option<u8>
     }
 }
 
-/// Writes the number of an instruction and those of its operators behind others. Fails if memory was refused.
+/// Writes the number of an instruction and those of its operators behind others.
 #[inline(always)]
 fn add_kinds(kinds: &mut Vec<u8>, of: &Operation) -> Result<(), AllocError>
     ensures { IfOk result (λ _. kinds.new.items ≡ with_kinds kinds.old.items of.now) }
@@ -117,7 +117,7 @@ fn first_of(row: Option<Row>) -> Option<u32>
     }
 }
 
-/// Writes the numbers of an instruction's slots, rows, clocks and targets behind others. Fails if memory was refused.
+/// Writes the numbers of an instruction's slots, rows, clocks and targets behind others.
 #[inline(always)]
 fn add_numbers(numbers: &mut Vec<u32>, named: &Named, target: Option<u32>) -> Result<(), AllocError>
     ensures { IfOk result (λ _. numbers.new.items ≡ with_numbers numbers.old.items named.now target) }
@@ -131,7 +131,7 @@ fn add_numbers(numbers: &mut Vec<u32>, named: &Named, target: Option<u32>) -> Re
     add(numbers, target)
 }
 
-/// Writes the literals of an instruction behind others. Fails if memory was refused.
+/// Writes the literals of an instruction behind others.
 #[inline(always)]
 fn add_literals(literals: &mut Vec<i64>, of: &Operation) -> Result<(), AllocError>
     ensures { IfOk result (λ _. literals.new.items ≡ with_literals literals.old.items of.now) }
@@ -141,11 +141,14 @@ fn add_literals(literals: &mut Vec<i64>, of: &Operation) -> Result<(), AllocErro
     add(literals, of.literals.2)
 }
 
-/// Writes the print of an instruction behind others. Fails if memory was refused.
+/// Writes the print of an instruction behind others.
 fn add_print(prints: &mut Prints, i: &FlatInstr) -> Result<(), AllocError>
-    ensures kinds { IfOk result (λ _. prints.new.kinds.items ≡ prints.old.kinds.items ++ kinds_of i.now) }
-    ensures numbers { IfOk result (λ _. prints.new.numbers.items ≡ prints.old.numbers.items ++ numbers_of i.now) }
-    ensures literals { IfOk result (λ _. prints.new.literals.items ≡ prints.old.literals.items ++ literals_of i.now) }
+    ensures kinds { IfOk result (λ _. prints.new.kinds.items
+        ≡ prints.old.kinds.items ++ kinds_of i.now) }
+    ensures numbers { IfOk result (λ _. prints.new.numbers.items
+        ≡ prints.old.numbers.items ++ numbers_of i.now) }
+    ensures literals { IfOk result (λ _. prints.new.literals.items
+        ≡ prints.old.literals.items ++ literals_of i.now) }
     ensures places { prints.new.places ≡ prints.old.places }
 {
     let named = i.named();
@@ -166,10 +169,12 @@ fn step(last: Place, place: Place) -> u8
     (place.statement - last.statement).min(255) as u8
 }
 
-/// Writes a place behind others, of which one is the last. Fails if memory was refused.
+/// Writes a place behind others, of which one is the last.
 fn add_place(prints: &mut PlacePrints, last: Place, place: Place) -> Result<(), AllocError>
-    ensures steps { IfOk result (λ _. prints.new.steps.items ≡ prints.old.steps.items ++ (step_of last place ∷ [])) }
-    ensures told { IfOk result (λ _. prints.new.told.items ≡ prints.old.told.items ++ told_of (step_of last place) place) }
+    ensures steps { IfOk result (λ _. prints.new.steps.items
+        ≡ prints.old.steps.items ++ (step_of last place ∷ [])) }
+    ensures told { IfOk result (λ _. prints.new.told.items
+        ≡ prints.old.told.items ++ told_of (step_of last place) place) }
 {
     let step = step(last, place);
     prints.steps.push(step)?;
@@ -180,7 +185,7 @@ fn add_place(prints: &mut PlacePrints, last: Place, place: Place) -> Result<(), 
     Ok(())
 }
 
-/// The prints of places. Fails if memory was refused.
+/// The prints of places.
 fn place_prints(alloc: Global, places: &[Place]) -> Result<PlacePrints, AllocError>
     ensures { IfOk result (ArePlacesOf places.now) }
 {
@@ -199,7 +204,7 @@ fn place_prints(alloc: Global, places: &[Place]) -> Result<PlacePrints, AllocErr
     Ok(prints)
 }
 
-/// The prints of instructions, and places. Fails if memory was refused.
+/// The prints of instructions, and places.
 pub(crate) fn prints_of(
     alloc: Global,
     instrs: &[FlatInstr],

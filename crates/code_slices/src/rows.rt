@@ -17,7 +17,7 @@ fn put_in_order(rows: &mut Vec<Row>)
     rows.sort_unstable();
 }
 
-/// The rows of which instructions read a slot, one after another. Fails if memory was refused.
+/// The rows of which instructions read a slot, one after another.
 fn read_in_turn(alloc: Global, instrs: &[FlatInstr]) -> Result<Vec<Row>, AllocError>
     ensures { IfOk result (λ rows. rows.items ≡ flat_map read_rows instrs.now) }
 {
@@ -28,7 +28,7 @@ fn read_in_turn(alloc: Global, instrs: &[FlatInstr]) -> Result<Vec<Row>, AllocEr
     Ok(rows)
 }
 
-/// The rows of which instructions write a slot, one after another. Fails if memory was refused.
+/// The rows of which instructions write a slot, one after another.
 fn written_in_turn(alloc: Global, instrs: &[FlatInstr]) -> Result<Vec<Row>, AllocError>
     ensures { IfOk result (λ rows. rows.items ≡ flat_map written_rows instrs.now) }
 {
@@ -39,7 +39,7 @@ fn written_in_turn(alloc: Global, instrs: &[FlatInstr]) -> Result<Vec<Row>, Allo
     Ok(rows)
 }
 
-/// The rows of which instructions read a slot, the same ones side by side. Fails if memory was refused.
+/// The rows of which instructions read a slot, the same ones side by side.
 pub(crate) fn rows_read(alloc: Global, instrs: &[FlatInstr]) -> Result<Vec<Row>, AllocError>
     ensures { IfOk result (λ rows. AreRowsOf read_rows instrs.now rows.items) }
 {
@@ -48,7 +48,7 @@ pub(crate) fn rows_read(alloc: Global, instrs: &[FlatInstr]) -> Result<Vec<Row>,
     Ok(rows)
 }
 
-/// The rows of which instructions write a slot, likewise. Fails if memory was refused.
+/// The rows of which instructions write a slot, likewise.
 pub(crate) fn rows_written(alloc: Global, instrs: &[FlatInstr]) -> Result<Vec<Row>, AllocError>
     ensures { IfOk result (λ rows. AreRowsOf written_rows instrs.now rows.items) }
 {

@@ -31,7 +31,8 @@ fn emit_put(
     name: usize,
 ) -> Result<(), AllocError>
     requires { has_input fits fits (slice_get scope.now.seats.now instance) scope.now.base name ≡ true }
-    ensures { IfOk result (λ _. out.new.items ≡ out.old.items ++ put_code (slice_get scope.now.seats.now instance) scope.now.base place name) }
+    ensures { IfOk result (λ _. out.new.items
+        ≡ out.old.items ++ put_code (slice_get scope.now.seats.now instance) scope.now.base place name) }
 {
     match scope.seats.get(instance) {
         Some(seat) => {
@@ -50,8 +51,12 @@ pub(crate) fn emit_inputs(
     instance: usize,
     arguments: &[Argument<usize>],
 ) -> Result<(), AllocError>
-    requires { list_all (argument_known (named scope.now) instance) (map view_argument arguments.now) ≡ true }
-    ensures { IfOk result (λ _. out.new.items ≡ out.old.items ++ code.inputs_code scope.now place (slice_get scope.now.seats.now instance) (map view_argument arguments.now)) }
+    requires { list_all (argument_known (named scope.now) instance) (map view_argument arguments.now)
+        ≡ true }
+    ensures { IfOk result (λ _. out.new.items
+        ≡ out.old.items
+        ++ code.inputs_code scope.now place (slice_get scope.now.seats.now instance)
+        (map view_argument arguments.now)) }
 {
     for argument in arguments {
         if let Argument::Input(name, expr) = argument {
@@ -70,8 +75,12 @@ pub(crate) fn emit_outputs(
     instance: usize,
     arguments: &[Argument<usize>],
 ) -> Result<(), AllocError>
-    requires { list_all (argument_known (named scope.now) instance) (map view_argument arguments.now) ≡ true }
-    ensures { IfOk result (λ _. out.new.items ≡ out.old.items ++ code.outputs_code scope.now place (slice_get scope.now.seats.now instance) (map view_argument arguments.now)) }
+    requires { list_all (argument_known (named scope.now) instance) (map view_argument arguments.now)
+        ≡ true }
+    ensures { IfOk result (λ _. out.new.items
+        ≡ out.old.items
+        ++ code.outputs_code scope.now place (slice_get scope.now.seats.now instance)
+        (map view_argument arguments.now)) }
 {
     for argument in arguments {
         if let Argument::Output(name, variable) = argument {
@@ -95,7 +104,11 @@ pub(crate) fn emit_standard(
     requires clock { fits (scope.now.base.clocks + seat.now.clocks) ≡ true }
     requires input { fits (member_slot scope.now.base seat.now 0) ≡ true }
     requires pt { has_pt fits fits of scope.now.base seat.now ≡ true }
-    ensures { IfOk result (λ _. out.new.items ≡ out.old.items ++ ((pt_instr of scope.now.base seat.now, place) ∷ ((Enter (scope.now.base.clocks + seat.now.clocks) (member_slot scope.now.base seat.now 0), place) ∷ []))) }
+    ensures { IfOk result (λ _. out.new.items
+        ≡ out.old.items
+        ++ ((pt_instr of scope.now.base seat.now, place)
+        ∷ ((Enter (scope.now.base.clocks + seat.now.clocks) (member_slot scope.now.base seat.now 0),
+        place) ∷ []))) }
 {
     let load = pt_instr(of, scope.base, seat);
     let clock = clock_of(scope.base, seat);

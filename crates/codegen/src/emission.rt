@@ -50,7 +50,8 @@ pub(crate) fn emit_frame(
     requires steady { AreSteady frames.now }
     requires named { frame_there fits fits globals frames.now limit k base ≡ true }
     requires long { pc + frame_lines frames.now limit k < 2 ^ 32 }
-    ensures { IfOk result (λ _. out.new.items ≡ out.old.items ++ coders globals frames.now limit k base path pc) }
+    ensures { IfOk result (λ _. out.new.items
+        ≡ out.old.items ++ coders globals frames.now limit k base path pc) }
 {
     let frame = &frames[k];
     let scope = Scope {
@@ -77,7 +78,8 @@ fn emit_body(
     requires steady { SteadyBody (view_body body.now) }
     requires named { body_known (named scope.now) (view_body body.now) ≡ true }
     requires long { pc + body_long scope.now (view_body body.now) < 2 ^ 32 }
-    ensures { IfOk result (λ _. out.new.items ≡ out.old.items ++ code.body_code scope.now (view_body body.now) pc) }
+    ensures { IfOk result (λ _. out.new.items
+        ≡ out.old.items ++ code.body_code scope.now (view_body body.now) pc) }
 {
     let mut at = pc;
     for stmt in body {
@@ -99,7 +101,8 @@ fn emit_stmt(
     requires steady { SteadyStmt (view_stmt stmt.now) }
     requires named { stmt_known (named scope.now) (view_stmt stmt.now) ≡ true }
     requires long { pc + stmt_long scope.now (view_stmt stmt.now) < 2 ^ 32 }
-    ensures { IfOk result (λ _. out.new.items ≡ out.old.items ++ code.stmt_code scope.now (view_stmt stmt.now) pc) }
+    ensures { IfOk result (λ _. out.new.items
+        ≡ out.old.items ++ code.stmt_code scope.now (view_stmt stmt.now) pc) }
 {
     match stmt {
         Stmt::Empty(_) => Ok(()),
@@ -187,9 +190,14 @@ fn emit_call(
 ) -> Result<(), AllocError>
     requires laid { IsLaid scope.now }
     requires there { (named scope.now).has_instance instance ≡ true }
-    requires named { list_all (argument_known (named scope.now) instance) (map view_argument arguments.now) ≡ true }
-    requires long { pc + call_long scope.now (slice_get scope.now.seats.now instance) (map view_argument arguments.now) < 2 ^ 32 }
-    ensures { IfOk result (λ _. out.new.items ≡ out.old.items ++ code.call_code scope.now place (slice_get scope.now.seats.now instance) (map view_argument arguments.now) pc) }
+    requires named { list_all (argument_known (named scope.now) instance)
+        (map view_argument arguments.now) ≡ true }
+    requires long { pc + call_long scope.now (slice_get scope.now.seats.now instance)
+        (map view_argument arguments.now) < 2 ^ 32 }
+    ensures { IfOk result (λ _. out.new.items
+        ≡ out.old.items
+        ++ code.call_code scope.now place (slice_get scope.now.seats.now instance)
+        (map view_argument arguments.now) pc) }
 {
     emit_inputs(scope, out, place, instance, arguments)?;
     let at = pc + inputs_lines(scope.seats, instance, arguments);
@@ -209,7 +217,8 @@ fn emit_enter(
     requires laid { IsLaid scope.now }
     requires named { (named scope.now).has_instance instance ≡ true }
     requires long { pc + enter_long scope.now (slice_get scope.now.seats.now instance) < 2 ^ 32 }
-    ensures { IfOk result (λ _. out.new.items ≡ out.old.items ++ code.enter_code scope.now place (slice_get scope.now.seats.now instance) pc) }
+    ensures { IfOk result (λ _. out.new.items
+        ≡ out.old.items ++ code.enter_code scope.now place (slice_get scope.now.seats.now instance) pc) }
 {
     match scope.seats.get(instance) {
         Some(seat) => match seat.of {
@@ -249,8 +258,11 @@ fn emit_branches(
     requires steady { SteadyBranches (view_branches branches.now) }
     requires named { branches_known (named scope.now) (view_branches branches.now) ≡ true }
     requires long { (n : ℕ) × (pc + branches_long scope.now (view_branches branches.now) n ≡ end) }
-    ensures { IfOk result (λ at. (last : ℕ → List Line) (n : ℕ) → pc + branches_long scope.now (view_branches branches.now) n ≡ end
-        → (at + n ≡ end) × (out.new.items ++ last at ≡ out.old.items ++ code.branches_code scope.now place (view_branches branches.now) last n pc)) }
+    ensures { IfOk result (λ at. (last : ℕ → List Line) (n : ℕ)
+        → pc + branches_long scope.now (view_branches branches.now) n ≡ end
+        → (at + n ≡ end)
+        × (out.new.items ++ last at
+        ≡ out.old.items ++ code.branches_code scope.now place (view_branches branches.now) last n pc)) }
 {
     let mut at = pc;
     for branch in branches {
@@ -278,7 +290,11 @@ fn emit_branch(
     requires test { expr_known (named scope.now) (view_branch branch.now).0 ≡ true }
     requires named { body_known (named scope.now) (view_branch branch.now).1 ≡ true }
     requires long { body + body_long scope.now (view_branch branch.now).1 < 2 ^ 32 }
-    ensures { IfOk result (λ _. out.new.items ≡ out.old.items ++ (code.expr_code scope.now place (view_branch branch.now).0 ++ ((JumpUnless next, place) ∷ (code.body_code scope.now (view_branch branch.now).1 body ++ (Jump end, place) ∷ [])))) }
+    ensures { IfOk result (λ _. out.new.items
+        ≡ out.old.items
+        ++ (code.expr_code scope.now place (view_branch branch.now).0
+        ++ ((JumpUnless next, place)
+        ∷ (code.body_code scope.now (view_branch branch.now).1 body ++ (Jump end, place) ∷ [])))) }
 {
     emit_expr(scope, out, place, &branch.test)?;
     emit(out, Instr::JumpUnless(next), place)?;
@@ -301,8 +317,11 @@ fn emit_choices(
     requires steady { SteadyChoices (view_choices choices.now) }
     requires named { choices_known (named scope.now) (view_choices choices.now) ≡ true }
     requires long { (n : ℕ) × (pc + choices_long scope.now (view_choices choices.now) n ≡ end) }
-    ensures { IfOk result (λ at. (last : ℕ → List Line) (n : ℕ) → pc + choices_long scope.now (view_choices choices.now) n ≡ end
-        → (at + n ≡ end) × (out.new.items ++ last at ≡ out.old.items ++ code.choices_code scope.now place (view_choices choices.now) last n pc)) }
+    ensures { IfOk result (λ at. (last : ℕ → List Line) (n : ℕ)
+        → pc + choices_long scope.now (view_choices choices.now) n ≡ end
+        → (at + n ≡ end)
+        × (out.new.items ++ last at
+        ≡ out.old.items ++ code.choices_code scope.now place (view_choices choices.now) last n pc)) }
 {
     let mut at = pc;
     for choice in choices {
@@ -332,7 +351,11 @@ fn emit_choice(
     requires steady { SteadyBody (view_choice choice.now).1 }
     requires named { body_known (named scope.now) (view_choice choice.now).1 ≡ true }
     requires long { body + body_long scope.now (view_choice choice.now).1 < 2 ^ 32 }
-    ensures { IfOk result (λ _. out.new.items ≡ out.old.items ++ (labels_code place (view_choice choice.now).0 body ++ ((Jump next, place) ∷ (code.body_code scope.now (view_choice choice.now).1 body ++ (Jump end, place) ∷ [])))) }
+    ensures { IfOk result (λ _. out.new.items
+        ≡ out.old.items
+        ++ (labels_code place (view_choice choice.now).0 body
+        ++ ((Jump next, place)
+        ∷ (code.body_code scope.now (view_choice choice.now).1 body ++ (Jump end, place) ∷ [])))) }
 {
     emit_labels(out, place, &choice.labels, body)?;
     emit(out, Instr::Jump(next), place)?;
@@ -355,8 +378,11 @@ fn emit_loop(
     requires dints { IsSteady (Some span) }
     requires steady { SteadyBody (view_body body.now) }
     requires named { body_known (named scope.now) (view_body body.now) ≡ true }
-    requires long { pc + for_lines (length (control_values span)) (body_long scope.now (view_body body.now)) < 2 ^ 32 }
-    ensures { IfOk result (λ _. out.new.items ≡ out.old.items ++ for_code place slot (Some span) (code.body_code scope.now (view_body body.now)) pc) }
+    requires long { pc + for_lines (length (control_values span))
+        (body_long scope.now (view_body body.now)) < 2 ^ 32 }
+    ensures { IfOk result (λ _. out.new.items
+        ≡ out.old.items
+        ++ for_code place slot (Some span) (code.body_code scope.now (view_body body.now)) pc) }
 {
     let turns = count_turns(span);
     if turns == 0 {

@@ -25,7 +25,8 @@ pub(crate) fn emit_expr(
     expr: &Expr<usize>,
 ) -> Result<(), AllocError>
     requires { expr_known (named scope.now) (view_expr expr.now) ≡ true }
-    ensures { IfOk result (λ _. out.new.items ≡ out.old.items ++ code.expr_code scope.now place (view_expr expr.now)) }
+    ensures { IfOk result (λ _. out.new.items
+        ≡ out.old.items ++ code.expr_code scope.now place (view_expr expr.now)) }
 {
     match expr {
         Expr::Literal(literal) => emit(out, Instr::Literal(literal.worth()), place),
@@ -63,7 +64,10 @@ fn emit_operator(
     right: &Expr<usize>,
 ) -> Result<(), AllocError>
     requires { expr_known (named scope.now) (view_expr right.now) ≡ true }
-    ensures { IfOk result (λ _. out.new.items ≡ out.old.items ++ operator_code scope.now.globals scope.now.base place op (view_expr right.now) (code.expr_code scope.now place (view_expr right.now))) }
+    ensures { IfOk result (λ _. out.new.items
+        ≡ out.old.items
+        ++ operator_code scope.now.globals scope.now.base place op (view_expr right.now)
+        (code.expr_code scope.now place (view_expr right.now))) }
 {
     match right {
         Expr::Literal(literal) => emit(out, Instr::BinaryLiteral(op, literal.worth()), place),
@@ -91,7 +95,9 @@ pub(crate) fn emit_store(
     requires row { has_row fits (slot_of scope.now.globals scope.now.base array.0) array.1 ≡ true }
     requires index { expr_known (named scope.now) (view_expr index.now) ≡ true }
     requires value { expr_known (named scope.now) (view_expr value.now) ≡ true }
-    ensures { IfOk result (λ _. out.new.items ≡ out.old.items ++ code.store_code scope.now place array.0 array.1 (view_expr index.now) (view_expr value.now)) }
+    ensures { IfOk result (λ _. out.new.items
+        ≡ out.old.items
+        ++ code.store_code scope.now place array.0 array.1 (view_expr index.now) (view_expr value.now)) }
 {
     let first = row_of(scope.globals, scope.base, array.0, array.1);
     emit_expr(scope, out, place, index)?;

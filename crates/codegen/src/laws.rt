@@ -8,6 +8,7 @@ ghost use Rattle.codegen.specs.Codes.{frame_part};
 
 /// The code of a frame is as long as its size foretells, and no longer than three instructions a unit of the frame's size.
 pub fn frame_code_is_as_long()
-    ensures { (globals : ℕ) (frames : List Frame) (limit k : ℕ) (base : Base) (path pc : ℕ) → (length ((frame_part globals frames limit k).code base path pc) ≡ frame_lines frames limit k)
+    ensures { (globals : ℕ) (frames : List Frame) (limit k : ℕ) (base : Base) (path pc : ℕ)
+        → (length ((frame_part globals frames limit k).code base path pc) ≡ frame_lines frames limit k)
         × (frame_lines frames limit k ≤ 3 * frame_size frames limit k) }
 {}

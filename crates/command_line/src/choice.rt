@@ -15,7 +15,7 @@ pub enum Choice {
 /// Why the words choose nothing.
 #[derive(Drop)]
 pub enum UsageFault {
-    /// An allocation failed.
+    /// An memory was refused.
     Memory,
     /// Help was asked for: its text, for the standard output.
     Help(Text),

@@ -36,7 +36,7 @@ fn workers<'a>(alloc: Global) -> Arg<'a>
         .default_value("1")
 }
 
-/// The subcommand `check`. Fails if allocation fails.
+/// The subcommand `check`.
 fn check<'a>(alloc: Global) -> Result<Command<'a>, AllocError>
     ensures app { IfOk result (λ c. app_of c ≡ check) }
     ensures local { IfOk result (λ c. (out-Command c).has_globals ≡ false) }
@@ -48,7 +48,7 @@ fn check<'a>(alloc: Global) -> Result<Command<'a>, AllocError>
         .arg(plant(alloc))
 }
 
-/// The subcommand `run`. Fails if allocation fails.
+/// The subcommand `run`.
 fn run<'a>(alloc: Global) -> Result<Command<'a>, AllocError>
     ensures app { IfOk result (λ c. app_of c ≡ run) }
     ensures local { IfOk result (λ c. (out-Command c).has_globals ≡ false) }
@@ -61,7 +61,7 @@ fn run<'a>(alloc: Global) -> Result<Command<'a>, AllocError>
         .arg(workers(alloc))
 }
 
-/// The command with its name in the text of usage, where it has no first word. Fails if allocation fails.
+/// The command with its name in the text of usage, where it has no first word.
 fn named<'a>(command: Command<'a>) -> Result<Command<'a>, AllocError>
     ensures { IfOk result (λ c. app_of c ≡ app_of command.entry) }
 {
@@ -86,7 +86,7 @@ fn bare<'a>(alloc: Global) -> Command<'a>
         .subcommand_required(true)
 }
 
-/// The whole command line. Fails if allocation fails.
+/// The whole command line.
 pub(crate) fn alarmd<'a>(alloc: Global) -> Result<Command<'a>, AllocError>
     ensures app { IfOk result (λ c. app_of c ≡ alarmd) }
 {

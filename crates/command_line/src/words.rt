@@ -35,7 +35,7 @@ fn allowed(workers: u32) -> Option<u32>
     }
 }
 
-/// The choice of `check`, by its values. Fails if allocation fails.
+/// The choice of `check`, by its values.
 fn check_choice(alloc: Global, values: &ArgMatches<'_>) -> Result<Option<Choice>, AllocError>
     ensures { IfOk result (λ c. c ≡ check_choice (rows_of (found_of values.now))) }
 {
@@ -45,7 +45,7 @@ fn check_choice(alloc: Global, values: &ArgMatches<'_>) -> Result<Option<Choice>
     Ok(Some(Choice::Check(Text::from_str(alloc, path)?)))
 }
 
-/// The choice of `run`, by its values. Fails if allocation fails.
+/// The choice of `run`, by its values.
 fn run_choice(alloc: Global, values: &ArgMatches<'_>) -> Result<Option<Choice>, AllocError>
     ensures { IfOk result (λ c. c ≡ run_choice (rows_of (found_of values.now))) }
 {
@@ -61,7 +61,7 @@ fn run_choice(alloc: Global, values: &ArgMatches<'_>) -> Result<Option<Choice>, 
     Ok(Some(Choice::Run(Text::from_str(alloc, path)?, workers)))
 }
 
-/// The choice of a command line that was read. Fails if allocation fails.
+/// The choice of a command line that was read.
 fn choice_in(alloc: Global, matches: &ArgMatches<'_>) -> Result<Option<Choice>, AllocError>
     ensures { IfOk result (λ c. c ≡ choice_in (subcommand_rows_of matches.now)) }
 {
@@ -82,14 +82,14 @@ fn tip(kind: ErrorKind) -> &'static str {
     }
 }
 
-/// The text of an error, for people. Fails if allocation fails.
+/// The text of an error, for people.
 fn text_of(alloc: Global, error: &Error) -> Result<Text, AllocError> {
     let mut text = error.to_string(alloc)?;
     text.push_str(tip(error.kind()))?;
     Ok(Text::new(text))
 }
 
-/// The fault of words that are refused, with its text. Fails if allocation fails.
+/// The fault of words that are refused, with its text.
 fn fault(alloc: Global, error: &Error) -> Result<UsageFault, AllocError>
     ensures { IfOk result (IsFaultOf (kind_of error.now)) }
 {
@@ -102,9 +102,10 @@ fn fault(alloc: Global, error: &Error) -> Result<UsageFault, AllocError>
     })
 }
 
-/// Reads the words by the command line. Fails if they don't fit it, if they ask for help or the version, and if allocation fails.
+/// Reads the words by the command line. Fails if they don't fit it, if they ask for help or the version, and if memory is refused.
 fn matches<'a>(alloc: Global, words: &'a [&'a str]) -> Result<ArgMatches<'a>, Error>
-    ensures subcommand { IfOk result (λ m. subcommand_rows_of m ≡ subcommand_of alarmd (map (λ w. w.now) words.entry.now)) }
+    ensures subcommand { IfOk result (λ m. subcommand_rows_of m
+        ≡ subcommand_of alarmd (map (λ w. w.now) words.entry.now)) }
     ensures kinds { FailsBy (fault_of alarmd (map (λ w. w.now) words.entry.now)) result }
 {
     let command = alarmd(alloc)?;
@@ -126,7 +127,7 @@ fn chosen<'a>(alloc: Global, words: &'a [&'a str]) -> Result<Choice, UsageFault>
 }
 
 /// Chooses what the program is asked for, by the words after its name. `choose` fails if the words ask for help or the version, or are no command
-/// line; the fault then has the text to show. It also fails if allocation fails.
+/// line; the fault then has the text to show. It also fails if memory is refused.
 ///
 /// Without words the example plant is chosen. A plant is served by 1 to `MOST_WORKERS` workers.
 pub fn choose<'a>(alloc: Global, words: &'a [&'a str]) -> Result<Choice, UsageFault>

@@ -38,7 +38,8 @@ fn place_trap(row: &mut [u8], at: usize, trap: Trap) -> usize
 #[inline(always)]
 pub(crate) fn place_stop(row: &mut [u8], at: usize, statement: u32, trap: Trap) -> usize
     requires { at + 27 ≤ length row.old }
-    ensures placed { IsPlaced row.old row.new at (32 ∷ decimal statement ++ (32 ∷ trap_text trap ++ 10 ∷ [])) result }
+    ensures placed { IsPlaced row.old row.new at
+        (32 ∷ decimal statement ++ (32 ∷ trap_text trap ++ 10 ∷ [])) result }
     ensures place { result ≤ at + 27 }
 {
     let mut number = Buffer::new();
@@ -52,7 +53,8 @@ pub(crate) fn place_stop(row: &mut [u8], at: usize, statement: u32, trap: Trap) 
 pub(crate) fn place_path(row: &mut [u8], at: usize, moment: &[u8], path: &[u8]) -> usize
     requires room { at + 96 ≤ length row.old }
     requires short { IsShort moment.now path.now }
-    ensures placed { IsPlaced row.old row.new at (codes "FAULT " ++ (moment.now ++ (32 ∷ path.now))) result }
+    ensures placed { IsPlaced row.old row.new at (codes "FAULT " ++ (moment.now ++ (32 ∷ path.now)))
+        result }
     ensures place { result ≤ at + 63 }
 {
     let named = place_slice(row, at, b"FAULT ");

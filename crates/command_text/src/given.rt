@@ -30,7 +30,8 @@ fn name_len(line: &[u8]) -> usize
 
 /// Splits a line at its first `=`, if only bytes of names are before it, into these and what is after it; `None` for any other line.
 fn cut_name(line: &[u8]) -> Option<(&[u8], &[u8])>
-    ensures cut { MatchOption result (cut_name line.now ≡ None) (λ r. cut_name line.now ≡ Some (r.0.now, r.1.now)) }
+    ensures cut { MatchOption result (cut_name line.now ≡ None)
+        (λ r. cut_name line.now ≡ Some (r.0.now, r.1.now)) }
     ensures shorter { IfSome result (λ r. length r.1.now < length line.now) }
 {
     let (name, rest) = line.split_at(name_len(line));
@@ -55,7 +56,8 @@ fn begins_name(bytes: &[u8]) -> bool
 
 /// Whether a word may be TRUE or FALSE: it begins with a letter.
 fn begins_truth(word: &[u8]) -> bool
-    ensures { result ≡ false → (same_word word.now (codes "true") ≡ false) × (same_word word.now (codes "false") ≡ false) }
+    ensures { result ≡ false
+        → (same_word word.now (codes "true") ≡ false) × (same_word word.now (codes "false") ≡ false) }
 {
     match word.split_first() {
         Some((first, _)) => first.is_ascii_alphabetic(),
@@ -94,7 +96,8 @@ fn name_text(name: &[u8]) -> &str
 /// Parses the word `NAME=VALUE` with which a line begins, and returns what is after the word too; `None` if it is any other word.
 fn pair(line: &[u8]) -> Option<(&[u8], Given, &[u8])>
     requires { at_gap line.now ≡ false }
-    ensures pair { MatchOption result (pair_of (split_word line.now).0 ≡ None) (λ r. pair_of (split_word line.now).0 ≡ Some (record { name = r.0.now; given = r.1 })) }
+    ensures pair { MatchOption result (pair_of (split_word line.now).0 ≡ None)
+        (λ r. pair_of (split_word line.now).0 ≡ Some (record { name = r.0.now; given = r.1 })) }
     ensures name { IfSome result (λ r. is_name r.0.now ≡ true) }
     ensures after { IfSome result (λ r. r.2.now ≡ (split_word line.now).1) }
     ensures shorter { IfSome result (λ r. length r.2.now < length line.now) }
@@ -108,7 +111,7 @@ fn pair(line: &[u8]) -> Option<(&[u8], Given, &[u8])>
     Some((name, given, after))
 }
 
-/// Adds a pair to a pool. A name that stands in its place from an earlier line isn't copied again. Fails if allocation fails.
+/// Adds a pair to a pool. A name that stands in its place from an earlier line isn't copied again.
 fn add_pair(alloc: Global, pool: &mut Pool, name: &[u8], given: Given) -> Result<(), AllocError>
     requires { is_name name.now ≡ true }
     ensures { OnOk result (pool.new ≡ pool.old ++ (record { name = name.now; given = given }) ∷ []) }
@@ -119,10 +122,10 @@ fn add_pair(alloc: Global, pool: &mut Pool, name: &[u8], given: Given) -> Result
     pool.push(alloc, name_text(name), given)
 }
 
-/// Parses each word of a line as `NAME=VALUE`, and lists the pairs in a pool in place of those in it; false if one of the words isn't
-/// such a pair. Fails if allocation fails.
+/// Parses each word of a line as `NAME=VALUE`, and lists the pairs in a pool in place of those in it; false if one of the words isn't such a pair.
 pub(crate) fn list_pairs(alloc: Global, words: &[u8], pool: &mut Pool) -> Result<bool, AllocError>
-    ensures { IfOk result (λ all. pairs_of (words_of words.now) ≡ (if all then Some pool.new else None)) }
+    ensures { IfOk result (λ all. pairs_of (words_of words.now)
+        ≡ (if all then Some pool.new else None)) }
 {
     pool.clear();
     let mut rest = trim_start(words);

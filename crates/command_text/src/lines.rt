@@ -13,7 +13,8 @@ use std::alloc::AllocError;
 // Inlined into each kind of line, so that the compiler knows how many fields there are and unrolls the loop.
 #[inline(always)]
 fn add_words(out: &mut Vec<u8>, name: &str, fields: &[&str]) -> Result<(), AllocError>
-    ensures ok { OnOk result (out.new.items ≡ out.old.items ++ line_of name.now (map (λ f. f.now) fields.now)) }
+    ensures ok { OnOk result
+        (out.new.items ≡ out.old.items ++ line_of name.now (map (λ f. f.now) fields.now)) }
     ensures err { OnErr result (take (length out.old.items) out.new.items ≡ out.old.items) }
 {
     out.extend_from_slice(name.as_bytes())?;
@@ -28,7 +29,8 @@ fn add_words(out: &mut Vec<u8>, name: &str, fields: &[&str]) -> Result<(), Alloc
 /// Appends a line: its name, each field after a space, LF. Where memory is refused the text is unchanged.
 #[inline(always)]
 fn push_line(out: &mut Vec<u8>, name: &str, fields: &[&str]) -> Result<(), AllocError>
-    ensures ok { OnOk result (out.new.items ≡ out.old.items ++ line_of name.now (map (λ f. f.now) fields.now)) }
+    ensures ok { OnOk result
+        (out.new.items ≡ out.old.items ++ line_of name.now (map (λ f. f.now) fields.now)) }
     ensures err { OnErr result (out.new.items ≡ out.old.items) }
 {
     let start = out.len();
@@ -57,7 +59,8 @@ fn push_three<'a>(
     second: &'a str,
     third: &'a str,
 ) -> Result<(), AllocError>
-    ensures ok { OnOk result (out.new.items ≡ out.old.items ++ line_of name.now (first.now ∷ second.now ∷ third.now ∷ [])) }
+    ensures ok { OnOk result
+        (out.new.items ≡ out.old.items ++ line_of name.now (first.now ∷ second.now ∷ third.now ∷ [])) }
     ensures err { OnErr result (out.new.items ≡ out.old.items) }
 {
     push_line(out, name, &[first, second, third])
@@ -72,7 +75,9 @@ fn push_four<'a>(
     third: &'a str,
     fourth: &'a str,
 ) -> Result<(), AllocError>
-    ensures ok { OnOk result (out.new.items ≡ out.old.items ++ line_of name.now (first.now ∷ second.now ∷ third.now ∷ fourth.now ∷ [])) }
+    ensures ok { OnOk result
+        (out.new.items
+        ≡ out.old.items ++ line_of name.now (first.now ∷ second.now ∷ third.now ∷ fourth.now ∷ [])) }
     ensures err { OnErr result (out.new.items ≡ out.old.items) }
 {
     push_line(out, name, &[first, second, third, fourth])
@@ -87,7 +92,8 @@ fn push_long_fault(
     statement: u32,
     trap: Trap,
 ) -> Result<(), AllocError>
-    ensures ok { (t : ℕ) → moment.now ≡ decimal t → OnOk result (out.new.items ≡ out.old.items ++ fault_line t path.now statement trap) }
+    ensures ok { (t : ℕ) → moment.now ≡ decimal t
+        → OnOk result (out.new.items ≡ out.old.items ++ fault_line t path.now statement trap) }
     ensures err { OnErr result (out.new.items ≡ out.old.items) }
 {
     let mut number = Buffer::new();
@@ -105,7 +111,8 @@ pub fn push_fault(
     statement: u32,
     trap: Trap,
 ) -> Result<(), AllocError>
-    ensures ok { (t : ℕ) → moment.now ≡ decimal t → OnOk result (out.new.items ≡ out.old.items ++ fault_line t path.now statement trap) }
+    ensures ok { (t : ℕ) → moment.now ≡ decimal t
+        → OnOk result (out.new.items ≡ out.old.items ++ fault_line t path.now statement trap) }
     ensures err { OnErr result (out.new.items ≡ out.old.items) }
 {
     let (digits, letters) = (moment.as_bytes(), path.as_bytes());
@@ -129,7 +136,8 @@ pub fn push_alarm(
     tag: &str,
     change: Change,
 ) -> Result<(), AllocError>
-    ensures ok { (t : ℕ) → moment.now ≡ decimal t → OnOk result (out.new.items ≡ out.old.items ++ alarm_line t tag.now change) }
+    ensures ok { (t : ℕ) → moment.now ≡ decimal t
+        → OnOk result (out.new.items ≡ out.old.items ++ alarm_line t tag.now change) }
     ensures err { OnErr result (out.new.items ≡ out.old.items) }
 {
     let (from, to) = (change.from(), change.to());
@@ -152,7 +160,8 @@ fn push_long_out(
     name: &str,
     value: Value,
 ) -> Result<(), AllocError>
-    ensures ok { (t : ℕ) → moment.now ≡ decimal t → OnOk result (out.new.items ≡ out.old.items ++ out_line t name.now value) }
+    ensures ok { (t : ℕ) → moment.now ≡ decimal t
+        → OnOk result (out.new.items ≡ out.old.items ++ out_line t name.now value) }
     ensures err { OnErr result (out.new.items ≡ out.old.items) }
 {
     let mut shown = Buffer::new();
@@ -169,7 +178,8 @@ fn push_long_out(
 #[inline(never)]
 #[tactic(auto, unfolding(crate::specs::Lines::out_line))]
 pub fn push_out(out: &mut Vec<u8>, moment: &str, name: &str, value: Value) -> Result<(), AllocError>
-    ensures ok { (t : ℕ) → moment.now ≡ decimal t → OnOk result (out.new.items ≡ out.old.items ++ out_line t name.now value) }
+    ensures ok { (t : ℕ) → moment.now ≡ decimal t
+        → OnOk result (out.new.items ≡ out.old.items ++ out_line t name.now value) }
     ensures err { OnErr result (out.new.items ≡ out.old.items) }
 {
     let (digits, letters) = (moment.as_bytes(), name.as_bytes());
@@ -187,7 +197,8 @@ pub fn push_out(out: &mut Vec<u8>, moment: &str, name: &str, value: Value) -> Re
 /// is refused the text is unchanged.
 #[tactic(auto, unfolding(crate::specs::Lines::done_line))]
 pub fn push_done(out: &mut Vec<u8>, moment: &str, lines: u64) -> Result<(), AllocError>
-    ensures ok { (t : ℕ) → moment.now ≡ decimal t → OnOk result (out.new.items ≡ out.old.items ++ done_line t lines) }
+    ensures ok { (t : ℕ) → moment.now ≡ decimal t
+        → OnOk result (out.new.items ≡ out.old.items ++ done_line t lines) }
     ensures err { OnErr result (out.new.items ≡ out.old.items) }
 {
     let mut count = Buffer::new();

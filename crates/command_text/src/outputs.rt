@@ -121,8 +121,8 @@ fn place_line(row: &mut [u8], at: usize, front: &OutFront, name: &[u8], value: V
     place_value(row, named, value)
 }
 
-/// Puts `OUT MOMENT NAME VALUE` after the first `at` bytes of a text, and returns the place after it; what is beyond that is room for
-/// more. So the lines of many outputs are written one after another, and the text is cut after the last. Fails if allocation fails.
+/// Puts `OUT MOMENT NAME VALUE` after the first `at` bytes of a text, and returns the place after it; what is beyond that is room for more. So the
+/// lines of many outputs are written one after another, and the text is cut after the last.
 pub fn put_out(
     text: &mut Vec<u8>,
     at: usize,
@@ -131,7 +131,8 @@ pub fn put_out(
     value: Value,
 ) -> Result<usize, AllocError>
     requires { at ≤ length text.old.items }
-    ensures { IfOk result (λ end. IsPut text.old.items text.new.items at (out_line front.now name.now value) end) }
+    ensures { IfOk result (λ end. IsPut text.old.items text.new.items at
+        (out_line front.now name.now value) end) }
 {
     let name = name.as_bytes();
     make_room(text, at, name)?;
@@ -149,7 +150,9 @@ pub(crate) fn place_out(
 ) -> usize
     requires room { at + 96 ≤ length row.old }
     requires short { IsShort moment.now name.now }
-    ensures { IsPlaced row.old row.new at (codes "OUT " ++ (moment.now ++ (32 ∷ (name.now ++ (32 ∷ value_text value ++ 10 ∷ []))))) result }
+    ensures { IsPlaced row.old row.new at
+        (codes "OUT " ++ (moment.now ++ (32 ∷ (name.now ++ (32 ∷ value_text value ++ 10 ∷ [])))))
+        result }
 {
     let kind = place_slice(row, at, b"OUT ");
     let timed = place_text(row, kind, moment);

@@ -13,7 +13,7 @@ use std::alloc::{AllocError, Global};
 /// The greatest number of bytes of a line.
 pub(crate) const LONGEST_LINE: usize = 1_048_576;
 
-/// Parses the words after `scan`: a moment, then a pair for each input that is given. Fails only where memory was refused.
+/// Parses the words after `scan`: a moment, then a pair for each input that is given.
 #[tactic(auto, unfolding(crate::specs::Commands::scan_of))]
 fn parse_scan<'a>(
     alloc: Global,
@@ -112,7 +112,7 @@ fn verb_named(word: &[u8]) -> Option<Verb>
     }
 }
 
-/// Parses the words of a line, of which the first is the command's name. Fails only where memory was refused.
+/// Parses the words of a line, of which the first is the command's name.
 #[tactic(auto, unfolding(crate::specs::Commands::command_in))]
 fn parse_words<'a>(
     alloc: Global,
@@ -150,8 +150,8 @@ fn is_remark(first: &[u8]) -> bool
     }
 }
 
-/// Parses a line, without its line end. A line of more than 1,048,576 bytes is no command. The pairs of a scan stand in the pool, in
-/// place of those of an earlier line. Fails if allocation fails.
+/// Parses a line, without its line end. A line of more than 1,048,576 bytes is no command. The pairs of a scan stand in the pool, in place of those
+/// of an earlier line.
 #[tactic(auto, unfolding(crate::specs::Commands::command_of, crate::specs::Commands::command_in))]
 pub fn read_command<'a>(
     alloc: Global,

@@ -257,8 +257,8 @@ pub(crate) fn make_room(text: &mut Vec<u8>, at: usize, tag: &[u8]) -> Result<(),
     text.resize(text.len() + ROOM, 0)
 }
 
-/// Puts `ALARM MOMENT TAG FROM TO` after the first `at` bytes of a text, and returns the place after it; what is beyond that is room for
-/// more. So the lines of many changes are written one after another, and the text is cut after the last. Fails if allocation fails.
+/// Puts `ALARM MOMENT TAG FROM TO` after the first `at` bytes of a text, and returns the place after it; what is beyond that is room for more. So the
+/// lines of many changes are written one after another, and the text is cut after the last.
 pub fn put_alarm(
     text: &mut Vec<u8>,
     at: usize,
@@ -267,7 +267,8 @@ pub fn put_alarm(
     change: Change,
 ) -> Result<usize, AllocError>
     requires { at ≤ length text.old.items }
-    ensures { IfOk result (λ end. IsPut text.old.items text.new.items at (alarm_line front.now tag.now change) end) }
+    ensures { IfOk result (λ end. IsPut text.old.items text.new.items at
+        (alarm_line front.now tag.now change) end) }
 {
     let tag = tag.as_bytes();
     make_room(text, at, tag)?;
@@ -303,7 +304,11 @@ pub(crate) fn place_change(
 ) -> usize
     requires room { at + 96 ≤ length row.old }
     requires short { IsShort moment.now tag.now }
-    ensures { IsPlaced row.old row.new at (codes "ALARM " ++ (moment.now ++ (32 ∷ (tag.now ++ ((32 ∷ (code_text from ++ 32 ∷ [])) ++ (code_text to ++ 10 ∷ [])))))) result }
+    ensures { IsPlaced row.old row.new at
+        (codes "ALARM "
+        ++ (moment.now
+        ++ (32 ∷ (tag.now ++ ((32 ∷ (code_text from ++ 32 ∷ [])) ++ (code_text to ++ 10 ∷ []))))))
+        result }
 {
     let named = place_slice(row, at, b"ALARM ");
     let timed = place_text(row, named, moment);
@@ -318,7 +323,8 @@ pub(crate) fn place_change(
 pub(crate) fn place_done(row: &mut [u8], at: usize, moment: &[u8], lines: &[u8]) -> usize
     requires room { at + 96 ≤ length row.old }
     requires short { IsShort moment.now lines.now }
-    ensures { IsPlaced row.old row.new at (codes "DONE " ++ (moment.now ++ (32 ∷ (lines.now ++ 10 ∷ [])))) result }
+    ensures { IsPlaced row.old row.new at
+        (codes "DONE " ++ (moment.now ++ (32 ∷ (lines.now ++ 10 ∷ [])))) result }
 {
     let named = place_slice(row, at, b"DONE ");
     let timed = place_text(row, named, moment);

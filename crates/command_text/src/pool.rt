@@ -43,7 +43,7 @@ impl Model for Pool {
     ghost invariant = { λ pool. pool.used ≤ length pool.pairs.items };
 }
 
-/// Gives a pair another name and value. Fails if allocation fails.
+/// Gives a pair another name and value.
 fn fill(pair: &mut Pair, name: &str, given: Given) -> Result<(), AllocError>
     ensures { OnOk result (pair.new ≡ record { name = name.now; given = given }) }
 {
@@ -67,7 +67,7 @@ fn give(pair: &mut Pair, given: Given)
     pair.given = given;
 }
 
-/// A pair with a copy of a name. Fails if allocation fails.
+/// A pair with a copy of a name.
 fn new_pair(alloc: Global, name: &str, given: Given) -> Result<Pair, AllocError>
     ensures { IfOk result (λ pair. pair ≡ record { name = name.now; given = given }) }
 {
@@ -107,7 +107,8 @@ impl Pool {
 
     /// Adds a pair at the end where its name stands there from an earlier line, and returns whether it does; else nothing changes.
     pub(crate) fn push_again(&mut self, name: &[u8], given: Given) -> bool
-        ensures added { result ≡ true → self.new ≡ self.old ++ (record { name = name.now; given = given }) ∷ [] }
+        ensures added { result ≡ true
+            → self.new ≡ self.old ++ (record { name = name.now; given = given }) ∷ [] }
         ensures not_added { result ≡ false → self.new ≡ self.old }
     {
         let used = self.used;
@@ -121,9 +122,10 @@ impl Pool {
         true
     }
 
-    /// Adds a pair at the end. Fails if allocation fails, and then nothing changes.
+    /// Adds a pair at the end. Fails if memory is refused, and then nothing changes.
     pub fn push(&mut self, alloc: Global, name: &str, given: Given) -> Result<(), AllocError>
-        ensures ok { OnOk result (self.new ≡ self.old ++ (record { name = name.now; given = given }) ∷ []) }
+        ensures ok { OnOk result
+            (self.new ≡ self.old ++ (record { name = name.now; given = given }) ∷ []) }
         ensures err { OnErr result (self.new ≡ self.old) }
     {
         let used = self.used;

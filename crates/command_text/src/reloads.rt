@@ -144,7 +144,8 @@ fn size_up_to(limit: u32, word: &[u8]) -> Option<u32>
 /// Parses words that are the sizes of sources; `None` where one of them is no size, and where they are past a limit.
 #[tactic(auto, unfolding(crate::specs::Reloads::sources_of))]
 fn parse_sources(words: &[u8]) -> Option<SourceSizes>
-    ensures sizes { MatchOption result (sources_of (words_of words.now) ≡ None) (λ s. sources_of (words_of words.now) ≡ Some s) }
+    ensures sizes { MatchOption result (sources_of (words_of words.now) ≡ None)
+        (λ s. sources_of (words_of words.now) ≡ Some s) }
     ensures small { IfSome result (λ s. sum s ≤ 4194304) }
 {
     let mut sizes = SourceSizes::new();
@@ -167,7 +168,8 @@ fn parse_sources(words: &[u8]) -> Option<SourceSizes>
 /// Parses the words after `reload`: the sizes of the plant file and of the alarm file, and then that of each source.
 #[tactic(auto, unfolding(crate::specs::Reloads::sizes_of))]
 fn parse_sizes(words: &[u8]) -> Option<TextSizes>
-    ensures { MatchOption result (sizes_of (words_of words.now) ≡ None) (λ s. sizes_of (words_of words.now) ≡ Some s) }
+    ensures { MatchOption result (sizes_of (words_of words.now) ≡ None)
+        (λ s. sizes_of (words_of words.now) ≡ Some s) }
 {
     let (plant, rest) = next_word(words)?;
     let (alarms, rest) = next_word(rest)?;

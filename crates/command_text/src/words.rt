@@ -43,7 +43,8 @@ pub(crate) fn split_word(line: &[u8]) -> (&[u8], &[u8])
 
 /// The first word of a line and the rest after it; `None` if there is no word.
 pub(crate) fn next_word(line: &[u8]) -> Option<(&[u8], &[u8])>
-    ensures { MatchOption result (words_of line.now ≡ []) (λ r. (words_of line.now ≡ r.0.now ∷ words_of r.1.now) × (length r.1.now < length line.now)) }
+    ensures { MatchOption result (words_of line.now ≡ [])
+        (λ r. (words_of line.now ≡ r.0.now ∷ words_of r.1.now) × (length r.1.now < length line.now)) }
 {
     let line = trim_start(line);
     if line.is_empty() {

@@ -63,7 +63,8 @@ impl<O: Drop, R: Drop> Console<O, R> {
     pub fn submit(&mut self, order: O) -> Result<(), O>
         ensures seat { SameConsole self.old self.new }
         ensures ok { OnOk result (submitted self.new ≡ submitted self.old ++ order ∷ []) }
-        ensures full { IfErr result (λ e. (e ≡ order) × (submitted self.new ≡ submitted self.old) × (known_room self.new ≡ 0)) }
+        ensures full { IfErr result (λ e. (e ≡ order) × (submitted self.new ≡ submitted self.old)
+            × (known_room self.new ≡ 0)) }
         ensures room { OnOk result (known_room self.old ≤ known_room self.new + 1) }
         ensures taken { taken self.new ≡ taken self.old }
         ensures succeeds { 0 < known_room self.old → IsOk result }
@@ -79,7 +80,8 @@ impl<O: Drop, R: Drop> Console<O, R> {
         ensures seat { SameConsole self.old self.new }
         ensures some { IfSome result (λ a. taken self.new ≡ taken self.old ++ a ∷ []) }
         ensures none { IfNone result (taken self.new ≡ taken self.old) }
-        ensures submitted { (submitted self.new ≡ submitted self.old) × (known_room self.new ≡ known_room self.old) }
+        ensures submitted { (submitted self.new ≡ submitted self.old)
+            × (known_room self.new ≡ known_room self.old) }
     {
         if self.answered == u64::MAX {
             return None;
@@ -92,7 +94,8 @@ impl<O: Drop, R: Drop> Console<O, R> {
     /// Ends the console, which saw so many events. `None` where the order ring can't be ended; then nothing is known of the orders that are left
     /// in it.
     pub fn finish(self, seen: u64) -> Option<Finished<O, R>>
-        ensures rings { IfSome result (λ f. Ends self f × (all_submitted f ≡ submitted self) × (all_taken f ≡ taken self)) }
+        ensures rings { IfSome result (λ f. Ends self f × (all_submitted f ≡ submitted self)
+            × (all_taken f ≡ taken self)) }
         ensures seen { IfSome result (λ f. f.seen ≡ seen) }
     {
         let Console {

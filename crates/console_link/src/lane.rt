@@ -22,16 +22,17 @@ pub struct Lane<O, R> {
     pub(crate) log: LogName,
 }
 
-/// A console of a number and the owner's ends, with two empty rings of 64 places each. What the console sees is marked in the log of this mark. Fails if
-/// allocation fails.
+/// A console of a number and the owner's ends, with two empty rings of 64 places each. What the console sees is marked in the log of this mark.
 pub fn open<O: Drop, R: Drop, E>(
     alloc: Global,
     number: u32,
     mark: &Mark<E>,
 ) -> Result<(Console<O, R>, Lane<O, R>), AllocError>
     ensures pair { IfOk result (λ r. IsConsoleOf r.0 r.1) }
-    ensures console { IfOk result (λ r. (r.0.number ≡ number) × (submitted r.0 ≡ []) × (taken r.0 ≡ []) × (known_room r.0 ≡ 64) × (r.0.log ≡ mark.now.log)) }
-    ensures lane { IfOk result (λ r. (r.1.number ≡ number) × (orders_taken r.1 ≡ []) × (answers_given r.1 ≡ []) × (answer_room r.1 ≡ 64) × IsOpen r.1 × (r.1.log ≡ mark.now.log)) }
+    ensures console { IfOk result (λ r. (r.0.number ≡ number) × (submitted r.0 ≡ []) × (taken r.0 ≡ [])
+        × (known_room r.0 ≡ 64) × (r.0.log ≡ mark.now.log)) }
+    ensures lane { IfOk result (λ r. (r.1.number ≡ number) × (orders_taken r.1 ≡ [])
+        × (answers_given r.1 ≡ []) × (answer_room r.1 ≡ 64) × IsOpen r.1 × (r.1.log ≡ mark.now.log)) }
 {
     let (submits, orders) = RingBuffer::new(alloc, 64)?;
     let (answers, takes) = RingBuffer::new(alloc, 64)?;
@@ -71,7 +72,8 @@ impl<O: Copy + Drop, R: Copy + Drop> Lane<O, R> {
         ensures looked { LaneLooked self.old self.new }
         ensures ended { self.new.ended ≡ self.old.ended }
         ensures seen { seen_by self.new ≡ seen_by self.old }
-        ensures some { IfSome result (λ o. IsPrefix (o ∷ []) (orders_known self.new) × (0 < answer_room self.new)) }
+        ensures some { IfSome result (λ o. IsPrefix (o ∷ []) (orders_known self.new)
+            × (0 < answer_room self.new)) }
         ensures none { IfNone result ((orders_known self.new ≡ []) ⊎ (answer_room self.new ≡ 0)) }
     {
         if self.answers.is_full() || self.orders.is_empty() {
@@ -87,8 +89,10 @@ impl<O: Copy + Drop, R: Copy + Drop> Lane<O, R> {
         ensures lane { SameLane self.old self.new }
         ensures ended { self.new.ended ≡ self.old.ended }
         ensures seen { seen_by self.new ≡ seen_by self.old }
-        ensures order { (orders_taken self.new ≡ orders_taken self.old ++ result.order ∷ []) × (orders_known self.old ≡ result.order ∷ orders_known self.new) }
-        ensures answer { (answers_given self.new ≡ answers_given self.old ++ result ∷ []) × (result.reply ≡ reply) }
+        ensures order { (orders_taken self.new ≡ orders_taken self.old ++ result.order ∷ [])
+            × (orders_known self.old ≡ result.order ∷ orders_known self.new) }
+        ensures answer { (answers_given self.new ≡ answers_given self.old ++ result ∷ [])
+            × (result.reply ≡ reply) }
     {
         let order = self.orders.pop_known();
         let answer = Answer { order, reply };
@@ -101,7 +105,8 @@ impl<O: Copy + Drop, R: Copy + Drop> Lane<O, R> {
     pub fn end(&mut self, console: Finished<O, R>)
         requires { IsEndOf console self.old }
         ensures lane { SameLane self.old self.new }
-        ensures same { (orders_taken self.new ≡ orders_taken self.old) × (answers_given self.new ≡ answers_given self.old) }
+        ensures same { (orders_taken self.new ≡ orders_taken self.old)
+            × (answers_given self.new ≡ answers_given self.old) }
         ensures orders { orders_taken self.new ++ left_of self.new ≡ all_submitted console }
         ensures answers { IsPrefix (all_taken console) (answers_given self.new) }
         ensures seen { seen_by self.new ≡ Some console.seen }

@@ -65,8 +65,8 @@ impl<V: Duplicate> Pass<V, V> for Folding {
     fn laws(&self) {}
 }
 
-/// Returns the body with its constants folded. Each operator whose operands are literals, once these are folded, is a literal of its result
-/// and of its kind, unless it traps; all else is as it was. Fails only where memory is refused.
+/// Returns the body with its constants folded. Each operator whose operands are literals, once these are folded, is a literal of its result and of
+/// its kind, unless it traps; all else is as it was.
 pub fn fold_body<V: Duplicate>(alloc: Global, body: &[Stmt<V>]) -> Result<Vec<Stmt<V>>, AllocError>
     ensures { IfOk result (λ folded. view_body folded.items ≡ folded_body (view_body body.now)) }
 {

@@ -17,7 +17,8 @@ ghost use Rattle.const_fold.specs.Laws.{IsLiteral, GoesByConstants, has_labels};
 /// A folded body does what the body does, whatever its names mean: both end, or both trap by the same statement with the same trap, and they
 /// leave the same world.
 pub fn folded_body_does_same<V, W>()
-    ensures { (space : Space V W) (body : PlainBody V) (w : W) → run_all space (folded_body body) w ≡ run_all space body w }
+    ensures { (space : Space V W) (body : PlainBody V) (w : W)
+        → run_all space (folded_body body) w ≡ run_all space body w }
 {}
 
 /// A constant expression that has a kind and doesn't trap becomes a literal of this kind and of its value. Whether an expression is constant
@@ -31,25 +32,32 @@ pub fn folded_constants_are_literals<V>()
 /// A folded body has the names of the body, each at its place: those that it reads, assigns and calls are known exactly where those of the
 /// body are.
 pub fn folded_names_stay<V>()
-    ensures { (known : Known V) (body : PlainBody V) → body_known known (folded_body body) ≡ body_known known body }
+    ensures { (known : Known V) (body : PlainBody V)
+        → body_known known (folded_body body) ≡ body_known known body }
 {}
 
 /// A folded body keeps the rules that the body keeps: that of kinds, that of control variables, and each rule of a statement by itself that
 /// folding the statement leaves as it is, as a rule of the labels of a CASE, or that the bounds and steps of a FOR are constant.
 pub fn folded_body_keeps_rules<V>()
-    ensures kinds { (context : Context V) (body : PlainBody V) → all_fit context body ≡ true → all_fit context (folded_body body) ≡ true }
-    ensures controls { (context : Context V) (body : PlainBody V) → controls_fit context (folded_body body) ≡ controls_fit context body }
-    ensures rules { (rule : PlainStmt V → Bool) → ((s : PlainStmt V) → rule (folded_stmt s) ≡ rule s) → (body : PlainBody V) → every rule (folded_body body) ≡ every rule body }
-    ensures labels { (test : List Label → Bool) (body : PlainBody V) → every (has_labels test) (folded_body body) ≡ every (has_labels test) body }
+    ensures kinds { (context : Context V) (body : PlainBody V) → all_fit context body ≡ true
+        → all_fit context (folded_body body) ≡ true }
+    ensures controls { (context : Context V) (body : PlainBody V)
+        → controls_fit context (folded_body body) ≡ controls_fit context body }
+    ensures rules { (rule : PlainStmt V → Bool) → ((s : PlainStmt V) → rule (folded_stmt s) ≡ rule s)
+        → (body : PlainBody V) → every rule (folded_body body) ≡ every rule body }
+    ensures labels { (test : List Label → Bool) (body : PlainBody V)
+        → every (has_labels test) (folded_body body) ≡ every (has_labels test) body }
 {}
 
 /// A folded body is at most as large as the body, whatever the bodies of instances weigh.
 pub fn folded_body_weighs_at_most<V>()
-    ensures { (called : V → ℕ) (body : PlainBody V) → body_size called (folded_body body) ≤ body_size called body }
+    ensures { (called : V → ℕ) (body : PlainBody V)
+        → body_size called (folded_body body) ≤ body_size called body }
 {}
 
 /// A folded body costs at most what the body costs, where the turns of a FOR are counted by the constants that its bounds and step are.
 pub fn folded_body_costs_at_most<V>()
-    ensures { (turns : PlainExpr V → PlainExpr V → Option (PlainExpr V) → ℕ) → GoesByConstants turns → (called : V → ℕ) (body : PlainBody V)
+    ensures { (turns : PlainExpr V → PlainExpr V → Option (PlainExpr V) → ℕ) → GoesByConstants turns
+        → (called : V → ℕ) (body : PlainBody V)
         → body_cost turns called (folded_body body) ≤ body_cost turns called body }
 {}

@@ -23,7 +23,8 @@ pub struct Ended {
 
 /// Keeps an ended console; where memory is refused it is let go.
 fn keep_end(finished: &mut Vec<Finished>, end: Finished)
-    ensures { (lanes : List (Lane Order Reply)) → IsEndIn lanes end → All (IsEndIn lanes) finished.old.items → All (IsEndIn lanes) finished.new.items }
+    ensures { (lanes : List (Lane Order Reply)) → IsEndIn lanes end
+        → All (IsEndIn lanes) finished.old.items → All (IsEndIn lanes) finished.new.items }
 {
     match finished.push(end) {
         Ok(()) => {}
@@ -41,7 +42,8 @@ fn keep_post(posts: &mut Vec<Post>, post: Post) {
 
 /// Keeps what came back of a console.
 fn keep(finished: &mut Vec<Finished>, posts: &mut Vec<Post>, stint: Stint)
-    ensures { (lanes : List (Lane Order Reply)) → IfSome stint.finished (IsEndIn lanes) → All (IsEndIn lanes) finished.old.items → All (IsEndIn lanes) finished.new.items }
+    ensures { (lanes : List (Lane Order Reply)) → IfSome stint.finished (IsEndIn lanes)
+        → All (IsEndIn lanes) finished.old.items → All (IsEndIn lanes) finished.new.items }
 {
     let Stint {
         finished: end,

@@ -79,7 +79,7 @@ fn has_area(plant: &Plant, number: u32, area: u32) -> bool {
     false
 }
 
-/// The lamps of the console of a number, for the alarms of a plant. Fails if memory was refused.
+/// The lamps of the console of a number, for the alarms of a plant.
 fn lamps_of(alloc: Global, plant: &Plant, number: u32) -> Result<Vec<Lamp>, AllocError> {
     let mut lamps = Vec::new(alloc);
     for row in plant.alarm_rows() {
@@ -93,7 +93,7 @@ fn lamps_of(alloc: Global, plant: &Plant, number: u32) -> Result<Vec<Lamp>, Allo
 }
 
 impl Post {
-    /// The post of the console of a number. Fails if memory was refused.
+    /// The post of the console of a number.
     pub fn new(alloc: Global, plants: &Plants<'_>, number: u32) -> Result<Post, AllocError> {
         let lamps = lamps_of(alloc, plants.first, number)?;
         let others = lamps_of(alloc, plants.second, number)?;

@@ -56,7 +56,8 @@ fn seat_one<R: Threads>(
     watch: &Arc<Watch>,
     threads: &mut Vec<Seated>,
 )
-    ensures { (lanes : List (Lane Order Reply)) → IsConsoleIn lanes console.link → AreSeated lanes threads.old.items → AreSeated lanes threads.new.items }
+    ensures { (lanes : List (Lane Order Reply)) → IsConsoleIn lanes console.link
+        → AreSeated lanes threads.old.items → AreSeated lanes threads.new.items }
 {
     if let Ok(thread) = start(rt, alloc, plants, console, watch) {
         match threads.push(thread) {

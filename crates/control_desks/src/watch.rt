@@ -16,7 +16,7 @@ pub struct Watch {
 }
 
 impl Watch {
-    /// What they share when the day begins. Fails if memory was refused.
+    /// What they share when the day begins.
     pub fn shared(alloc: Global) -> Result<Arc<Watch>, AllocError> {
         let watch = Watch {
             over: AtomicBool::new(false),

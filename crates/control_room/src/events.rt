@@ -36,7 +36,7 @@ impl Events {
         }
     }
 
-    /// Adds a turn. Fails if memory was refused.
+    /// Adds a turn.
     pub fn add(&mut self, turn: &Turn) -> Result<(), AllocError> {
         self.scans = self.scans.saturating_add(1);
         if turn.taken == 0 {

@@ -20,7 +20,7 @@ pub struct Houses {
     pub second: Plant,
 }
 
-/// Names and texts of sources, lent. Fails if memory was refused.
+/// Names and texts of sources, lent.
 fn lent(alloc: Global, fetched: &Fetched) -> Result<Vec<(&str, &[u8])>, AllocError> {
     let mut sources = Vec::new(alloc);
     for source in fetched.sources.as_slice() {

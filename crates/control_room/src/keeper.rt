@@ -21,7 +21,7 @@ const PAUSE: u64 = 50;
 /// What the keeper comes back with: the lines of its pages, or that memory was refused.
 pub type Kept = Result<Vec<String>, AllocError>;
 
-/// Takes page after page, until the day is over and none is left. Fails if memory was refused.
+/// Takes page after page, until the day is over and none is left.
 fn keep<L: Ledger, R: Wait + Clock>(
     rt: &R,
     alloc: Global,

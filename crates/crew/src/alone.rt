@@ -21,7 +21,8 @@ impl<J: Work<S, D>, S, D: Drop, H> Crew<J, S, D, H> for Alone {
     fn run(&mut self, _rt: &H, alloc: Global, jobs: Vec<J>) -> Result<Vec<D>, CrewFault>
         requires asked { Unit {0} }
         requires numbered { AreNumbered J.number_of (map J.start_of jobs.items) }
-        ensures each { IfOk result (λ runs. IsEachOnce (map J.start_of jobs.items) (map J.ended_from runs.items)) }
+        ensures each { IfOk result (λ runs. IsEachOnce (map J.start_of jobs.items)
+            (map J.ended_from runs.items)) }
         ensures faults { 0 ≡ faults_after 0 result }
         ensures alone { Unit {0} → IsMemoryAtMost result × Unit {0} }
     {

@@ -37,7 +37,8 @@ pub trait Crew<J: Work<S, D>, S, D, H> {
     fn run(&mut self, rt: &H, alloc: Global, jobs: Vec<J>) -> Result<Vec<D>, CrewFault>
         requires asked { asks }
         requires numbered { AreNumbered J.number_of (map J.start_of jobs.items) }
-        ensures each { IfOk result (λ runs. IsEachOnce (map J.start_of jobs.items) (map J.ended_from runs.items)) }
+        ensures each { IfOk result (λ runs. IsEachOnce (map J.start_of jobs.items)
+            (map J.ended_from runs.items)) }
         ensures faults { faulted self.new ≡ faults_after (faulted self.old) result }
         ensures alone { alone self.old → IsMemoryAtMost result × alone self.new };
 

@@ -40,7 +40,8 @@ impl<G: Gate + Sync> Scoped<G> {
         jobs: Vec<J>,
     ) -> Result<Vec<D>, CrewFault>
         requires { AreNumbered J.number_of (map J.start_of jobs.items) }
-        ensures each { IfOk result (λ runs. IsEachOnce (map J.start_of jobs.items) (map J.ended_from runs.items)) }
+        ensures each { IfOk result (λ runs. IsEachOnce (map J.start_of jobs.items)
+            (map J.ended_from runs.items)) }
         ensures fault { IfErr result (λ fault. fault ≡ Memory) }
     {
         match run_in_batches(rt, alloc, self.workers, &self.gate, jobs) {
@@ -57,7 +58,9 @@ fn run_each<G: Gate + Sync, J: Work<S, D> + Send, S, D: Drop + Send, H: Threads 
     batch: Vec<J>,
 ) -> Result<Vec<D>, AllocError>
     ensures len { IfOk result (λ runs. vec_len runs ≡ vec_len batch) }
-    ensures each { IfOk result (λ runs. (i : ℕ) (job : J) (ended : D) → i < vec_len batch → J.ended_from (slice_index_or runs.items i ended) ≡ J.start_of (slice_index_or batch.items i job)) }
+    ensures each { IfOk result (λ runs. (i : ℕ) (job : J) (ended : D) → i < vec_len batch
+        → J.ended_from (slice_index_or runs.items i ended)
+        ≡ J.start_of (slice_index_or batch.items i job)) }
 {
     thread::map_vec(
         rt,

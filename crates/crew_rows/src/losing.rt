@@ -47,7 +47,8 @@ impl<J: Work<S, D>, S: Drop, D: Drop, G: Gate> Losing<J, S, D, G> {
         jobs: Vec<J>,
     ) -> Result<Vec<D>, CrewFault>
         requires { AreNumbered J.number_of (map J.start_of jobs.items) }
-        ensures each { IfOk result (λ runs. IsEachOnce (map J.start_of jobs.items) (map J.ended_from runs.items)) }
+        ensures each { IfOk result (λ runs. IsEachOnce (map J.start_of jobs.items)
+            (map J.ended_from runs.items)) }
         ensures faults { self.new.faults ≡ self.old.faults }
     {
         if self.lost {
@@ -77,7 +78,8 @@ impl<J: Work<S, D>, S: Drop, D: Drop, G: Gate, H: Threads + Wait> Crew<J, S, D, 
     fn run(&mut self, rt: &H, alloc: Global, jobs: Vec<J>) -> Result<Vec<D>, CrewFault>
         requires asked { Unit {0} }
         requires numbered { AreNumbered J.number_of (map J.start_of jobs.items) }
-        ensures each { IfOk result (λ runs. IsEachOnce (map J.start_of jobs.items) (map J.ended_from runs.items)) }
+        ensures each { IfOk result (λ runs. IsEachOnce (map J.start_of jobs.items)
+            (map J.ended_from runs.items)) }
         ensures faults { self.new.faults ≡ faults_after self.old.faults result }
         ensures alone { ⊥ → IsMemoryAtMost result × ⊥ }
     {

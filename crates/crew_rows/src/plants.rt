@@ -40,7 +40,7 @@ PROGRAM q
   FOR i := 1 TO 1428 DO b := b + 2; END_FOR;
 ";
 
-/// The source: two programs, the second with this last statement; none where this is `-`. Fails if memory was refused.
+/// The source: two programs, the second with this last statement; none where this is `-`.
 fn source_of(alloc: Global, last: &str) -> Result<String, AllocError> {
     let mut source = String::new(alloc);
     source.push_str(GLOBALS)?;
@@ -52,7 +52,7 @@ fn source_of(alloc: Global, last: &str) -> Result<String, AllocError> {
     Ok(source)
 }
 
-/// The plant of a row. `None` where it is refused. Fails if memory was refused.
+/// The plant of a row. `None` where it is refused.
 pub fn read_plant<R: Threads + Sync>(
     rt: &R,
     alloc: Global,

@@ -83,7 +83,7 @@ impl Model for Engine {
     ghost invariant = { λ e. IsEngine e.began e.history e.log.rows e.state e.plant e.names × IfSome e.levels (AreLevelsOf e.plant.source) };
 }
 
-/// The state before the first event, and memory for scans. Fails if allocation fails.
+/// The state before the first event, and memory for scans.
 fn opening(alloc: Global, plant: &Plant) -> Result<(State, Room), AllocError>
     ensures { IfOk result (λ made. IsEngine plant.now [] [] made.0 plant.now []) }
 {
@@ -116,8 +116,7 @@ fn push_taken(history: &mut History, image: Vec<(u32, Value)>, moment: u64) -> V
 }
 
 impl Engine {
-    /// The engine of a plant before the first event: each variable has its initial value, no program is faulted, and each alarm is
-    /// normal. Fails if allocation fails.
+    /// The engine of a plant before the first event: each variable has its initial value, no program is faulted, and each alarm is normal.
     pub fn new(alloc: Global, plant: Plant) -> Result<Engine, AllocError>
         ensures { IfOk result (λ e. (e.plant ≡ plant) × (e.history ≡ [])) }
     {
@@ -206,12 +205,13 @@ impl Engine {
         &self.log
     }
 
-    /// The text of the journal's row of a number, from 1, with the name that it bears since its event: a fault's path, an alarm's tag, an
-    /// order's target as declared, or `?` where the order was refused because there is none. Fails if allocation fails.
+    /// The text of the journal's row of a number, from 1, with the name that it bears since its event: a fault's path, an alarm's tag, an order's
+    /// target as declared, or `?` where the order was refused because there is none.
     pub fn line(&self, alloc: Global, number: u64) -> Result<String, AllocError>
         requires first { 1 ≤ number }
         requires last { number ≤ length (journal_of self.now.plant self.now.history) }
-        ensures { IfOk result (λ text. IsLine self.now.plant.epoch (journal_of self.now.plant self.now.history) number (string_bytes text)) }
+        ensures { IfOk result (λ text. IsLine self.now.plant.epoch
+            (journal_of self.now.plant self.now.history) number (string_bytes text)) }
     {
         let row = self.log.row(number);
         let place = number as usize - 1;
@@ -221,8 +221,8 @@ impl Engine {
         line_text(alloc, self.plant.epoch(), &self.plant, &row)
     }
 
-    /// Makes what a crew of several needs to run the programs: the levels in which they may run together. The first scan by such a crew makes it
-    /// too, unless it is there. The engine stays as it is. Fails if allocation fails.
+    /// Makes what a crew of several needs to run the programs: the levels in which they may run together. The first scan by such a crew makes it too,
+    /// unless it is there. The engine stays as it is.
     pub fn plan_levels(&mut self, alloc: Global) -> Result<(), AllocError>
         ensures { self.new ≡ self.old }
     {
@@ -236,7 +236,7 @@ impl Engine {
     /// The pairs name inputs, letter case ignored; the moment is in milliseconds. The refusals, in the order in which they are tested:
     /// `MomentRange` (E2) above 4,000,000,000,000, `MomentBack` (E1) before the last scan, `ImageName` (E3) for a name that is no input
     /// or comes twice, `ImageKind` (E4) for a value that doesn't fit its input, `HistoryFull` (E6) at 1,000,000 events. `Memory` comes
-    /// only if allocation fails: of room for the image and its inputs, for what it leaves of the variables and outputs and for the alarms that it
+    /// only if memory is refused: of room for the image and its inputs, for what it leaves of the variables and outputs and for the alarms that it
     /// moves, of a mark for each alarm, of a flag for each global if the image has more than 16 inputs, of the report's lists and of its rows; by a
     /// crew, of the levels, and of what a crew's jobs need. `Crew` (E5) comes only if the crew failed, and not for memory: just then does its
     /// count of faults rise, or stay at its end.
@@ -252,7 +252,8 @@ impl Engine {
         ensures plant { self.new.plant ≡ self.old.plant }
         ensures history { self.new.history ≡ self.old.history }
         ensures row_room { self.old.row_room ≤ self.new.row_room }
-        ensures ok { IfOk result (λ p. Fits self.new p × (scan_event (state_of self.old) pairs.now moment ≡ Ok p.event)) }
+        ensures ok { IfOk result (λ p. Fits self.new p
+            × (scan_event (state_of self.old) pairs.now moment ≡ Ok p.event)) }
         ensures err { IfErr result (λ e. IsDue e (scan_event (state_of self.old) pairs.now moment)) }
         ensures crew { C.faulted crew.new ≡ faults_by (C.faulted crew.old) result }
     {
@@ -277,10 +278,15 @@ impl Engine {
     /// Adds a scan that was made ready to the history and its rows to the journal. What it reports stays, and what it replaces takes the place of what
     /// it leaves, for its memory.
     fn put_scan(&mut self, ready: &mut ReadyScan)
-        requires { Fits self.old (record { event = Event.Scan ready.old.image.items ready.old.moment; effect = ready.old.effect; report = ready.old.report }) }
+        requires { Fits self.old
+            (record
+            {event = Event.Scan ready.old.image.items ready.old.moment; effect = ready.old.effect; report
+            = ready.old.report}) }
         ensures plant { self.new.plant ≡ self.old.plant }
-        ensures history { self.new.history ≡ self.old.history ++ Event.Scan ready.old.image.items ready.old.moment ∷ [] }
-        ensures row_room { self.new.row_room + (length ready.old.report.faults + length ready.old.report.changes) ≡ self.old.row_room }
+        ensures history { self.new.history
+            ≡ self.old.history ++ Event.Scan ready.old.image.items ready.old.moment ∷ [] }
+        ensures row_room { self.new.row_room +
+            (length ready.old.report.faults + length ready.old.report.changes) ≡ self.old.row_room }
         ensures report { ready.new.report ≡ ready.old.report }
     {
         push_scan(&mut self.log, &ready.report);
@@ -294,7 +300,8 @@ impl Engine {
         requires { Fits self.old prepared }
         ensures plant { self.new.plant ≡ self.old.plant }
         ensures history { self.new.history ≡ self.old.history ++ prepared.event ∷ [] }
-        ensures row_room { self.new.row_room + (length result.faults + length result.changes) ≡ self.old.row_room }
+        ensures row_room { self.new.row_room + (length result.faults + length result.changes)
+            ≡ self.old.row_room }
         ensures report { IsReport (state_of self.old) prepared.event result }
     {
         let Prepared { mut scan } = prepared;
@@ -310,7 +317,8 @@ impl Engine {
         requires { Fits self.old prepared }
         ensures plant { self.new.plant ≡ self.old.plant }
         ensures history { self.new.history ≡ self.old.history ++ prepared.event ∷ [] }
-        ensures row_room { self.new.row_room + (length prepared.report.faults + length prepared.report.changes) ≡ self.old.row_room }
+        ensures row_room { self.new.row_room +
+            (length prepared.report.faults + length prepared.report.changes) ≡ self.old.row_room }
     {
         let Prepared { mut scan } = prepared;
         self.put_scan(&mut scan);
@@ -330,7 +338,8 @@ impl Engine {
     /// The refusals, in the order in which they are tested: `ReloadConsoles` (E7) where the consoles' numbers, in their order, aren't those of the
     /// present plant, `ReloadEpoch` (E8) where the epoch is another, `HistoryFull` (E6) at 1,000,000 events.
     pub fn may_reload(&self, plant: &Plant) -> Result<(), EngineFault>
-        ensures ok { OnOk result (reload_event (state_of self.now) plant.now ≡ Ok (Event.Reload plant.now)) }
+        ensures ok { OnOk result
+            (reload_event (state_of self.now) plant.now ≡ Ok (Event.Reload plant.now)) }
         ensures err { IfErr result (λ e. reload_event (state_of self.now) plant.now ≡ Err e) }
     {
         may_reload(&self.plant, self.history.len(), plant)
@@ -342,7 +351,8 @@ impl Engine {
         ensures history { self.new.history ≡ self.old.history }
         ensures row_room { self.old.row_room ≤ self.new.row_room }
         ensures named { self.old.named ≤ self.new.named }
-        ensures ok { IfOk result (λ r. FitsReload self.new (record { plant = plant.now; state = r.state; kept = r.kept; fresh = r.fresh })) }
+        ensures ok { IfOk result (λ r. FitsReload self.new
+            (record { plant = plant.now; state = r.state; kept = r.kept; fresh = r.fresh })) }
         ensures err { IfErr result (IsReloadRefusal (state_of self.old) plant.now) }
     {
         self.may_reload(plant)?;
@@ -354,7 +364,7 @@ impl Engine {
     /// Makes ready that a plant takes the place of the present one, or returns the plant with why that is refused. It changes neither plant nor history.
     ///
     /// The refusals, in the order in which they are tested: `ReloadConsoles` (E7) where the consoles' numbers, in their order, aren't those of the
-    /// present plant, `ReloadEpoch` (E8) where the epoch is another, `HistoryFull` (E6) at 1,000,000 events, and `Memory` if allocation fails.
+    /// present plant, `ReloadEpoch` (E8) where the epoch is another, `HistoryFull` (E6) at 1,000,000 events, and `Memory` if memory is refused.
     pub fn prepare_reload(
         &mut self,
         alloc: Global,
@@ -365,7 +375,8 @@ impl Engine {
         ensures row_room { self.old.row_room ≤ self.new.row_room }
         ensures named { self.old.named ≤ self.new.named }
         ensures ok { IfOk result (λ p. FitsReload self.new p × (p.plant ≡ plant)) }
-        ensures err { IfErr result (λ r. IsReloadRefusal (state_of self.old) plant r.fault × (r.plant ≡ plant)) }
+        ensures err { IfErr result (λ r. IsReloadRefusal (state_of self.old) plant r.fault
+            × (r.plant ≡ plant)) }
     {
         self.left = None;
         match self.ready_reload(alloc, &plant) {
@@ -398,9 +409,11 @@ impl Engine {
     pub fn reload(&mut self, alloc: Global, plant: Plant) -> Result<Reloaded, ReloadRefused>
         ensures plant { self.new.plant ≡ self.old.plant }
         ensures ok { OnOk result (self.new.history ≡ self.old.history ++ Event.Reload plant ∷ []) }
-        ensures allowed { OnOk result (reload_event (state_of self.old) plant ≡ Ok (Event.Reload plant)) }
+        ensures allowed { OnOk result
+            (reload_event (state_of self.old) plant ≡ Ok (Event.Reload plant)) }
         ensures told { IfOk result (λ r. TellsReload (state_of self.old) plant r.kept r.fresh) }
-        ensures err { IfErr result (λ r. IsReloadRefusal (state_of self.old) plant r.fault × (r.plant ≡ plant)) }
+        ensures err { IfErr result (λ r. IsReloadRefusal (state_of self.old) plant r.fault
+            × (r.plant ≡ plant)) }
         ensures kept { OnErr result (self.new.history ≡ self.old.history) }
         ensures row_room { OnErr result (self.old.row_room ≤ self.new.row_room) }
     {
@@ -421,7 +434,7 @@ impl Engine {
 
     /// Makes an order of the console of a number ready. It changes neither plant nor history.
     ///
-    /// The refusals: `HistoryFull` (E6) at 1,000,000 events, and `Memory` if allocation fails.
+    /// The refusals: `HistoryFull` (E6) at 1,000,000 events, and `Memory` if memory is refused.
     pub fn prepare_order(
         &mut self,
         _alloc: Global,
@@ -431,7 +444,9 @@ impl Engine {
         ensures plant { self.new.plant ≡ self.old.plant }
         ensures history { self.new.history ≡ self.old.history }
         ensures row_room { self.old.row_room ≤ self.new.row_room }
-        ensures ok { IfOk result (λ p. FitsOrder self.new p × (order_event (state_of self.old) console order ≡ Ok (Event.Order p.console p.order)) × (p.console ≡ console) × (p.order ≡ order)) }
+        ensures ok { IfOk result (λ p. FitsOrder self.new p
+            × (order_event (state_of self.old) console order ≡ Ok (Event.Order p.console p.order))
+            × (p.console ≡ console) × (p.order ≡ order)) }
         ensures err { IfErr result (λ e. IsDue e (order_event (state_of self.old) console order)) }
         ensures no_crew { IsNoCrews result }
     {
@@ -448,8 +463,11 @@ impl Engine {
     pub fn commit_order(&mut self, prepared: PreparedOrder) -> Reply
         requires { FitsOrder self.old prepared }
         ensures plant { self.new.plant ≡ self.old.plant }
-        ensures history { self.new.history ≡ self.old.history ++ Event.Order prepared.console prepared.order ∷ [] }
-        ensures row_room { self.new.row_room + length (added_entries (state_of self.old) (Event.Order prepared.console prepared.order)) ≡ self.old.row_room }
+        ensures history { self.new.history
+            ≡ self.old.history ++ Event.Order prepared.console prepared.order ∷ [] }
+        ensures row_room { self.new.row_room + length
+            (added_entries (state_of self.old) (Event.Order prepared.console prepared.order))
+            ≡ self.old.row_room }
         ensures reply { result ≡ reply_to (state_of self.old) prepared.console prepared.order }
     {
         let PreparedOrder {
@@ -488,8 +506,10 @@ impl Engine {
     /// Makes an order ready and commits it. The refusals are those of `prepare_order`.
     pub fn order(&mut self, alloc: Global, console: u32, order: Order) -> Result<Reply, EngineFault>
         ensures plant { self.new.plant ≡ self.old.plant }
-        ensures ok { OnOk result (self.new.history ≡ self.old.history ++ Event.Order console order ∷ []) }
-        ensures allowed { OnOk result (order_event (state_of self.old) console order ≡ Ok (Event.Order console order)) }
+        ensures ok { OnOk result
+            (self.new.history ≡ self.old.history ++ Event.Order console order ∷ []) }
+        ensures allowed { OnOk result
+            (order_event (state_of self.old) console order ≡ Ok (Event.Order console order)) }
         ensures reply { IfOk result (λ r. r ≡ reply_to (state_of self.old) console order) }
         ensures err { IfErr result (λ e. IsDue e (order_event (state_of self.old) console order)) }
         ensures no_crew { IsNoCrews result }
@@ -512,10 +532,17 @@ impl Engine {
         program: Option<u32>,
     ) -> Result<Reply, EngineFault>
         ensures plant { self.new.plant ≡ self.old.plant }
-        ensures ok { OnOk result (self.new.history ≡ self.old.history ++ Event.Order console (restart_of program (state_of self.old).reloads) ∷ []) }
-        ensures allowed { OnOk result (order_event (state_of self.old) console (restart_of program (state_of self.old).reloads) ≡ Ok (Event.Order console (restart_of program (state_of self.old).reloads))) }
-        ensures reply { IfOk result (λ r. r ≡ reply_to (state_of self.old) console (restart_of program (state_of self.old).reloads)) }
-        ensures err { IfErr result (λ e. IsDue e (order_event (state_of self.old) console (restart_of program (state_of self.old).reloads))) }
+        ensures ok { OnOk result
+            (self.new.history
+            ≡ self.old.history ++ Event.Order console (restart_of program (state_of self.old).reloads)
+            ∷ []) }
+        ensures allowed { OnOk result
+            (order_event (state_of self.old) console (restart_of program (state_of self.old).reloads)
+            ≡ Ok (Event.Order console (restart_of program (state_of self.old).reloads))) }
+        ensures reply { IfOk result (λ r. r
+            ≡ reply_to (state_of self.old) console (restart_of program (state_of self.old).reloads)) }
+        ensures err { IfErr result (λ e. IsDue e
+            (order_event (state_of self.old) console (restart_of program (state_of self.old).reloads))) }
         ensures no_crew { IsNoCrews result }
         ensures kept { OnErr result (self.new.history ≡ self.old.history) }
         ensures row_room { OnErr result (self.old.row_room ≤ self.new.row_room) }

@@ -69,7 +69,9 @@ pub fn push_order(
 )
     requires room { 2 ≤ log.old.room }
     requires in_order { last_moment log.old.rows ≤ state.now.moment }
-    ensures { log.new ≡ after_entries state.now.moment log.old (order_entries console order done.now state.now.alarms) }
+    ensures { log.new
+        ≡ after_entries state.now.moment log.old
+        (order_entries console order done.now state.now.alarms) }
 {
     let moment = state.bank.moment();
     let refused = refusal_of(done);
@@ -116,7 +118,7 @@ fn order_name(
     }
 }
 
-/// The text of a row, after an epoch, with the name that it has in a plant. Fails if allocation fails.
+/// The text of a row, after an epoch, with the name that it has in a plant.
 pub fn line_text(
     alloc: Global,
     epoch: &Epoch,
@@ -125,7 +127,8 @@ pub fn line_text(
 ) -> Result<String, AllocError>
     requires named { IsNamed plant.now row.now.entry }
     requires range { row.now.moment ≤ LAST_MOMENT }
-    ensures { IfOk result (λ text. string_bytes text ≡ row_text epoch.now row.now (name_of plant.now row.now.entry)) }
+    ensures { IfOk result (λ text. string_bytes text
+        ≡ row_text epoch.now row.now (name_of plant.now row.now.entry)) }
 {
     match row.entry {
         Entry::Fault(place, _) => {
@@ -148,7 +151,7 @@ pub fn line_text(
     }
 }
 
-/// The name with which a row of an entry is printed. Fails if allocation fails.
+/// The name with which a row of an entry is printed.
 fn row_name(alloc: Global, plant: &Plant, entry: Entry) -> Result<String, AllocError>
     requires { IsNamed plant.now entry }
     ensures { IfOk result (λ name. string_bytes name ≡ name_of plant.now entry) }
@@ -166,7 +169,7 @@ fn row_name(alloc: Global, plant: &Plant, entry: Entry) -> Result<String, AllocE
     }
 }
 
-/// Keeps the names of the rows behind those whose names are kept, as a plant has them. Fails if allocation fails; some of them may be kept then.
+/// Keeps the names of the rows behind those whose names are kept, as a plant has them. Fails if memory is refused; some of them may be kept then.
 pub fn keep_names(
     alloc: Global,
     plant: &Plant,
@@ -175,7 +178,8 @@ pub fn keep_names(
 ) -> Result<(), AllocError>
     requires few { length names.old ≤ length log.now.rows }
     requires named { HaveOtherNames log.now.rows (length names.old) plant.now }
-    ensures names { (plants : List PlainPlant) → HaveNames plants log.now.rows names.old plant.now → HaveNames plants log.now.rows names.new plant.now }
+    ensures names { (plants : List PlainPlant) → HaveNames plants log.now.rows names.old plant.now
+        → HaveNames plants log.now.rows names.new plant.now }
     ensures all { OnOk result (length names.new ≡ length log.now.rows) }
     ensures more { length names.old ≤ length names.new }
 {

@@ -108,7 +108,7 @@ impl Log {
         row_of(self.apart.as_slice(), number, unpacked(word))
     }
 
-    /// Makes room for so many more rows. Fails if allocation fails; the rows stay as they are, and no room is lost.
+    /// Makes room for so many more rows. Fails if memory is refused; the rows stay as they are, and no room is lost.
     pub fn reserve(&mut self, count: usize) -> Result<(), AllocError>
         ensures rows { self.new.rows ≡ self.old.rows }
         ensures ok { OnOk result (count ≤ self.new.room) }

@@ -22,7 +22,7 @@ fn reply_text(refused: Option<OrderFault>) -> &'static str
     }
 }
 
-/// Appends `FAULT PATH STATEMENT KIND`. Fails if allocation fails.
+/// Appends `FAULT PATH STATEMENT KIND`.
 fn push_fault(
     alloc: Global,
     text: &mut String,
@@ -30,7 +30,8 @@ fn push_fault(
     statement: u32,
     kind: Trap,
 ) -> Result<(), AllocError>
-    ensures { OnOk result (string_bytes text.new ≡ string_bytes text.old ++ fault_body path.now statement kind) }
+    ensures { OnOk result
+        (string_bytes text.new ≡ string_bytes text.old ++ fault_body path.now statement kind) }
 {
     text.push_str("FAULT ")?;
     text.push_str(path)?;
@@ -41,7 +42,7 @@ fn push_fault(
     Ok(())
 }
 
-/// Appends `ALARM TAG FROM TO`. Fails if allocation fails.
+/// Appends `ALARM TAG FROM TO`.
 fn push_alarm(text: &mut String, tag: &str, change: Change) -> Result<(), AllocError>
     ensures { OnOk result (string_bytes text.new ≡ string_bytes text.old ++ alarm_body tag.now change) }
 {
@@ -54,7 +55,7 @@ fn push_alarm(text: &mut String, tag: &str, change: Change) -> Result<(), AllocE
     Ok(())
 }
 
-/// Appends the time of a shelving and a space; nothing for another order. Fails if allocation fails.
+/// Appends the time of a shelving and a space; nothing for another order.
 fn push_shelf(alloc: Global, text: &mut String, verb: Verb) -> Result<(), AllocError>
     ensures { OnOk result (string_bytes text.new ≡ string_bytes text.old ++ shelf_text verb) }
 {
@@ -65,7 +66,7 @@ fn push_shelf(alloc: Global, text: &mut String, verb: Verb) -> Result<(), AllocE
     Ok(())
 }
 
-/// Appends `ORDER CONSOLE COMMAND TARGET REPLY`, for a shelving with its time before REPLY. Fails if allocation fails.
+/// Appends `ORDER CONSOLE COMMAND TARGET REPLY`, for a shelving with its time before REPLY.
 fn push_order(
     alloc: Global,
     text: &mut String,
@@ -74,7 +75,8 @@ fn push_order(
     target: &str,
     refused: Option<OrderFault>,
 ) -> Result<(), AllocError>
-    ensures { OnOk result (string_bytes text.new ≡ string_bytes text.old ++ order_body console verb target.now refused) }
+    ensures { OnOk result
+        (string_bytes text.new ≡ string_bytes text.old ++ order_body console verb target.now refused) }
 {
     text.push_str("ORDER ")?;
     text.push_str(&console.to_string(alloc)?)?;
@@ -88,16 +90,17 @@ fn push_order(
     Ok(())
 }
 
-/// Appends a word and a number. Fails if allocation fails.
+/// Appends a word and a number.
 fn push_count(alloc: Global, text: &mut String, word: &str, count: u32) -> Result<(), AllocError>
-    ensures { OnOk result (string_bytes text.new ≡ string_bytes text.old ++ (word.now ++ decimal count)) }
+    ensures { OnOk result
+        (string_bytes text.new ≡ string_bytes text.old ++ (word.now ++ decimal count)) }
 {
     text.push_str(word)?;
     text.push_str(&count.to_string(alloc)?)?;
     Ok(())
 }
 
-/// Appends `RELOAD KEPT k NEW n`. Fails if allocation fails.
+/// Appends `RELOAD KEPT k NEW n`.
 fn push_reload(alloc: Global, text: &mut String, kept: u32, fresh: u32) -> Result<(), AllocError>
     ensures { OnOk result (string_bytes text.new ≡ string_bytes text.old ++ reload_body kept fresh) }
 {
@@ -106,7 +109,7 @@ fn push_reload(alloc: Global, text: &mut String, kept: u32, fresh: u32) -> Resul
     Ok(())
 }
 
-/// Appends the body of a row. Fails if allocation fails.
+/// Appends the body of a row.
 fn push_body(alloc: Global, text: &mut String, entry: Entry, name: &str) -> Result<(), AllocError>
     ensures { OnOk result (string_bytes text.new ≡ string_bytes text.old ++ body_text entry name.now) }
 {
@@ -123,8 +126,8 @@ fn push_body(alloc: Global, text: &mut String, entry: Entry, name: &str) -> Resu
     }
 }
 
-/// The text of a row, as it stands in a journal: its number, its stamp after the plant's epoch, and its body. The name is that of the
-/// faulted program's path, the alarm's tag, or the order's target, `?` where that is unknown; the row of a reload has none, whatever the name. Fails if allocation fails.
+/// The text of a row, as it stands in a journal: its number, its stamp after the plant's epoch, and its body. The name is that of the faulted
+/// program's path, the alarm's tag, or the order's target, `?` where that is unknown; the row of a reload has none, whatever the name.
 pub fn row_text(alloc: Global, epoch: &Epoch, row: &Row, name: &str) -> Result<String, AllocError>
     requires { row.now.moment ≤ LAST_MOMENT }
     ensures { IfOk result (λ text. string_bytes text ≡ row_text epoch.now row.now name.now) }

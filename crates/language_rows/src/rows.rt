@@ -208,7 +208,7 @@ impl<'a> Table<'a> {
     }
 }
 
-/// What a table is answered, of texts and sources, or of plants of which a person is told. Fails if memory was refused.
+/// What a table is answered, of texts and sources, or of plants of which a person is told.
 pub fn answers_to<H: Threads + Sync>(
     rt: &H,
     alloc: Global,

@@ -20,24 +20,35 @@ ghost use Rattle.level_jobs.specs.Gathers.{FitCells, GathersLevel, GathersLevels
 
 /// A level that was split into the jobs of its programs' parts, and whose runs were gathered in any order, is the level of the programs' codes.
 pub fn gathered_level_is_taken()
-    ensures { (paths : ℕ → List Path) (codes : List PlainCode) (parts : List PlainPart) (levels : List ℕ) (level : ℕ) (old new : Stored) (faults : List (ℕ × (Spot × Trap)))
-        → ArePartsOf codes parts → GathersLevel paths parts levels level old new faults → TakesLevel (programs_at old.moment paths codes levels) level (midway old) (midway new) faults }
+    ensures { (paths : ℕ → List Path) (codes : List PlainCode) (parts : List PlainPart) (levels : List ℕ)
+        (level : ℕ) (old new : Stored) (faults : List (ℕ × (Spot × Trap))) → ArePartsOf codes parts
+        → GathersLevel paths parts levels level old new faults
+        → TakesLevel (programs_at old.moment paths codes levels) level (midway old) (midway new) faults }
 {}
 
 /// The levels of the plan in turn, each split, run in any order and gathered, give the cells, the faulted programs and the faults of program order.
 pub fn gathered_levels_run_as_in_order()
-    ensures { (paths : ℕ → List Path) (globals : ℕ) (codes : List PlainCode) (parts : List PlainPart) (levels : List ℕ) → ArePartsOf codes parts → IsPlanOf globals codes levels → HaveOwnCells globals codes
-        → (start end : Stored) (faults : List (ℕ × (Spot × Trap))) → length start.faulted ≡ length codes → GathersLevels paths parts levels start (last_of levels) end faults
-        → IsAsInOrder (in_order (programs_at start.moment paths codes levels).run 0 start.faulted start.cells) (midway end) faults }
+    ensures { (paths : ℕ → List Path) (globals : ℕ) (codes : List PlainCode) (parts : List PlainPart)
+        (levels : List ℕ) → ArePartsOf codes parts → IsPlanOf globals codes levels
+        → HaveOwnCells globals codes → (start end : Stored) (faults : List (ℕ × (Spot × Trap)))
+        → length start.faulted ≡ length codes
+        → GathersLevels paths parts levels start (last_of levels) end faults
+        → IsAsInOrder
+        (in_order (programs_at start.moment paths codes levels).run 0 start.faulted start.cells)
+        (midway end) faults }
 {}
 
 /// Each level of the plan of sound codes can be split into the jobs of their parts, over cells that have what they name.
 pub fn planned_levels_can_split()
-    ensures { (globals : ℕ) (codes : List PlainCode) (parts : List PlainPart) (levels : List ℕ) (cells : PlainCells) (flags : ℕ) → IsPlanOf globals codes levels → HaveOwnCells globals codes → ArePartsOf codes parts
-        → FitCells codes cells → length levels ≡ length parts → flags ≡ length parts → length parts < 2 ^ 32 → (level : ℕ) → CanSplit parts levels level cells flags }
+    ensures { (globals : ℕ) (codes : List PlainCode) (parts : List PlainPart) (levels : List ℕ)
+        (cells : PlainCells) (flags : ℕ) → IsPlanOf globals codes levels → HaveOwnCells globals codes
+        → ArePartsOf codes parts → FitCells codes cells → length levels ≡ length parts
+        → flags ≡ length parts → length parts < 2 ^ 32 → (level : ℕ)
+        → CanSplit parts levels level cells flags }
 {}
 
 /// Parts by which codes are planned are those by which they are split.
 pub fn planned_parts_can_be_split()
-    ensures { (codes : List PlainCode) (parts : List PlainPart) → accesses.ArePartsOf codes parts → ArePartsOf codes parts }
+    ensures { (codes : List PlainCode) (parts : List PlainPart) → accesses.ArePartsOf codes parts
+        → ArePartsOf codes parts }
 {}

@@ -39,7 +39,7 @@ fn run_jobs<C: Crew<Job, Start, Done, H>, H>(
     crew.run(rt, alloc, jobs)
 }
 
-/// The faults of runs, as they came. Fails if memory was refused.
+/// The faults of runs, as they came.
 fn faults_of(alloc: Global, runs: &[Done]) -> Result<Vec<ProgramFault>, AllocError>
     requires { (s : Begun) → Contains runs.now s → 0 < s.number }
     ensures { IfOk result (λ faults. Tell runs.now faults.items) }
@@ -69,9 +69,13 @@ fn run_level<C: Crew<Job, Start, Done, H>, H>(
 ) -> Result<Vec<ProgramFault>, CrewFault>
     requires asked { C.asks }
     requires gathered { store.old.out ≡ [] }
-    requires programs { CanSplit (arc_value parts.now) levels.now level store.old.cells (length store.old.faulted) }
-    ensures level { IfOk result (λ faults. (paths : ℕ → List Path) → GathersLevel paths (arc_value parts.now) levels.now level store.old store.new (spotted paths faults.items)) }
-    ensures paths { IfOk result (λ faults. (codes : List PlainCode) → ArePartsOf codes (arc_value parts.now) → All (HasItsPath codes) faults.items) }
+    requires programs { CanSplit (arc_value parts.now) levels.now level store.old.cells
+        (length store.old.faulted) }
+    ensures level { IfOk result (λ faults. (paths : ℕ → List Path)
+        → GathersLevel paths (arc_value parts.now) levels.now level store.old store.new
+        (spotted paths faults.items)) }
+    ensures paths { IfOk result (λ faults. (codes : List PlainCode)
+        → ArePartsOf codes (arc_value parts.now) → All (HasItsPath codes) faults.items) }
     ensures gathered { OnOk result (store.new.out ≡ []) }
     ensures counted { C.faulted crew.new ≡ faults_after (C.faulted crew.old) result }
 {
@@ -97,9 +101,13 @@ fn run_in_turn<C: Crew<Job, Start, Done, H>, H>(
 ) -> Result<Vec<ProgramFault>, CrewFault>
     requires asked { C.asks }
     requires gathered { store.old.out ≡ [] }
-    requires programs { (level : ℕ) → CanSplit (arc_value parts.now) levels.now level store.old.cells (length store.old.faulted) }
-    ensures levels { IfOk result (λ faults. (paths : ℕ → List Path) → GathersLevels paths (arc_value parts.now) levels.now store.old (last_of levels.now) store.new (spotted paths faults.items)) }
-    ensures paths { IfOk result (λ faults. (codes : List PlainCode) → ArePartsOf codes (arc_value parts.now) → All (HasItsPath codes) faults.items) }
+    requires programs { (level : ℕ)
+        → CanSplit (arc_value parts.now) levels.now level store.old.cells (length store.old.faulted) }
+    ensures levels { IfOk result (λ faults. (paths : ℕ → List Path)
+        → GathersLevels paths (arc_value parts.now) levels.now store.old (last_of levels.now) store.new
+        (spotted paths faults.items)) }
+    ensures paths { IfOk result (λ faults. (codes : List PlainCode)
+        → ArePartsOf codes (arc_value parts.now) → All (HasItsPath codes) faults.items) }
     ensures gathered { OnOk result (store.new.out ≡ []) }
     ensures counted { C.faulted crew.new ≡ faults_after (C.faulted crew.old) result }
 {
@@ -147,13 +155,20 @@ pub fn run_levels<C: Crew<Job, Start, Done, H>, H>(
 ) -> Result<Vec<ProgramFault>, CrewFault>
     requires asked { C.asks }
     requires gathered { store.old.out ≡ [] }
-    requires programs { (level : ℕ) → CanSplit (arc_value parts.now) levels.now level store.old.cells (length store.old.faulted) }
-    ensures levels { IfOk result (λ faults. GathersAll (arc_value parts.now) levels.now store.old store.new faults.items) }
+    requires programs { (level : ℕ)
+        → CanSplit (arc_value parts.now) levels.now level store.old.cells (length store.old.faulted) }
+    ensures levels { IfOk result (λ faults. GathersAll (arc_value parts.now) levels.now store.old
+        store.new faults.items) }
     ensures gathered { OnOk result (store.new.out ≡ []) }
-    ensures paths { IfOk result (λ faults. (codes : List PlainCode) → ArePartsOf codes (arc_value parts.now) → All (HasItsPath codes) faults.items) }
-    ensures in_order { IfOk result (λ faults. (paths : ℕ → List Path) (globals : ℕ) (codes : List PlainCode) → ArePartsOf codes (arc_value parts.now) → IsPlanOf globals codes levels.now → HaveOwnCells globals codes
+    ensures paths { IfOk result (λ faults. (codes : List PlainCode)
+        → ArePartsOf codes (arc_value parts.now) → All (HasItsPath codes) faults.items) }
+    ensures in_order { IfOk result (λ faults. (paths : ℕ → List Path) (globals : ℕ)
+        (codes : List PlainCode) → ArePartsOf codes (arc_value parts.now)
+        → IsPlanOf globals codes levels.now → HaveOwnCells globals codes
         → length store.old.faulted ≡ length codes
-        → EndsInOrder (in_order (programs_at store.old.moment paths codes levels.now).run 0 store.old.faulted store.old.cells) store.new (spotted paths faults.items)) }
+        → EndsInOrder
+        (in_order (programs_at store.old.moment paths codes levels.now).run 0 store.old.faulted
+        store.old.cells) store.new (spotted paths faults.items)) }
     ensures faults { C.faulted crew.new ≡ faults_after (C.faulted crew.old) result }
 {
     if levels.last() == 0 {

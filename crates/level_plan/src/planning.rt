@@ -9,8 +9,8 @@ use crate::levels::Levels;
 use crate::tables::{raise, top_before};
 use std::alloc::{AllocError, Global};
 
-/// The levels of programs that run in this order, over so many globals. It takes time in proportion to the number of globals and to the
-/// lengths of all extents together. Fails only where memory was refused.
+/// The levels of programs that run in this order, over so many globals. It takes time in proportion to the number of globals and to the lengths of
+/// all extents together.
 pub fn plan(alloc: Global, programs: &[Access], globals: usize) -> Result<Levels, AllocError>
     requires few { length programs.now < 2 ^ 32 }
     requires within { StayWithin globals programs.now }

@@ -27,7 +27,7 @@ fn globals_among(alloc: Global, slots: &[u32], globals: usize) -> Result<Vec<Ext
     Ok(extents)
 }
 
-/// The slots at places of a list. Fails if memory was refused.
+/// The slots at places of a list.
 fn slots_at(alloc: Global, slots: &[u32], places: &[u32]) -> Result<Vec<u32>, AllocError>
     requires { (i p : ℕ) → slice_get places.now i ≡ Some p → p < length slots.now }
     ensures { IfOk result (λ found. found.items ≡ map (λ p. get_or slots.now p 0) places.now) }
@@ -42,7 +42,8 @@ fn slots_at(alloc: Global, slots: &[u32], places: &[u32]) -> Result<Vec<u32>, Al
 /// What a code does to so many globals, by its part. One that it writes is told among those that it reads too: this changes no level.
 fn access_of(alloc: Global, part: &Part, globals: usize) -> Result<Access, AllocError>
     ensures within { IfOk result (λ access. StaysWithin globals access) }
-    ensures tells { IfOk result (λ access. (whole : PlainCode) → IsPartOf whole part.now → IsAccessOf globals whole.instrs access) }
+    ensures tells { IfOk result (λ access. (whole : PlainCode) → IsPartOf whole part.now
+        → IsAccessOf globals whole.instrs access) }
 {
     let slots = part.slots();
     let written = slots_at(alloc, slots, part.written())?;
@@ -52,11 +53,12 @@ fn access_of(alloc: Global, part: &Part, globals: usize) -> Result<Access, Alloc
     })
 }
 
-/// The levels of codes, by their parts and the number of globals, which come first among the slots. It takes time in proportion to the globals
-/// and to the slots of all parts together. Fails only where memory was refused.
+/// The levels of codes, by their parts and the number of globals, which come first among the slots. It takes time in proportion to the globals and to
+/// the slots of all parts together.
 pub fn plan_of(alloc: Global, parts: &[Part], globals: usize) -> Result<Levels, AllocError>
     requires { length parts.now < 2 ^ 32 }
-    ensures { IfOk result (λ levels. (codes : List PlainCode) → ArePartsOf codes parts.now → IsPlanOf globals codes levels) }
+    ensures { IfOk result (λ levels. (codes : List PlainCode) → ArePartsOf codes parts.now
+        → IsPlanOf globals codes levels) }
 {
     let mut accesses = Vec::with_capacity(alloc, parts.len())?;
     for part in parts {

@@ -54,7 +54,8 @@ impl<E> Log<E> {
     /// but no contract says so.
     pub fn add(&mut self, entry: &Remembered<E>) -> bool
         ensures log { self.new.log ≡ self.old.log }
-        ensures entries { MatchBool result (self.new.entries ≡ self.old.entries ++ entry.now.value ∷ []) (self.new.entries ≡ self.old.entries) }
+        ensures entries { MatchBool result (self.new.entries ≡ self.old.entries ++ entry.now.value ∷ [])
+            (self.new.entries ≡ self.old.entries) }
         ensures room { IsTrue result → length self.old.entries + 1 < 2 ^ 64 }
     {
         let count = self.count;

@@ -52,7 +52,7 @@ impl NameList {
         self.numbers.len()
     }
 
-    /// Adds a name at the end. Fails if allocation fails, or at the 4,294,967,296th different name; the list then stays as it is.
+    /// Adds a name at the end. Fails if memory is refused, or at the 4,294,967,296th different name; the list then stays as it is.
     pub fn push(&mut self, name: String) -> Result<(), AllocError>
         ensures ok { OnOk result (self.new ≡ self.old ++ string_bytes name ∷ []) }
         ensures err { OnErr result (self.new ≡ self.old) }

@@ -71,7 +71,8 @@ impl Sight {
 
     /// Whether it looks at a board that has so many orders of the console of a number, or more.
     pub(crate) fn has_orders(&self, console: u32, orders: u64) -> bool
-        ensures { MatchBool result (HasOrders console orders (looked_at self.now)) (LacksOrders console orders (looked_at self.now)) }
+        ensures { MatchBool result (HasOrders console orders (looked_at self.now))
+            (LacksOrders console orders (looked_at self.now)) }
     {
         let Sight::Looking(reading) = self else {
             return false;

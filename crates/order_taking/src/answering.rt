@@ -32,8 +32,10 @@ fn take_order<T: Recording<H>, H>(
     ensures plant { T.plant_of recorder.new ≡ T.plant_of recorder.old }
     ensures share { T.parts_of recorder.new ≡ T.parts_of recorder.old }
     ensures log { T.log_of recorder.new ≡ T.log_of recorder.old }
-    ensures took { TookOne (T.plant_of recorder.old) lane.old lane.new (T.history_of recorder.old) (T.history_of recorder.new) result }
-    ensures refused { UnlessRefused (T.shows_all recorder.old) (T.shows_all recorder.new) (T.refusals_of recorder.old) (T.refusals_of recorder.new) (is_refused result) }
+    ensures took { TookOne (T.plant_of recorder.old) lane.old lane.new (T.history_of recorder.old)
+        (T.history_of recorder.new) result }
+    ensures refused { UnlessRefused (T.shows_all recorder.old) (T.shows_all recorder.new)
+        (T.refusals_of recorder.old) (T.refusals_of recorder.new) (is_refused result) }
 {
     let Some(order) = lane.waiting() else {
         return Ok(false);
@@ -53,8 +55,10 @@ fn take_part<T: Recording<H>, H>(
     ensures plant { T.plant_of recorder.new ≡ T.plant_of recorder.old }
     ensures share { T.parts_of recorder.new ≡ T.parts_of recorder.old }
     ensures log { T.log_of recorder.new ≡ T.log_of recorder.old }
-    ensures part { TookPart (T.plant_of recorder.old) lane.old lane.new (T.history_of recorder.old) (T.history_of recorder.new) result.taken result.stopped }
-    ensures refused { UnlessRefused (T.shows_all recorder.old) (T.shows_all recorder.new) (T.refusals_of recorder.old) (T.refusals_of recorder.new) result.stopped }
+    ensures part { TookPart (T.plant_of recorder.old) lane.old lane.new (T.history_of recorder.old)
+        (T.history_of recorder.new) result.taken result.stopped }
+    ensures refused { UnlessRefused (T.shows_all recorder.old) (T.shows_all recorder.new)
+        (T.refusals_of recorder.old) (T.refusals_of recorder.new) result.stopped }
 {
     let mut taken = 0u32;
     for _ in 0..MOST_ORDERS {
@@ -91,8 +95,10 @@ pub fn take_parts<T: Recording<H>, H>(
     ensures plant { T.plant_of recorder.new ≡ T.plant_of recorder.old }
     ensures share { T.parts_of recorder.new ≡ T.parts_of recorder.old }
     ensures log { T.log_of recorder.new ≡ T.log_of recorder.old }
-    ensures parts { TookParts (T.plant_of recorder.old) lanes.old lanes.new (T.history_of recorder.old) (T.history_of recorder.new) result.taken result.stopped }
-    ensures refused { UnlessRefused (T.shows_all recorder.old) (T.shows_all recorder.new) (T.refusals_of recorder.old) (T.refusals_of recorder.new) result.stopped }
+    ensures parts { TookParts (T.plant_of recorder.old) lanes.old lanes.new (T.history_of recorder.old)
+        (T.history_of recorder.new) result.taken result.stopped }
+    ensures refused { UnlessRefused (T.shows_all recorder.old) (T.shows_all recorder.new)
+        (T.refusals_of recorder.old) (T.refusals_of recorder.new) result.stopped }
     ensures most { result.taken ≤ 64 * length lanes.old }
 {
     let Some((lane, others)) = lanes.split_first_mut() else {

@@ -47,10 +47,13 @@ pub trait Recording<H> {
         order: Order,
     ) -> Result<Reply, NotTaken>
         ensures plant { plant_of self.new ≡ plant_of self.old }
-        ensures ok { OnOk result (history_of self.new ≡ history_of self.old ++ event.Order console order ∷ []) }
-        ensures reply { IfOk result (λ r. r ≡ reply_to (system (plant_of self.old) (history_of self.old)) console order) }
+        ensures ok { OnOk result
+            (history_of self.new ≡ history_of self.old ++ event.Order console order ∷ []) }
+        ensures reply { IfOk result (λ r. r
+            ≡ reply_to (system (plant_of self.old) (history_of self.old)) console order) }
         ensures kept { OnErr result (history_of self.new ≡ history_of self.old) }
         ensures parts { parts_of self.new ≡ parts_of self.old }
         ensures log { log_of self.new ≡ log_of self.old }
-        ensures refused { UnlessRefused (shows_all self.old) (shows_all self.new) (refusals_of self.old) (refusals_of self.new) (is_refused result) };
+        ensures refused { UnlessRefused (shows_all self.old) (shows_all self.new) (refusals_of self.old)
+            (refusals_of self.new) (is_refused result) };
 }

@@ -145,7 +145,7 @@ pub fn push_bank(alloc: Global, page: &mut Page, words: &str) {
     }
 }
 
-/// The alarms of that bank, and a place more. Fails if allocation fails.
+/// The alarms of that bank, and a place more.
 fn panel(alloc: Global) -> Result<Annunciator, AllocError> {
     let bank = bank(alloc)?;
     let places = bank.alarms().len() + 1;

@@ -17,8 +17,7 @@ fn push_held(page: &mut Page, cells: &Cells) {
     }
 }
 
-/// What the cells of a value and a timer hold after calls, and what a copy from before them holds, before and after they are taken over. Fails if memory
-/// was refused.
+/// What the cells of a value and a timer hold after calls, and what a copy from before them holds, before and after they are taken over.
 fn push_copied(alloc: Global, page: &mut Page) -> Result<(), AllocError> {
     let mut cells = Cells::zeros(alloc, 1, &[Standard::Ton])?;
     let mut copy = cells.copy(alloc)?;

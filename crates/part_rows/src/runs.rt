@@ -100,7 +100,8 @@ fn push_counted(alloc: Global, page: &mut Page, framed: &Framed) {
 
 /// Adds the globals of a source by name, and then what a walk of its first program does to their cells.
 fn push_walk(alloc: Global, page: &mut Page, source: &str, framed: &Framed)
-    requires { (units : List PlainUnit) → HaveUnits (source.now ∷ []) units → framed.now ≡ source_in units }
+    requires { (units : List PlainUnit) → HaveUnits (source.now ∷ []) units
+        → framed.now ≡ source_in units }
 {
     let Some(typed) = typed_of(alloc, source) else {
         return page.refuse();
@@ -116,7 +117,8 @@ fn push_walk(alloc: Global, page: &mut Page, source: &str, framed: &Framed)
 
 /// Adds what the row's word asks of a source that is made ready to run.
 fn push_framed(alloc: Global, page: &mut Page, word: &str, source: &str, framed: &Framed)
-    requires { (units : List PlainUnit) → HaveUnits (source.now ∷ []) units → framed.now ≡ source_in units }
+    requires { (units : List PlainUnit) → HaveUnits (source.now ∷ []) units
+        → framed.now ≡ source_in units }
 {
     match word {
         "walk" => push_walk(alloc, page, source, framed),

@@ -71,7 +71,7 @@ fn push_other(alloc: Global, page: &mut Page, word: &str, rest: &str) {
     }
 }
 
-/// A row and its answer. Fails where memory was refused.
+/// A row and its answer.
 fn answered<H: Threads + Sync>(rt: &H, alloc: Global, line: &str) -> Result<Vec<u8>, AllocError> {
     let mut page = Page::new(alloc);
     page.line(line);
@@ -96,7 +96,7 @@ fn push_answered<H: Threads + Sync>(rt: &H, alloc: Global, text: &mut Page, line
     }
 }
 
-/// The rows of a table and their answers. A row without words and one that begins with `#` are passed over. Fails where memory was refused.
+/// The rows of a table and their answers. A row without words and one that begins with `#` are passed over.
 pub fn answers_to<H: Threads + Sync>(
     rt: &H,
     alloc: Global,

@@ -21,7 +21,7 @@ fn are_distinct(framed: &Framed)
     let _programs = framed.programs();
 }
 
-/// An old plant and a new one by the same numbers of words and of paths. Fails if allocation fails.
+/// An old plant and a new one by the same numbers of words and of paths.
 fn pair_of(alloc: Global, old: &Framed, new: &Framed) -> Result<Both, AllocError>
     ensures { IfOk result (λ both. ArePair both old.now new.now) }
 {
@@ -34,11 +34,12 @@ fn pair_of(alloc: Global, old: &Framed, new: &Framed) -> Result<Both, AllocError
     Ok(both)
 }
 
-/// The cells of a plant after it was changed, by those of the old one: where these stand for a world, they stand for the one that goes over
-/// from it. A variable of equal path and kind keeps its value, an element of an array if the bounds are equal too, and a standard block of
-/// equal path and type what its calls left; all else is as before the new plant's first scan. Fails if allocation fails; nothing is changed.
+/// The cells of a plant after it was changed, by those of the old one: where these stand for a world, they stand for the one that goes over from it.
+/// A variable of equal path and kind keeps its value, an element of an array if the bounds are equal too, and a standard block of equal path and type
+/// what its calls left; all else is as before the new plant's first scan. Fails if memory is refused; nothing is changed.
 pub fn carry(alloc: Global, old: &Framed, cells: &Cells, new: &Framed) -> Result<Cells, AllocError>
-    ensures { IfOk result (λ after. (w : World) → StandFor old.now cells.now w → StandFor new.now after (carried old.now new.now w)) }
+    ensures { IfOk result (λ after. (w : World) → StandFor old.now cells.now w
+        → StandFor new.now after (carried old.now new.now w)) }
 {
     let both = pair_of(alloc, old, new)?;
     let here = new.opening(alloc)?;

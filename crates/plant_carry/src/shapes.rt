@@ -16,9 +16,10 @@ use plant_walk::{Framed, Heading};
 use std::alloc::{AllocError, Global};
 use word_index::Names;
 
-/// The shape of a routine, by its heading. Fails if allocation fails.
+/// The shape of a routine, by its heading.
 fn shape_of(alloc: Global, names: &mut Names, heading: &Heading) -> Result<Shape, AllocError>
-    ensures shape { IfOk result (λ shape. (r : PlainRoutine) → view_heading heading.now ≡ heading_of r → IsShape (find_name names.new) shape r) }
+    ensures shape { IfOk result (λ shape. (r : PlainRoutine) → view_heading heading.now ≡ heading_of r
+        → IsShape (find_name names.new) shape r) }
     ensures grows { OnOk result (Grows (find_name names.old) (find_name names.new)) }
 {
     let own = own_of(alloc, names, &heading.locals)?;
@@ -27,9 +28,11 @@ fn shape_of(alloc: Global, names: &mut Names, heading: &Heading) -> Result<Shape
     Ok(Shape { own, rows, parts })
 }
 
-/// The shapes of block types, by their headings. Fails if allocation fails.
+/// The shapes of block types, by their headings.
 fn shapes_of(alloc: Global, names: &mut Names, blocks: &[Heading]) -> Result<Vec<Shape>, AllocError>
-    ensures shapes { IfOk result (λ shapes. (rs : List PlainRoutine) → map view_heading blocks.now ≡ map heading_of rs → AreShapes (find_name names.new) shapes.items rs) }
+    ensures shapes { IfOk result (λ shapes. (rs : List PlainRoutine)
+        → map view_heading blocks.now ≡ map heading_of rs
+        → AreShapes (find_name names.new) shapes.items rs) }
     ensures grows { OnOk result (Grows (find_name names.old) (find_name names.new)) }
 {
     let mut shapes = Vec::with_capacity(alloc, blocks.len())?;
@@ -40,13 +43,15 @@ fn shapes_of(alloc: Global, names: &mut Names, blocks: &[Heading]) -> Result<Vec
     Ok(shapes)
 }
 
-/// Programs by the numbers of their words, by their headings. Fails if allocation fails.
+/// Programs by the numbers of their words, by their headings.
 fn programs_of(
     alloc: Global,
     names: &mut Names,
     headings: &[Heading],
 ) -> Result<Vec<Program>, AllocError>
-    ensures programs { IfOk result (λ programs. (rs : List PlainRoutine) → map view_heading headings.now ≡ map heading_of rs → ArePrograms (find_name names.new) programs.items rs) }
+    ensures programs { IfOk result (λ programs. (rs : List PlainRoutine)
+        → map view_heading headings.now ≡ map heading_of rs
+        → ArePrograms (find_name names.new) programs.items rs) }
     ensures grows { OnOk result (Grows (find_name names.old) (find_name names.new)) }
 {
     let mut programs = Vec::with_capacity(alloc, headings.len())?;
@@ -58,7 +63,7 @@ fn programs_of(
     Ok(programs)
 }
 
-/// The inputs of a timer. Fails if allocation fails.
+/// The inputs of a timer.
 fn timer_of(alloc: Global, names: &mut Names) -> Result<Vec<Own>, AllocError>
     ensures timer { IfOk result (λ own. AreOwn (find_name names.new) own.items timer_inputs) }
     ensures grows { OnOk result (Grows (find_name names.old) (find_name names.new)) }
@@ -77,7 +82,7 @@ fn timer_of(alloc: Global, names: &mut Names) -> Result<Vec<Own>, AllocError>
     Ok(own)
 }
 
-/// The input of an edge detector. Fails if allocation fails.
+/// The input of an edge detector.
 fn trigger_of(alloc: Global, names: &mut Names) -> Result<Vec<Own>, AllocError>
     ensures trigger { IfOk result (λ own. AreOwn (find_name names.new) own.items trigger_inputs) }
     ensures grows { OnOk result (Grows (find_name names.old) (find_name names.new)) }
@@ -91,9 +96,10 @@ fn trigger_of(alloc: Global, names: &mut Names) -> Result<Vec<Own>, AllocError>
     Ok(own)
 }
 
-/// The table of block types, by their headings. Fails if allocation fails.
+/// The table of block types, by their headings.
 fn table_of(alloc: Global, names: &mut Names, blocks: &[Heading]) -> Result<Table, AllocError>
-    ensures table { IfOk result (λ table. (rs : List PlainRoutine) → map view_heading blocks.now ≡ map heading_of rs → AreTable (find_name names.new) table rs) }
+    ensures table { IfOk result (λ table. (rs : List PlainRoutine)
+        → map view_heading blocks.now ≡ map heading_of rs → AreTable (find_name names.new) table rs) }
     ensures grows { OnOk result (Grows (find_name names.old) (find_name names.new)) }
 {
     let timer = timer_of(alloc, names)?;
@@ -108,7 +114,7 @@ fn table_of(alloc: Global, names: &mut Names, blocks: &[Heading]) -> Result<Tabl
     })
 }
 
-/// A source by the numbers of its words, which are added where they aren't there. Fails if allocation fails.
+/// A source by the numbers of its words, which are added where they aren't there.
 pub fn shape_of_source(
     alloc: Global,
     names: &mut Names,

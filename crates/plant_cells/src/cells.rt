@@ -34,7 +34,7 @@ impl Model for Cells {
 }
 
 impl Cells {
-    /// Cells of FALSE and 0, so many, and a clock before its first call for each of the given standard blocks. Fails if memory was refused.
+    /// Cells of FALSE and 0, so many, and a clock before its first call for each of the given standard blocks.
     pub fn zeros(alloc: Global, values: usize, standards: &[Standard]) -> Result<Cells, AllocError>
         ensures { IfOk result (λ cells. cells ≡ zero_cells values standards.now) }
     {
@@ -128,7 +128,7 @@ impl Cells {
         }
     }
 
-    /// A copy of the cells. Fails if memory was refused.
+    /// A copy of the cells.
     pub fn copy(&self, alloc: Global) -> Result<Cells, AllocError>
         ensures { IfOk result (λ copy. copy ≡ self.now) }
     {
@@ -147,7 +147,7 @@ impl Cells {
         self.clocks.copy_from_slice(other.clocks.as_slice());
     }
 
-    /// Becomes the values of slots among all cells, and the clocks of numbers. It allocates nothing where it has as many. Fails if memory was refused.
+    /// Becomes the values of slots among all cells, and the clocks of numbers. It allocates nothing where it has as many.
     pub fn pick(
         &mut self,
         slots: &[u32],
@@ -157,7 +157,9 @@ impl Cells {
     ) -> Result<(), AllocError>
         requires slots { (i s : ℕ) → slice_get slots.now i ≡ Some s → s < length values.now }
         requires clocks { (i k : ℕ) → slice_get numbers.now i ≡ Some k → k < length clocks.now }
-        ensures { OnOk result (self.new ≡ picked slots.now numbers.now (record { values = values.now; clocks = clocks.now })) }
+        ensures { OnOk result
+            (self.new
+            ≡ picked slots.now numbers.now (record { values = values.now; clocks = clocks.now })) }
     {
         pick_values(&mut self.values, slots, values)?;
         pick_clocks(&mut self.clocks, numbers, clocks)

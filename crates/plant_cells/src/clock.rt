@@ -64,9 +64,10 @@ fn new_timer(of: Standard) -> Timer
     }
 }
 
-/// A clock before its first call for each standard block. Fails if memory was refused.
+/// A clock before its first call for each standard block.
 pub(crate) fn new_clocks(alloc: Global, standards: &[Standard]) -> Result<Vec<Clock>, AllocError>
-    ensures { IfOk result (λ clocks. clocks.items ≡ map (λ standard. clock_of standard []) standards.now) }
+    ensures { IfOk result (λ clocks. clocks.items
+        ≡ map (λ standard. clock_of standard []) standards.now) }
 {
     let mut clocks = Vec::new(alloc);
     for standard in standards {
@@ -91,7 +92,9 @@ fn clock_called(timer: Timer, input: bool, pt: i64, moment: u64) -> Clock
 }
 
 fn ton_called(state: TonState, input: bool, pt: i64, moment: u64) -> Clock
-    ensures { result ≡ showing (Timer.Ton (ton_step (call input pt moment) state)) (ton_shown (call input pt moment) state) }
+    ensures { result
+        ≡ showing (Timer.Ton (ton_step (call input pt moment) state))
+        (ton_shown (call input pt moment) state) }
 {
     let mut next = state;
     let (q, et) = next.call(input, pt, moment);
@@ -103,7 +106,9 @@ fn ton_called(state: TonState, input: bool, pt: i64, moment: u64) -> Clock
 }
 
 fn tof_called(state: TofState, input: bool, pt: i64, moment: u64) -> Clock
-    ensures { result ≡ showing (Timer.Tof (tof_step (call input pt moment) state)) (tof_shown (call input pt moment) state) }
+    ensures { result
+        ≡ showing (Timer.Tof (tof_step (call input pt moment) state))
+        (tof_shown (call input pt moment) state) }
 {
     let mut next = state;
     let (q, et) = next.call(input, pt, moment);

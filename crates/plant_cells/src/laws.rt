@@ -7,5 +7,6 @@ ghost use Rattle.plant_cells.specs.Clocks.{clock_of, clock_step};
 
 /// A clock that stands for all calls of a standard block's instance stands, after a call, for these and that one.
 pub fn called_clock()
-    ensures { (of : Standard) (c : Call) (calls : List Call) → clock_step c (clock_of of calls) ≡ clock_of of (c ∷ calls) }
+    ensures { (of : Standard) (c : Call) (calls : List Call)
+        → clock_step c (clock_of of calls) ≡ clock_of of (c ∷ calls) }
 {}

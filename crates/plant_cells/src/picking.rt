@@ -7,7 +7,7 @@ ghost use Rattle.plant_cells.specs.Clocks.{clock_of};
 use crate::clock::{Clock, Standard};
 use std::alloc::AllocError;
 
-/// Becomes the values of slots in a row of all values. Fails if memory was refused.
+/// Becomes the values of slots in a row of all values.
 #[tactic(auto, using(crate::proofs::Picked::picked_more))]
 pub(crate) fn pick_values(
     picked: &mut Vec<i64>,
@@ -36,7 +36,7 @@ fn picked_clock(clocks: &[Clock], number: u32) -> Clock
     clocks[number as usize]
 }
 
-/// Becomes the clocks of numbers in a row of all clocks. Fails if memory was refused.
+/// Becomes the clocks of numbers in a row of all clocks.
 #[tactic(auto, using(crate::proofs::Picked::picked_more))]
 pub(crate) fn pick_clocks(
     picked: &mut Vec<Clock>,
@@ -44,7 +44,9 @@ pub(crate) fn pick_clocks(
     clocks: &[Clock],
 ) -> Result<(), AllocError>
     requires { (i k : ℕ) → slice_get numbers.now i ≡ Some k → k < length clocks.now }
-    ensures { OnOk result (picked.new.items ≡ map (λ k. slice_index_or clocks.now k (clock_of Standard.Ton [])) numbers.now) }
+    ensures { OnOk result
+        (picked.new.items
+        ≡ map (λ k. slice_index_or clocks.now k (clock_of Standard.Ton [])) numbers.now) }
 {
     if picked.len() != numbers.len() {
         picked.clear();

@@ -82,9 +82,12 @@ pub fn bool_number(logic: &Framed, name: &str) -> Option<usize>
 /// The number of the BOOL global of a name, `Some(None)` where there is no name; `None` where the name is no BOOL global's.
 fn suppress_number(logic: &Framed, name: Option<&Text>) -> Option<Option<u32>>
     requires { length logic.now.globals ≤ 65536 }
-    ensures known { IfSome result (λ number. (is_unknown logic.now.globals (option_map (λ text. text.now) name.entry) ≡ false)
-        × (number ≡ option_and_then (bool_number logic.now.globals) (option_map (λ text. text.now) name.entry))) }
-    ensures unknown { IfNone result (is_unknown logic.now.globals (option_map (λ text. text.now) name.entry) ≡ true) }
+    ensures known { IfSome result (λ number. (is_unknown logic.now.globals
+        (option_map (λ text. text.now) name.entry) ≡ false)
+        × (number
+        ≡ option_and_then (bool_number logic.now.globals) (option_map (λ text. text.now) name.entry))) }
+    ensures unknown { IfNone result
+        (is_unknown logic.now.globals (option_map (λ text. text.now) name.entry) ≡ true) }
 {
     match name {
         Some(name) => {
@@ -104,10 +107,14 @@ fn numbers_of(
     requires areas { length areas.now ≤ 64 }
     requires globals { length logic.now.globals ≤ 65536 }
     ensures known { IfOk result (λ _. unknown_column areas.now logic.now.globals row.now ≡ None) }
-    ensures area { IfOk result (λ numbers. numbers.0 ≡ (alarm_of areas.now logic.now.globals row.now).area) }
-    ensures condition { IfOk result (λ numbers. numbers.1 ≡ (alarm_of areas.now logic.now.globals row.now).condition) }
-    ensures suppress { IfOk result (λ numbers. numbers.2 ≡ (alarm_of areas.now logic.now.globals row.now).suppress) }
-    ensures unknown { IfErr result (λ column. unknown_column areas.now logic.now.globals row.now ≡ Some column) }
+    ensures area { IfOk result (λ numbers. numbers.0
+        ≡ (alarm_of areas.now logic.now.globals row.now).area) }
+    ensures condition { IfOk result (λ numbers. numbers.1
+        ≡ (alarm_of areas.now logic.now.globals row.now).condition) }
+    ensures suppress { IfOk result (λ numbers. numbers.2
+        ≡ (alarm_of areas.now logic.now.globals row.now).suppress) }
+    ensures unknown { IfErr result (λ column. unknown_column areas.now logic.now.globals row.now
+        ≡ Some column) }
 {
     let Some(area) = area_number(areas, row.area.as_str()) else {
         return Err(Column::Area);
@@ -126,7 +133,8 @@ fn alarm_of(areas: &TextSet, logic: &Framed, row: DatabaseRow) -> Result<AlarmRo
     requires areas { length areas.now ≤ 64 }
     requires globals { length logic.now.globals ≤ 65536 }
     ensures { MatchResult result
-        (λ alarm. (unknown_column areas.now logic.now.globals row ≡ None) × (alarm ≡ alarm_of areas.now logic.now.globals row))
+        (λ alarm. (unknown_column areas.now logic.now.globals row ≡ None)
+        × (alarm ≡ alarm_of areas.now logic.now.globals row))
         (λ column. unknown_column areas.now logic.now.globals row ≡ Some column) }
 {
     match numbers_of(areas, logic, &row) {
@@ -159,7 +167,8 @@ pub fn alarms_of(
     requires globals { length logic.now.globals ≤ 65536 }
     requires rows { length rows.items ≤ 20000 }
     ensures { MatchResult result
-        (λ alarms. (first_unknown areas.now logic.now.globals 1 rows.items ≡ None) × (alarms.items ≡ alarms_of areas.now logic.now.globals rows.items))
+        (λ alarms. (first_unknown areas.now logic.now.globals 1 rows.items ≡ None)
+        × (alarms.items ≡ alarms_of areas.now logic.now.globals rows.items))
         (IsAlarmFault areas.now logic.now.globals rows.items) }
 {
     let mut alarms = Vec::with_capacity(alloc, rows.len())?;

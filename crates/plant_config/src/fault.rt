@@ -167,7 +167,7 @@ impl Limit {
 }
 
 impl ConfigFault {
-    /// The line that reports the fault, without its line feed. Fails if allocation fails.
+    /// The line that reports the fault, without its line feed.
     pub fn line(&self, alloc: Global) -> Result<String, AllocError>
         requires { self.now ≢ fault.Memory }
         ensures { IfOk result (λ text. string_bytes text ≡ config_line self.now) }
@@ -202,7 +202,7 @@ impl ConfigFault {
     }
 }
 
-/// The words, then a word. Fails if allocation fails.
+/// The words, then a word.
 fn line_with_word(alloc: Global, words: &str, word: &str) -> Result<String, AllocError>
     ensures { IfOk result (λ text. string_bytes text ≡ words.now ++ word.now) }
 {
@@ -211,7 +211,7 @@ fn line_with_word(alloc: Global, words: &str, word: &str) -> Result<String, Allo
     Ok(text)
 }
 
-/// The words, then a file, a line and a column. Fails if allocation fails.
+/// The words, then a file, a line and a column.
 fn line_with_place(
     alloc: Global,
     words: &str,
@@ -232,7 +232,7 @@ fn line_with_place(
     Ok(text)
 }
 
-/// The words, then a file and the name of a unit. Fails if allocation fails.
+/// The words, then a file and the name of a unit.
 fn line_with_unit(
     alloc: Global,
     words: &str,
@@ -248,7 +248,7 @@ fn line_with_unit(
     Ok(text)
 }
 
-/// The words, then the number of a row. Fails if allocation fails.
+/// The words, then the number of a row.
 fn line_with_row(alloc: Global, words: &str, row: u32) -> Result<String, AllocError>
     ensures { IfOk result (λ text. string_bytes text ≡ words.now ++ decimal row) }
 {
@@ -258,14 +258,15 @@ fn line_with_row(alloc: Global, words: &str, row: u32) -> Result<String, AllocEr
     Ok(text)
 }
 
-/// The words, then the number of a row and the name of a column. Fails if allocation fails.
+/// The words, then the number of a row and the name of a column.
 fn line_with_column(
     alloc: Global,
     words: &str,
     row: u32,
     column: Column,
 ) -> Result<String, AllocError>
-    ensures { IfOk result (λ text. string_bytes text ≡ words.now ++ decimal row ++ codes " " ++ column_name column) }
+    ensures { IfOk result (λ text. string_bytes text
+        ≡ words.now ++ decimal row ++ codes " " ++ column_name column) }
 {
     let mut text = line_with_row(alloc, words, row)?;
     text.push_str(" ")?;

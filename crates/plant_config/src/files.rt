@@ -86,7 +86,7 @@ pub fn listed(alloc: Global, handed: &Handed<'_>) -> Result<PlantFile, ConfigFau
     }
 }
 
-/// Copies the names of the files. Fails if allocation fails.
+/// Copies the names of the files.
 pub fn files_of(alloc: Global, file: &PlantFile) -> Result<Files, AllocError>
     ensures { IfOk result (λ files. files ≡ files_of file.now) }
 {

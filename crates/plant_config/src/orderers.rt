@@ -21,7 +21,7 @@ fn is_among(areas: &[usize], area: usize) -> bool
     areas.contains(&area)
 }
 
-/// The numbers of the consoles that have an area, in order. Fails if allocation fails.
+/// The numbers of the consoles that have an area, in order.
 fn orderers_of(alloc: Global, consoles: &[Console], area: usize) -> Result<Items<u32>, AllocError>
     ensures { IfOk result (λ numbers. numbers ≡ orderers_of consoles.now area) }
 {
@@ -34,7 +34,7 @@ fn orderers_of(alloc: Global, consoles: &[Console], area: usize) -> Result<Items
     Ok(Items::from_vec(numbers))
 }
 
-/// The same of each area of a plant file. Fails if allocation fails.
+/// The same of each area of a plant file.
 pub fn orderers_in(alloc: Global, file: &PlantFile) -> Result<Vec<Items<u32>>, AllocError>
     ensures { IfOk result (λ lists. SayWho file.now.consoles lists.items) }
 {
@@ -65,7 +65,8 @@ pub fn limited_orderers(
     epoch: Epoch,
 ) -> Result<Vec<Items<u32>>, ConfigFault>
     requires { HasEpoch handed.now file.now epoch }
-    ensures limits { MatchResult result (λ _. IsLimited handed.now file.now epoch) (IsRefused handed.now) }
+    ensures limits { MatchResult result (λ _. IsLimited handed.now file.now epoch)
+        (IsRefused handed.now) }
     ensures lists { IfOk result (λ lists. SayWho file.now.consoles lists.items) }
 {
     if let Err(fault) = check_limits(handed, file, epoch) {

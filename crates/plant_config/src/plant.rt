@@ -111,7 +111,8 @@ fn alarms_in(
     logic: &Framed,
 ) -> Result<(Vec<AlarmRow>, Tags), ConfigFault>
     requires { HasLogic handed.now file.now epoch logic.now }
-    ensures alarms { MatchResult result (λ found. AreKnown handed.now file.now logic.now found.0.items) (IsRefused handed.now) }
+    ensures alarms { MatchResult result (λ found. AreKnown handed.now file.now logic.now found.0.items)
+        (IsRefused handed.now) }
     ensures tags { IfOk result (λ found. found.1 ≡ database_tags (rows_of handed.now.alarms)) }
     ensures right { IfOk result (λ _. first_fault handed.now.alarms ≡ None) }
     ensures database { IfOk result (λ _. IsDatabase (rows_of handed.now.alarms)) }
@@ -138,7 +139,9 @@ fn with_logic(
     logic: Framed,
 ) -> Result<(Framed, Vec<AlarmRow>, Tags), ConfigFault>
     requires { HasLogic handed.now file.now epoch logic }
-    ensures { MatchResult result (λ parts. AreParts handed.now file.now epoch parts.0 parts.1.items parts.2) (IsRefused handed.now) }
+    ensures { MatchResult result
+        (λ parts. AreParts handed.now file.now epoch parts.0 parts.1.items parts.2)
+        (IsRefused handed.now) }
 {
     match alarms_in(alloc, handed, file, epoch, &logic) {
         Ok((alarms, tags)) => Ok((logic, alarms, tags)),
@@ -155,7 +158,9 @@ fn parts_of(
     typed: Typed,
 ) -> Result<(Framed, Vec<AlarmRow>, Tags), ConfigFault>
     requires { IsWellFormed handed.now file.now epoch typed }
-    ensures { MatchResult result (λ parts. AreParts handed.now file.now epoch parts.0 parts.1.items parts.2) (IsRefused handed.now) }
+    ensures { MatchResult result
+        (λ parts. AreParts handed.now file.now epoch parts.0 parts.1.items parts.2)
+        (IsRefused handed.now) }
 {
     match logic_of(alloc, handed, file, epoch, typed) {
         Ok(logic) => with_logic(alloc, handed, file, epoch, logic),
@@ -239,7 +244,7 @@ fn accepted<H: Threads + Sync, O: Observer>(
     }
 }
 
-/// A plant file, the index of tags and the lists of who may order again. Fails if allocation fails.
+/// A plant file, the index of tags and the lists of who may order again.
 fn copied_names(
     alloc: Global,
     file: &PlantFile,
@@ -253,7 +258,7 @@ fn copied_names(
     Ok((file.copy(alloc)?, tags, orderers))
 }
 
-/// Logic and alarms again. Fails if allocation fails.
+/// Logic and alarms again.
 fn copied_logic(
     alloc: Global,
     logic: &Framed,
@@ -268,9 +273,10 @@ fn copied_logic(
 impl Plant {
     /// The files that a plant file names: a caller opens them and hands their texts to `read`.
     ///
-    /// Fails with `NotToml` (C1) or `PlantFile` (C2), and with `Memory` if allocation fails.
+    /// Fails with `NotToml` (C1) or `PlantFile` (C2), and with `Memory` if memory is refused.
     pub fn files(alloc: Global, plant: &[u8]) -> Result<Files, ConfigFault>
-        ensures files { IfOk result (λ files. option_map files_of (plant_file_in plant.now) ≡ Some files) }
+        ensures files { IfOk result (λ files. option_map files_of (plant_file_in plant.now)
+            ≡ Some files) }
         ensures refused { IfErr result (IsFileFault plant.now) }
     {
         match file_of(alloc, plant) {
@@ -288,7 +294,7 @@ impl Plant {
     ///
     /// Every fault but `Memory` is the first that the texts have, by the order of the refusals: C1, C2, C3; C10 of SOURCES, TEXT, AREAS and
     /// CONSOLES; C4 or C5 of the first source that has one; C6, C7, C8, C9; C10 of TURNS, BLOCK_DEPTH, PROGRAMS, SLOTS, SIZE and COST; C11; C10 of
-    /// ALARMS; C12, C13, C14. `Memory` comes if allocation fails; where the texts are right, nothing else does.
+    /// ALARMS; C12, C13, C14. `Memory` comes if memory is refused; where the texts are right, nothing else does.
     ///
     /// Large sources are parsed in threads, as many at once as there are processors.
     pub fn read<H: Threads + Sync>(
@@ -298,9 +304,19 @@ impl Plant {
         sources: &[(&str, &[u8])],
         alarms: &[u8],
     ) -> Result<Plant, ConfigFault>
-        ensures plant { IfOk result (Accepted (texts_of plant.now (map (λ s. s.0.now) sources.now) (map (λ s. s.1.now) sources.now) alarms.now)) }
-        ensures refused { IfErr result (IsRefused (texts_of plant.now (map (λ s. s.0.now) sources.now) (map (λ s. s.1.now) sources.now) alarms.now)) }
-        ensures accepted { (expected : PlainPlant) → Accepted (texts_of plant.now (map (λ s. s.0.now) sources.now) (map (λ s. s.1.now) sources.now) alarms.now) expected → MatchResult result (λ plant. plant ≡ expected) (λ refused. refused ≡ fault.Memory) }
+        ensures plant { IfOk result
+            (Accepted
+            (texts_of plant.now (map (λ s. s.0.now) sources.now) (map (λ s. s.1.now) sources.now)
+            alarms.now)) }
+        ensures refused { IfErr result
+            (IsRefused
+            (texts_of plant.now (map (λ s. s.0.now) sources.now) (map (λ s. s.1.now) sources.now)
+            alarms.now)) }
+        ensures accepted { (expected : PlainPlant)
+            → Accepted
+            (texts_of plant.now (map (λ s. s.0.now) sources.now) (map (λ s. s.1.now) sources.now)
+            alarms.now) expected
+            → MatchResult result (λ plant. plant ≡ expected) (λ refused. refused ≡ fault.Memory) }
     {
         Plant::read_observed(rt, alloc, plant, sources, alarms, &mut Nobody)
     }
@@ -314,9 +330,19 @@ impl Plant {
         alarms: &[u8],
         observer: &mut O,
     ) -> Result<Plant, ConfigFault>
-        ensures plant { IfOk result (Accepted (texts_of plant.now (map (λ s. s.0.now) sources.now) (map (λ s. s.1.now) sources.now) alarms.now)) }
-        ensures refused { IfErr result (IsRefused (texts_of plant.now (map (λ s. s.0.now) sources.now) (map (λ s. s.1.now) sources.now) alarms.now)) }
-        ensures accepted { (expected : PlainPlant) → Accepted (texts_of plant.now (map (λ s. s.0.now) sources.now) (map (λ s. s.1.now) sources.now) alarms.now) expected → MatchResult result (λ plant. plant ≡ expected) (λ refused. refused ≡ fault.Memory) }
+        ensures plant { IfOk result
+            (Accepted
+            (texts_of plant.now (map (λ s. s.0.now) sources.now) (map (λ s. s.1.now) sources.now)
+            alarms.now)) }
+        ensures refused { IfErr result
+            (IsRefused
+            (texts_of plant.now (map (λ s. s.0.now) sources.now) (map (λ s. s.1.now) sources.now)
+            alarms.now)) }
+        ensures accepted { (expected : PlainPlant)
+            → Accepted
+            (texts_of plant.now (map (λ s. s.0.now) sources.now) (map (λ s. s.1.now) sources.now)
+            alarms.now) expected
+            → MatchResult result (λ plant. plant ≡ expected) (λ refused. refused ≡ fault.Memory) }
     {
         let handed = Handed {
             plant,
@@ -326,7 +352,7 @@ impl Plant {
         accepted(rt, alloc, &handed, observer)
     }
 
-    /// The same plant. Fails if allocation fails.
+    /// The same plant.
     pub fn copy(&self, alloc: Global) -> Result<Plant, AllocError>
         ensures { IfOk result (λ copy. copy ≡ self.now) }
     {
@@ -489,15 +515,16 @@ impl Plant {
     }
 
     /// Appends the path of the body in which a trap occurred, as a fault prints it: the names of the program and of the instances below it, as
-    /// declared, with points between them. Fails if allocation fails; what was appended then is of no use.
+    /// declared, with points between them. Fails if memory is refused; what was appended then is of no use.
     pub fn push_body_path(&self, path: u32, text: &mut String) -> Result<(), AllocError>
         requires { path < length (body_paths self.now) }
-        ensures { IfOk result (λ _. string_bytes text.new ≡ string_bytes text.old ++ body_path self.now path) }
+        ensures { IfOk result (λ _. string_bytes text.new
+            ≡ string_bytes text.old ++ body_path self.now path) }
     {
         self.logic.push_path(path, text)
     }
 
-    /// The path of the body in which a trap occurred, as a fault prints it: a text of its own. Fails if allocation fails.
+    /// The path of the body in which a trap occurred, as a fault prints it: a text of its own.
     pub fn body_path(&self, alloc: Global, path: u32) -> Result<String, AllocError>
         requires { path < length (body_paths self.now) }
         ensures { IfOk result (λ text. string_bytes text ≡ body_path self.now path) }
@@ -510,7 +537,8 @@ impl Plant {
 
 /// The number of the first program with a name, letter case ignored; `None` if there is none.
 fn program_row(programs: &[Heading], name: &str) -> Option<usize>
-    ensures number { result ≡ position (λ (program : Heading). same_word program.name name.now) programs.now }
+    ensures number { result
+        ≡ position (λ (program : Heading). same_word program.name name.now) programs.now }
     ensures within { IfSome result (λ number. number < length programs.now) }
 {
     programs.iter().position(|program| same_word(program.name.as_bytes(), name.as_bytes()))

@@ -45,7 +45,7 @@ impl Drop for AlarmRow {
 }
 
 impl AlarmRow {
-    /// The same alarm. Fails if allocation fails.
+    /// The same alarm.
     fn copy(&self, alloc: Global) -> Result<AlarmRow, AllocError>
         ensures { IfOk result (λ copy. copy ≡ self.now) }
     {
@@ -63,7 +63,7 @@ impl AlarmRow {
     }
 }
 
-/// The same alarms in the same order. Fails if allocation fails.
+/// The same alarms in the same order.
 pub fn copy_rows(alloc: Global, rows: &[AlarmRow]) -> Result<Vec<AlarmRow>, AllocError>
     ensures { IfOk result (λ copies. copies.items ≡ rows.now) }
 {

@@ -51,7 +51,9 @@ pub fn database_of(
     logic: &Framed,
 ) -> Result<AlarmDatabase, ConfigFault>
     requires { HasLogic handed.now file.now epoch logic.now }
-    ensures { MatchResult result (λ rows. (first_fault handed.now.alarms ≡ None) × (rows ≡ rows_of handed.now.alarms)) (IsRefused handed.now) }
+    ensures { MatchResult result
+        (λ rows. (first_fault handed.now.alarms ≡ None) × (rows ≡ rows_of handed.now.alarms))
+        (IsRefused handed.now) }
 {
     match alarm_db::read(alloc, handed.alarms) {
         Ok(database) => Ok(database),
@@ -84,7 +86,8 @@ pub fn known_alarms(
     requires database { first_fault handed.now.alarms ≡ None }
     requires rows { rows.items ≡ rows_of handed.now.alarms }
     requires few { length rows.items ≤ 20000 }
-    ensures alarms { MatchResult result (λ alarms. AreKnown handed.now file.now logic.now alarms.items) (IsRefused handed.now) }
+    ensures alarms { MatchResult result (λ alarms. AreKnown handed.now file.now logic.now alarms.items)
+        (IsRefused handed.now) }
     ensures file { IsPlantFile file.now }
 {
     let Ok(areas) = file.area_set(alloc) else {

@@ -21,7 +21,7 @@ use stamps::Epoch;
 use std::alloc::{AllocError, Global};
 use std::thread::Threads;
 
-/// The name of a source by its number; empty if there is none. Fails if allocation fails.
+/// The name of a source by its number; empty if there is none.
 fn name_at(alloc: Global, sources: &[(&str, &[u8])], number: usize) -> Result<Text, AllocError>
     ensures { IfOk result (λ name. name ≡ slice_index_or (map (λ s. s.0.now) sources.now) number []) }
 {
@@ -35,7 +35,8 @@ fn name_at(alloc: Global, sources: &[(&str, &[u8])], number: usize) -> Result<Te
 #[tactic(auto, unfolding(crate::specs::Refusals::IsRefused))]
 fn misspelled(alloc: Global, handed: &Handed<'_>, fault: SourceFault) -> ConfigFault
     requires { IsSourceFault handed.now.sources fault }
-    ensures { (file : PlainPlantFile) (epoch : ℕ) → IsLimited handed.now file epoch → IsRefused handed.now result }
+    ensures { (file : PlainPlantFile) (epoch : ℕ) → IsLimited handed.now file epoch
+        → IsRefused handed.now result }
 {
     match fault {
         SourceFault::Memory => ConfigFault::Memory,
@@ -67,7 +68,9 @@ pub fn units_of<H: Threads + Sync>(
     epoch: Epoch,
 ) -> Result<Vec<Unit>, ConfigFault>
     requires { IsLimited handed.now file.now epoch }
-    ensures { MatchResult result (λ units. HasUnits handed.now file.now epoch (map view_unit units.items)) (IsRefused handed.now) }
+    ensures { MatchResult result
+        (λ units. HasUnits handed.now file.now epoch (map view_unit units.items))
+        (IsRefused handed.now) }
 {
     match plant_sources::units_in_threads(rt, alloc, handed.sources) {
         Ok(units) => Ok(units),
@@ -75,7 +78,7 @@ pub fn units_of<H: Threads + Sync>(
     }
 }
 
-/// The name of the source of a unit, and its own. Fails if allocation fails.
+/// The name of the source of a unit, and its own.
 fn names_of(
     alloc: Global,
     handed: &Handed<'_>,
@@ -94,7 +97,8 @@ fn names_of(
 #[tactic(auto, unfolding(crate::specs::Refusals::IsRefused))]
 fn mistyped(alloc: Global, handed: &Handed<'_>, units: &[Unit], fault: TypeFault) -> ConfigFault
     requires { IsTypeFault (map view_unit units.now) fault }
-    ensures { (file : PlainPlantFile) (epoch : ℕ) → HasUnits handed.now file epoch (map view_unit units.now) → IsRefused handed.now result }
+    ensures { (file : PlainPlantFile) (epoch : ℕ)
+        → HasUnits handed.now file epoch (map view_unit units.now) → IsRefused handed.now result }
 {
     match fault {
         TypeFault::Memory => ConfigFault::Memory,
@@ -124,7 +128,9 @@ fn mistyped(alloc: Global, handed: &Handed<'_>, units: &[Unit], fault: TypeFault
 /// The refusal for sources that were judged, and aren't well formed.
 pub fn refused(alloc: Global, handed: &Handed<'_>, judged: &Mistyped) -> ConfigFault
     requires { IsTypeFault (map view_unit judged.now.units.items) judged.now.fault }
-    ensures { (file : PlainPlantFile) (epoch : ℕ) → HasUnits handed.now file epoch (map view_unit judged.now.units.items) → IsRefused handed.now result }
+    ensures { (file : PlainPlantFile) (epoch : ℕ)
+        → HasUnits handed.now file epoch (map view_unit judged.now.units.items)
+        → IsRefused handed.now result }
 {
     mistyped(alloc, handed, judged.units.as_slice(), judged.fault)
 }

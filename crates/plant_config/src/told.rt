@@ -124,7 +124,7 @@ fn gathered(
     Ok(found)
 }
 
-/// All that is wrong in the rows of an alarm database, in a plant. Fails if memory was refused.
+/// All that is wrong in the rows of an alarm database, in a plant.
 fn mistakes_in(
     alloc: Global,
     handed: &Handed<'_>,

@@ -29,7 +29,7 @@ impl Drop for Console {
 }
 
 impl Console {
-    /// The same console. Fails if allocation fails.
+    /// The same console.
     pub(crate) fn copy(&self, alloc: Global) -> Result<Console, AllocError>
         ensures { IfOk result (λ copy. copy ≡ self.now) }
     {
@@ -64,7 +64,7 @@ fn number_in(table: &Table) -> Option<u32>
     }
 }
 
-/// The numbers of names in a list of areas; `None` if one isn't there. Fails if allocation fails.
+/// The numbers of names in a list of areas; `None` if one isn't there.
 fn numbers_of(
     alloc: Global,
     areas: &TextSet,
@@ -82,7 +82,7 @@ fn numbers_of(
     Ok(Some(Items::from_vec(numbers)))
 }
 
-/// The console of a table; `None` if it is none. Fails if allocation fails.
+/// The console of a table; `None` if it is none.
 fn console_of(alloc: Global, areas: &TextSet, table: &Table) -> Result<Option<Console>, AllocError>
     ensures { IfOk result (λ console. console ≡ console_of areas.now (table_view table.now)) }
 {
@@ -101,7 +101,7 @@ fn console_of(alloc: Global, areas: &TextSet, table: &Table) -> Result<Option<Co
     Ok(Some(Console { number, areas }))
 }
 
-/// The consoles of a list; `None` if an item is no console. Fails if allocation fails.
+/// The consoles of a list; `None` if an item is no console.
 fn consoles_of(
     alloc: Global,
     areas: &TextSet,
@@ -122,7 +122,7 @@ fn consoles_of(
     Ok(Some(Items::from_vec(consoles)))
 }
 
-/// Whether two consoles have one number. Fails if allocation fails.
+/// Whether two consoles have one number.
 fn numbers_clash(alloc: Global, consoles: &[Console]) -> Result<bool, AllocError>
     ensures { IfOk result (λ clash. clash ≡ numbers_clash consoles.now) }
 {
@@ -135,8 +135,7 @@ fn numbers_clash(alloc: Global, consoles: &[Console]) -> Result<bool, AllocError
     Ok(false)
 }
 
-/// The consoles under the key `console`, of which there are none without the key; `None` if what stands there is wrong. Fails if
-/// allocation fails.
+/// The consoles under the key `console`, of which there are none without the key; `None` if what stands there is wrong.
 pub fn consoles_in(
     alloc: Global,
     areas: &TextSet,
@@ -159,7 +158,7 @@ pub fn consoles_in(
     Ok(Some(consoles))
 }
 
-/// The same consoles in the same order. Fails if allocation fails.
+/// The same consoles in the same order.
 pub fn copy_consoles(alloc: Global, consoles: &[Console]) -> Result<Items<Console>, AllocError>
     ensures { IfOk result (λ copies. copies ≡ consoles.now) }
 {

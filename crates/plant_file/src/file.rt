@@ -66,7 +66,7 @@ impl PlantFile {
         self.areas.as_slice()
     }
 
-    /// The areas in an index: the number of each, from 0, by its bytes. Fails if allocation fails.
+    /// The areas in an index: the number of each, from 0, by its bytes.
     pub fn area_set(&self, alloc: Global) -> Result<TextSet, AllocError>
         ensures areas { IfOk result (λ areas. areas ≡ self.now.areas) }
         ensures file { IsPlantFile self.now }
@@ -98,7 +98,7 @@ impl PlantFile {
         self.consoles.as_slice()
     }
 
-    /// The same plant file. Fails if allocation fails.
+    /// The same plant file.
     pub fn copy(&self, alloc: Global) -> Result<PlantFile, AllocError>
         ensures { IfOk result (λ copy. copy ≡ self.now) }
     {

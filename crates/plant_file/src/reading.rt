@@ -18,7 +18,7 @@ use std::alloc::{AllocError, Global};
 use std::str;
 use toml::Table;
 
-/// The document of bytes. Fails if allocation fails or there is none.
+/// The document of bytes. Fails if memory is refused or there is none.
 fn document(alloc: Global, bytes: &[u8]) -> Result<Table, PlantFileFault>
     ensures table { IfOk result (λ table. document_in bytes.now ≡ Some (table_view table)) }
     ensures refused { IfErr result (IsRefused bytes.now) }
@@ -72,7 +72,7 @@ fn are_sized(low: usize, high: usize, texts: &[String]) -> bool
     true
 }
 
-/// The areas; `None` if what stands under the key is wrong. Fails if allocation fails.
+/// The areas; `None` if what stands under the key is wrong.
 pub fn areas_in(alloc: Global, table: &Table) -> Result<Option<TextSet>, AllocError>
     ensures { IfOk result (λ areas. areas ≡ areas_in (table_view table.now)) }
 {
@@ -82,7 +82,7 @@ pub fn areas_in(alloc: Global, table: &Table) -> Result<Option<TextSet>, AllocEr
     }
 }
 
-/// The files of the sources; `None` if what stands under the key is wrong. Fails if allocation fails.
+/// The files of the sources; `None` if what stands under the key is wrong.
 fn sources_in(alloc: Global, table: &Table) -> Result<Option<TextSet>, AllocError>
     ensures { IfOk result (λ sources. sources ≡ sources_in (table_view table.now)) }
 {
@@ -112,7 +112,7 @@ fn alarms_in(table: &Table) -> Option<&str>
     }
 }
 
-/// Makes a plant file of its parts. Fails if allocation fails.
+/// Makes a plant file of its parts.
 fn file_with(
     alloc: Global,
     name: &str,
@@ -122,8 +122,14 @@ fn file_with(
     alarms: &str,
     consoles: Items<Console>,
 ) -> Result<PlantFile, AllocError>
-    requires { IsPlantFile (record { name = name.now; epoch = epoch.now; areas = areas.now; sources = sources.now; alarms = alarms.now; consoles = consoles }) }
-    ensures { IfOk result (λ file. file ≡ record { name = name.now; epoch = epoch.now; areas = areas.now; sources = sources.now; alarms = alarms.now; consoles = consoles }) }
+    requires { IsPlantFile
+        (record
+        {name = name.now; epoch = epoch.now; areas = areas.now; sources = sources.now; alarms =
+        alarms.now; consoles = consoles}) }
+    ensures { IfOk result (λ file. file
+        ≡ record
+        {name = name.now; epoch = epoch.now; areas = areas.now; sources = sources.now; alarms =
+        alarms.now; consoles = consoles}) }
 {
     let name = Text::from_str(alloc, name)?;
     let epoch = Text::from_str(alloc, epoch)?;
@@ -140,7 +146,7 @@ fn file_with(
     })
 }
 
-/// The plant file that a document is; `None` if it is none. Fails if allocation fails.
+/// The plant file that a document is; `None` if it is none.
 fn plant_file(alloc: Global, table: &Table) -> Result<Option<PlantFile>, AllocError>
     ensures { IfOk result (λ file. file ≡ plant_file (table_view table.now)) }
 {
@@ -172,8 +178,8 @@ fn plant_file(alloc: Global, table: &Table) -> Result<Option<PlantFile>, AllocEr
     Ok(Some(file))
 }
 
-/// Reads a plant file: a TOML document in UTF-8, whose byte order mark is skipped. Fails if allocation fails, if there is no document, or
-/// if the document isn't that of a plant file.
+/// Reads a plant file: a TOML document in UTF-8, whose byte order mark is skipped. Fails if memory is refused, if there is no document, or if the
+/// document isn't that of a plant file.
 pub fn read(alloc: Global, bytes: &[u8]) -> Result<PlantFile, PlantFileFault>
     ensures file { IfOk result (λ file. plant_file_in bytes.now ≡ Some file) }
     ensures refused { IfErr result (IsRefused bytes.now) }

@@ -74,7 +74,7 @@ pub fn list_at<'a>(table: &'a Table, key: &str) -> Option<&'a Vec<Value>>
     }
 }
 
-/// The texts under a key; `None` if there is no list of texts, or if one stands there twice. Fails if allocation fails.
+/// The texts under a key; `None` if there is no list of texts, or if one stands there twice.
 pub fn texts_at(alloc: Global, table: &Table, key: &str) -> Result<Option<TextSet>, AllocError>
     ensures { IfOk result (λ found. found ≡ texts_at key.now (table_view table.now)) }
 {

@@ -42,10 +42,11 @@ impl TextSet {
         }
     }
 
-    /// Adds a copy of a text if it isn't there yet. Returns whether it was added. Fails if allocation fails.
+    /// Adds a copy of a text if it isn't there yet. Returns whether it was added.
     pub fn add(&mut self, alloc: Global, text: &str) -> Result<bool, AllocError>
         ensures added { IfOk result (λ added. added ≡ not (list_any (bytes_eq text.now) self.old)) }
-        ensures texts { IfOk result (λ added. self.new ≡ (if added then self.old ++ text.now ∷ [] else self.old)) }
+        ensures texts { IfOk result (λ added. self.new
+            ≡ (if added then self.old ++ text.now ∷ [] else self.old)) }
     {
         let copy = String::from_str(alloc, text)?;
         let (_, added) = self.index.insert_full(copy)?;
@@ -67,9 +68,10 @@ impl TextSet {
     }
 }
 
-/// The texts of a list, in order; `None` if an item is no text. Fails if allocation fails.
+/// The texts of a list, in order; `None` if an item is no text.
 pub fn texts<'a>(alloc: Global, items: &'a [Value]) -> Result<Option<Vec<&'a str>>, AllocError>
-    ensures { IfOk result (λ found. option_map (λ v. map (λ t. t.now) v.items) found ≡ texts (items_view items.now)) }
+    ensures { IfOk result (λ found. option_map (λ v. map (λ t. t.now) v.items) found
+        ≡ texts (items_view items.now)) }
 {
     let mut found = Vec::new(alloc);
     for item in items {
@@ -81,9 +83,10 @@ pub fn texts<'a>(alloc: Global, items: &'a [Value]) -> Result<Option<Vec<&'a str
     Ok(Some(found))
 }
 
-/// The texts, if none stands there twice. Fails if allocation fails.
+/// The texts, if none stands there twice.
 pub fn distinct(alloc: Global, texts: &[&str]) -> Result<Option<TextSet>, AllocError>
-    ensures { IfOk result (λ found. found ≡ passing (λ all. not (repeats bytes_eq all)) (map (λ t. t.now) texts.now)) }
+    ensures { IfOk result (λ found. found
+        ≡ passing (λ all. not (repeats bytes_eq all)) (map (λ t. t.now) texts.now)) }
 {
     let mut found = TextSet::new(alloc);
     for text in texts {
@@ -95,7 +98,7 @@ pub fn distinct(alloc: Global, texts: &[&str]) -> Result<Option<TextSet>, AllocE
     Ok(Some(found))
 }
 
-/// Texts, none of which stands there twice, in an index. Fails if allocation fails.
+/// Texts, none of which stands there twice, in an index.
 pub fn set_of(alloc: Global, texts: &[Text]) -> Result<TextSet, AllocError>
     requires { repeats bytes_eq texts.now ≡ false }
     ensures { IfOk result (λ set. set ≡ texts.now) }
@@ -110,7 +113,7 @@ pub fn set_of(alloc: Global, texts: &[Text]) -> Result<TextSet, AllocError>
     }
 }
 
-/// Copies texts. Fails if allocation fails.
+/// Copies texts.
 pub fn copied(alloc: Global, texts: &[String]) -> Result<Vec<Text>, AllocError>
     ensures { IfOk result (λ copies. copies.items ≡ map string_bytes texts.now) }
 {
@@ -121,7 +124,7 @@ pub fn copied(alloc: Global, texts: &[String]) -> Result<Vec<Text>, AllocError>
     Ok(copies)
 }
 
-/// The same texts in the same order. Fails if allocation fails.
+/// The same texts in the same order.
 pub fn copy_texts(alloc: Global, texts: &[Text]) -> Result<Items<Text>, AllocError>
     ensures { IfOk result (λ copies. copies ≡ texts.now) }
 {

@@ -57,8 +57,10 @@ fn read_whole<F: Feed>(alloc: Global, feed: &mut F) -> Result<Vec<u8>, FileFault
     ensures bytes { IfOk result (λ v. Consumes (F.remaining feed.old) (F.remaining feed.new) v.items) }
     ensures whole { IfOk result (λ v. IsAtEnd (F.remaining feed.new)) }
     ensures size { IfOk result (λ v. length v.items ≤ 16777217) }
-    ensures missing { IsErrOf result FileFault.Missing → (F.broken feed.new ≡ true) ⊎ HasMore 16777217 (F.remaining feed.old) }
-    ensures failed { F.broken feed.old ≡ false → F.broken feed.new ≡ true → IsErrOf result FileFault.Missing }
+    ensures missing { IsErrOf result FileFault.Missing
+        → (F.broken feed.new ≡ true) ⊎ HasMore 16777217 (F.remaining feed.old) }
+    ensures failed { F.broken feed.old ≡ false → F.broken feed.new ≡ true
+        → IsErrOf result FileFault.Missing }
 {
     let mut piece = empty_piece(alloc)?;
     let mut bytes = Vec::new(alloc);

@@ -81,7 +81,7 @@ impl<T: Drop> From<AllocFailed<T>> for FetchFault {
     }
 }
 
-/// The path of a file that a plant file names: its name joined to the folder of the plant file's path. Fails if allocation fails.
+/// The path of a file that a plant file names: its name joined to the folder of the plant file's path.
 fn beside(alloc: Global, plant_path: &str, name: &str) -> Result<String, AllocError>
     ensures { IfOk result (λ path. string_bytes path ≡ beside plant_path.now name.now) }
 {
@@ -98,7 +98,8 @@ fn file_at<F: Folder, L: Listener>(
     name: &str,
     listener: &mut L,
 ) -> Result<Vec<u8>, FetchFault>
-    ensures { MatchResult result (λ v. F.finds folder.now path.now (Some v.items)) (IsMiss (F.finds folder.now) path.now name.now) }
+    ensures { MatchResult result (λ v. F.finds folder.now path.now (Some v.items))
+        (IsMiss (F.finds folder.now) path.now name.now) }
 {
     match folder.contents(alloc, path) {
         Ok(bytes) => Ok(bytes),
@@ -118,7 +119,9 @@ fn file_beside<F: Folder, L: Listener>(
     name: &str,
     listener: &mut L,
 ) -> Result<Vec<u8>, FetchFault>
-    ensures { MatchResult result (λ v. F.finds files.now.folder.now (beside files.now.path.now name.now) (Some v.items)) (IsMiss (F.finds files.now.folder.now) (beside files.now.path.now name.now) name.now) }
+    ensures { MatchResult result
+        (λ v. F.finds files.now.folder.now (beside files.now.path.now name.now) (Some v.items))
+        (IsMiss (F.finds files.now.folder.now) (beside files.now.path.now name.now) name.now) }
 {
     let path = beside(alloc, files.path, name)?;
     file_at(alloc, files.folder, path.as_str(), name, listener)
@@ -132,8 +135,10 @@ fn sources_beside<F: Folder, L: Listener>(
     listener: &mut L,
 ) -> Result<Vec<SourceText>, FetchFault>
     ensures names { IfOk result (λ v. map (λ s. s.name) v.items ≡ names.now) }
-    ensures texts { IfOk result (λ v. AreFound (F.finds files.now.folder.now) files.now.path.now names.now (map (λ s. s.text.items) v.items)) }
-    ensures missed { IfErr result (AreMissed (F.finds files.now.folder.now) files.now.path.now names.now) }
+    ensures texts { IfOk result (λ v. AreFound (F.finds files.now.folder.now) files.now.path.now
+        names.now (map (λ s. s.text.items) v.items)) }
+    ensures missed { IfErr result
+        (AreMissed (F.finds files.now.folder.now) files.now.path.now names.now) }
 {
     let mut sources = Vec::new(alloc);
     for name in names {
@@ -175,7 +180,8 @@ fn named_files<L: Listener>(
     plant: &[u8],
     listener: &mut L,
 ) -> Result<Files, FetchFault>
-    ensures { MatchResult result (λ files. option_map files_of (plant_file_in plant.now) ≡ Some files) (IsUnnamed plant.now) }
+    ensures { MatchResult result (λ files. option_map files_of (plant_file_in plant.now) ≡ Some files)
+        (IsUnnamed plant.now) }
 {
     match Plant::files(alloc, plant) {
         Ok(files) => Ok(files),
@@ -194,7 +200,8 @@ pub fn fetch<F: Folder, L: Listener>(
     files: &PlantFiles<'_, F>,
     listener: &mut L,
 ) -> Result<Fetched, FetchFault>
-    ensures { MatchResult result (AreTexts (F.finds files.now.folder.now) files.now.path.now) (IsFetchFault (F.finds files.now.folder.now) files.now.path.now) }
+    ensures { MatchResult result (AreTexts (F.finds files.now.folder.now) files.now.path.now)
+        (IsFetchFault (F.finds files.now.folder.now) files.now.path.now) }
 {
     let plant = match file_at(alloc, files.folder, files.path, files.path, listener) {
         Ok(plant) => plant,

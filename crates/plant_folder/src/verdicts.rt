@@ -11,7 +11,7 @@ use plant_config::{ConfigFault, Plant};
 use std::alloc::{AllocError, Global};
 use std::thread::Threads;
 
-/// The line for a plant that is accepted. Fails if allocation fails.
+/// The line for a plant that is accepted.
 pub fn accepted_line(alloc: Global, plant: &Plant) -> Result<String, AllocError>
     ensures { IfOk result (λ line. string_bytes line ≡ accepted_line plant.now) }
 {
@@ -25,7 +25,7 @@ pub fn accepted_line(alloc: Global, plant: &Plant) -> Result<String, AllocError>
     Ok(line)
 }
 
-/// The line for a plant that is refused. Fails if allocation fails.
+/// The line for a plant that is refused.
 fn refusal_line(alloc: Global, fault: &ConfigFault) -> Result<String, AllocError>
     requires { fault.now ≢ config_fault.Memory }
     ensures { IfOk result (λ line. string_bytes line ≡ refusal_line fault.now) }
@@ -35,7 +35,7 @@ fn refusal_line(alloc: Global, fault: &ConfigFault) -> Result<String, AllocError
     Ok(line)
 }
 
-/// The line for a file that isn't found. Fails if allocation fails.
+/// The line for a file that isn't found.
 fn missing_line(alloc: Global, name: &str) -> Result<String, AllocError>
     ensures { IfOk result (λ line. string_bytes line ≡ missing_line name.now) }
 {
@@ -45,8 +45,8 @@ fn missing_line(alloc: Global, name: &str) -> Result<String, AllocError>
     Ok(line)
 }
 
-/// Reads a plant from its texts. There is none where it is refused, and then with it comes the line that is due; for an accepted plant none is, and the
-/// text is empty. A listener hears of either. Fails if allocation fails.
+/// Reads a plant from its texts. There is none where it is refused, and then with it comes the line that is due; for an accepted plant none is, and
+/// the text is empty. A listener hears of either.
 pub fn verdict<H: Threads + Sync, L: Listener>(
     rt: &H,
     alloc: Global,
@@ -76,7 +76,7 @@ pub fn verdict<H: Threads + Sync, L: Listener>(
     }
 }
 
-/// The sources of a plant as pairs of a name and a text. Fails if allocation fails.
+/// The sources of a plant as pairs of a name and a text.
 fn pairs<'a>(
     alloc: Global,
     sources: &'a [SourceText],
@@ -91,7 +91,7 @@ fn pairs<'a>(
     Ok(pairs)
 }
 
-/// The line for texts of a plant that aren't there. Fails if allocation fails.
+/// The line for texts of a plant that aren't there.
 fn fetch_line(alloc: Global, fault: &FetchFault) -> Result<String, AllocError>
     requires { HasLine fault.now }
     ensures { IfOk result (λ line. string_bytes line ≡ fetch_line fault.now) }
@@ -103,7 +103,7 @@ fn fetch_line(alloc: Global, fault: &FetchFault) -> Result<String, AllocError>
     }
 }
 
-/// As `verdict`, from texts that were fetched for the plant file of a path. Fails if allocation fails.
+/// As `verdict`, from texts that were fetched for the plant file of a path.
 fn fetched_verdict<H: Threads + Sync, L: Listener>(
     rt: &H,
     alloc: Global,
@@ -124,14 +124,15 @@ fn fetched_verdict<H: Threads + Sync, L: Listener>(
 }
 
 /// As `verdict`, from the files of a plant: the plant file and those that it names. The line for a file that can't be read, or has more than
-/// 16,777,217 bytes, has its name. Fails if allocation fails.
+/// 16,777,217 bytes, has its name.
 pub fn files_verdict<H: Threads + Sync, F: Folder, L: Listener>(
     rt: &H,
     alloc: Global,
     files: &PlantFiles<'_, F>,
     listener: &mut L,
 ) -> Result<(Option<Plant>, String), AllocError>
-    ensures { IfOk result (λ v. IsFilesVerdict (F.finds files.now.folder.now) files.now.path.now false v.0 (string_bytes v.1)) }
+    ensures { IfOk result (λ v. IsFilesVerdict (F.finds files.now.folder.now) files.now.path.now false
+        v.0 (string_bytes v.1)) }
 {
     match fetch(alloc, files, listener) {
         Ok(fetched) => fetched_verdict(rt, alloc, files.path, &fetched, listener),

@@ -58,7 +58,9 @@ fn weigh_routine(
     routine: &Routine,
 ) -> u64
     requires { AreNamed (view_routine routine.now) instances.now.names instances.now.blocks.items }
-    ensures { result ≡ min (routine_weight measure (weight_at measure table.now) (view_routine routine.now)) (last_of measure) }
+    ensures { result
+        ≡ min (routine_weight measure (weight_at measure table.now) (view_routine routine.now))
+        (last_of measure) }
 {
     let scale = Scale {
         measure,
@@ -68,7 +70,7 @@ fn weigh_routine(
     weigh_body(&scale, &routine.body)
 }
 
-/// The counts of a routine, by those of the block types. Fails if allocation fails.
+/// The counts of a routine, by those of the block types.
 fn count_routine(alloc: Global, table: &[Counts], routine: &Routine) -> Result<Counts, AllocError>
     ensures { IfOk result (λ counts. counts ≡ counts_by table.now (view_routine routine.now)) }
 {
@@ -80,7 +82,7 @@ fn count_routine(alloc: Global, table: &[Counts], routine: &Routine) -> Result<C
     })
 }
 
-/// Room for the counts of so many block types. Fails if allocation fails.
+/// Room for the counts of so many block types.
 fn make_table(alloc: Global, count: usize) -> Result<Vec<Counts>, AllocError>
     ensures { IfOk result (λ table. length table.items ≡ count) }
 {
@@ -93,7 +95,7 @@ fn make_table(alloc: Global, count: usize) -> Result<Vec<Counts>, AllocError>
     Ok(table)
 }
 
-/// The counts of each block type. Fails if allocation fails.
+/// The counts of each block type.
 fn count_types(
     alloc: Global,
     blocks: &[Routine],
@@ -110,14 +112,15 @@ fn count_types(
     Ok(table)
 }
 
-/// The counts of each program. Fails if allocation fails.
+/// The counts of each program.
 pub fn count_programs(
     alloc: Global,
     logic: &Logic,
     order: &[usize],
 ) -> Result<Vec<Counts>, AllocError>
     requires { AreBelow (source_of logic.now).blocks order.now }
-    ensures { IfOk result (λ list. list.items ≡ map (routine_counts (source_of logic.now).blocks) (source_of logic.now).programs) }
+    ensures { IfOk result (λ list. list.items
+        ≡ map (routine_counts (source_of logic.now).blocks) (source_of logic.now).programs) }
 {
     let table = count_types(alloc, &logic.blocks, order)?;
     let mut list = Vec::new(alloc);

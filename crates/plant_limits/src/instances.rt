@@ -35,7 +35,7 @@ impl Instances {
     }
 }
 
-/// Adds an instance, unless there is one of its name. Fails if allocation fails.
+/// Adds an instance, unless there is one of its name.
 fn push_instance(
     alloc: Global,
     instances: &mut Instances,
@@ -43,7 +43,10 @@ fn push_instance(
 ) -> Result<(), AllocError>
     requires { length instances.old.names ≡ length instances.old.blocks.items }
     ensures long { IfOk result (λ _. length instances.new.names ≡ length instances.new.blocks.items) }
-    ensures found { IfOk result (λ _. (name : List ℕ) → block_of instances.new.names instances.new.blocks.items name ≡ or_else (block_of instances.old.names instances.old.blocks.items name) (if same_word name instance.now.name then Some instance.now.of else None)) }
+    ensures found { IfOk result (λ _. (name : List ℕ)
+        → block_of instances.new.names instances.new.blocks.items name
+        ≡ or_else (block_of instances.old.names instances.old.blocks.items name)
+        (if same_word name instance.now.name then Some instance.now.of else None)) }
 {
     if !instances.names.add(alloc, instance.name.as_str())? {
         return Ok(());
@@ -52,9 +55,10 @@ fn push_instance(
     Ok(())
 }
 
-/// The instances of a routine, of several of one name the first. Fails if allocation fails.
+/// The instances of a routine, of several of one name the first.
 pub fn instances_of(alloc: Global, routine: &Routine) -> Result<Instances, AllocError>
-    ensures { IfOk result (λ instances. AreNamed (view_routine routine.now) instances.names instances.blocks.items) }
+    ensures { IfOk result (λ instances. AreNamed (view_routine routine.now) instances.names
+        instances.blocks.items) }
 {
     let mut instances = Instances {
         names: Names::new(alloc),

@@ -16,7 +16,10 @@ use std::alloc::{AllocError, Global};
 
 /// The slots of the globals, of the global arrays and of the programs, up to the last number.
 fn all_slots(logic: &Logic, programs: &[Counts]) -> u64
-    ensures { result ≡ min (length logic.now.globals.items + row_cells logic.now.rows.items + sum_by (λ program. program.slots) programs.now) 65537 }
+    ensures { result
+        ≡ min
+        (length logic.now.globals.items + row_cells logic.now.rows.items + sum_by
+        (λ program. program.slots) programs.now) 65537 }
 {
     let globals = count(LAST_SLOTS, logic.globals.len());
     let mut total = add(LAST_SLOTS, globals, count_rows(&logic.rows));
@@ -49,7 +52,7 @@ fn some_costly(programs: &[Counts]) -> bool
     false
 }
 
-/// The costs among counts, in order. Fails if allocation fails.
+/// The costs among counts, in order.
 fn costs_of(alloc: Global, programs: &[Counts]) -> Result<Vec<u64>, AllocError>
     ensures { IfOk result (λ costs. costs.items ≡ map (λ program. program.cost) programs.now) }
 {
@@ -64,10 +67,11 @@ fn costs_of(alloc: Global, programs: &[Counts]) -> Result<Vec<u64>, AllocError>
 /// that it declares. An instance that is never called has its slots, a block type that no program uses counts for nothing. Each body is
 /// gone through once for its size and once for its cost, whatever the number of its instances.
 ///
-/// The error is the first limit that the source is past, or `Memory` where allocation failed.
+/// The error is the first limit that the source is past, or `Memory` where memory was refused.
 pub fn limits(alloc: Global, logic: &Logic, order: &[usize]) -> Result<Vec<u64>, LimitFault>
     requires { AreBelow (source_of logic.now).blocks order.now }
-    ensures kept { MatchResult result (λ _. KeepsLimits (source_of logic.now)) (IsLimitFault (source_of logic.now)) }
+    ensures kept { MatchResult result (λ _. KeepsLimits (source_of logic.now))
+        (IsLimitFault (source_of logic.now)) }
     ensures costs { IfOk result (λ costs. costs.items ≡ program_costs (source_of logic.now)) }
 {
     let programs = count_programs(alloc, logic, order)?;

@@ -7,7 +7,13 @@ ghost use Rattle.plant_limits.specs.Counts.{routine_slots, routine_size, routine
 
 /// Where no block type holds itself, a block type counts what its routine does, by what the block types that it declares count.
 pub fn block_type_counts()
-    ensures slots { (blocks : List PlainRoutine) (order : List ℕ) → AreBelow blocks order → (n : ℕ) (r : PlainRoutine) → slice_get blocks n ≡ Some r → type_slots blocks n ≡ routine_slots (type_slots blocks) r }
-    ensures size { (blocks : List PlainRoutine) (order : List ℕ) → AreBelow blocks order → (n : ℕ) (r : PlainRoutine) → slice_get blocks n ≡ Some r → type_size blocks n ≡ routine_size (type_size blocks) r }
-    ensures cost { (blocks : List PlainRoutine) (order : List ℕ) → AreBelow blocks order → (n : ℕ) (r : PlainRoutine) → slice_get blocks n ≡ Some r → type_cost blocks n ≡ routine_cost (type_cost blocks) r }
+    ensures slots { (blocks : List PlainRoutine) (order : List ℕ) → AreBelow blocks order
+        → (n : ℕ) (r : PlainRoutine) → slice_get blocks n ≡ Some r
+        → type_slots blocks n ≡ routine_slots (type_slots blocks) r }
+    ensures size { (blocks : List PlainRoutine) (order : List ℕ) → AreBelow blocks order
+        → (n : ℕ) (r : PlainRoutine) → slice_get blocks n ≡ Some r
+        → type_size blocks n ≡ routine_size (type_size blocks) r }
+    ensures cost { (blocks : List PlainRoutine) (order : List ℕ) → AreBelow blocks order
+        → (n : ℕ) (r : PlainRoutine) → slice_get blocks n ≡ Some r
+        → type_cost blocks n ≡ routine_cost (type_cost blocks) r }
 {}

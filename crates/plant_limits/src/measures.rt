@@ -58,7 +58,9 @@ impl Measure {
 
     /// How many turns of a FOR count, up to the last number.
     pub fn turns(self, from: &Expr<Text>, to: &Expr<Text>, by: &Option<Expr<Text>>) -> u64
-        ensures { result ≡ min (turns_by self (view_expr from.now) (view_expr to.now) (view_option by.now)) (last_of self) }
+        ensures { result
+            ≡ min (turns_by self (view_expr from.now) (view_expr to.now) (view_option by.now))
+            (last_of self) }
     {
         match self {
             Measure::Size => 1,

@@ -38,7 +38,9 @@ fn weigh_block(measure: Measure, table: &[Counts], block: BlockRef) -> u64
 
 /// What the body of the instance of a name weighs; 0 for a name of none.
 fn weigh_called(scale: &Scale<'_>, name: &Text) -> u64
-    ensures { result ≡ weight_of_name scale.now.measure scale.now.table.now scale.now.instances.now.names scale.now.instances.now.blocks.items name.now }
+    ensures { result
+        ≡ weight_of_name scale.now.measure scale.now.table.now scale.now.instances.now.names
+        scale.now.instances.now.blocks.items name.now }
 {
     match scale.instances.find(name) {
         Some(block) => weigh_block(scale.measure, scale.table, block),
@@ -101,7 +103,8 @@ fn weigh_labels(last: u64, choices: &[Choice<Text>]) -> u64
 
 /// What a CASE weighs without its bodies.
 fn weigh_selection(last: u64, selector: &Expr<Text>, choices: &[Choice<Text>]) -> u64
-    ensures { result ≡ min (1 + expr_cost (view_expr selector.now) + labels_cost (view_choices choices.now)) last }
+    ensures { result
+        ≡ min (1 + expr_cost (view_expr selector.now) + labels_cost (view_choices choices.now)) last }
 {
     let selected = weigh_expr(last, selector);
     let labels = weigh_labels(last, choices);
@@ -179,7 +182,8 @@ fn weigh_stmt(scale: &Scale<'_>, stmt: &Stmt<Text>) -> u64
 /// What the bodies of an IF's branches weigh together.
 #[cycle(weigh)]
 fn weigh_branches(scale: &Scale<'_>, branches: &[Branch<Text>]) -> u64
-    ensures { result ≡ min (branches_weight scale.now (view_branches branches.now)) (last_of scale.now.measure) }
+    ensures { result
+        ≡ min (branches_weight scale.now (view_branches branches.now)) (last_of scale.now.measure) }
 {
     let mut total = 0;
     for branch in branches {
@@ -191,7 +195,8 @@ fn weigh_branches(scale: &Scale<'_>, branches: &[Branch<Text>]) -> u64
 /// What the bodies of a CASE's choices weigh together.
 #[cycle(weigh)]
 fn weigh_choices(scale: &Scale<'_>, choices: &[Choice<Text>]) -> u64
-    ensures { result ≡ min (choices_weight scale.now (view_choices choices.now)) (last_of scale.now.measure) }
+    ensures { result
+        ≡ min (choices_weight scale.now (view_choices choices.now)) (last_of scale.now.measure) }
 {
     let mut total = 0;
     for choice in choices {

@@ -17,10 +17,12 @@ pub struct Pous {
     pub programs: Vec<Pou>,
 }
 
-/// Adds the blocks and programs of a unit. Fails if allocation fails.
+/// Adds the blocks and programs of a unit.
 fn push_pous(list: &mut Pous, pous: Vec<Pou>) -> Result<(), AllocError>
-    ensures blocks { IfOk result (λ _. map view_pou list.new.blocks.items ≡ map view_pou list.old.blocks.items ++ block_pous (map view_pou pous.items)) }
-    ensures programs { IfOk result (λ _. map view_pou list.new.programs.items ≡ map view_pou list.old.programs.items ++ program_pous (map view_pou pous.items)) }
+    ensures blocks { IfOk result (λ _. map view_pou list.new.blocks.items
+        ≡ map view_pou list.old.blocks.items ++ block_pous (map view_pou pous.items)) }
+    ensures programs { IfOk result (λ _. map view_pou list.new.programs.items
+        ≡ map view_pou list.old.programs.items ++ program_pous (map view_pou pous.items)) }
 {
     for pou in pous {
         match pou.kind {
@@ -39,10 +41,12 @@ fn pous_in(alloc: Global, unit: Unit) -> Vec<Pou>
     replace(&mut unit.pous, Vec::new(alloc))
 }
 
-/// The blocks and the programs of all units. Fails if allocation fails.
+/// The blocks and the programs of all units.
 pub fn pous_of(alloc: Global, units: Vec<Unit>) -> Result<Pous, AllocError>
-    ensures blocks { IfOk result (λ list. map view_pou list.blocks.items ≡ block_pous (pous_of (map view_unit units.items))) }
-    ensures programs { IfOk result (λ list. map view_pou list.programs.items ≡ program_pous (pous_of (map view_unit units.items))) }
+    ensures blocks { IfOk result (λ list. map view_pou list.blocks.items
+        ≡ block_pous (pous_of (map view_unit units.items))) }
+    ensures programs { IfOk result (λ list. map view_pou list.programs.items
+        ≡ program_pous (pous_of (map view_unit units.items))) }
 {
     let mut list = Pous {
         blocks: Vec::new(alloc),
@@ -54,7 +58,7 @@ pub fn pous_of(alloc: Global, units: Vec<Unit>) -> Result<Pous, AllocError>
     Ok(list)
 }
 
-/// The names of blocks as declared, in order, of which no two are the same word. Fails if allocation fails.
+/// The names of blocks as declared, in order, of which no two are the same word.
 pub fn names_of(alloc: Global, blocks: &[Pou]) -> Result<Names, AllocError>
     requires { repeats (map pou_word (map view_pou blocks.now)) ≡ false }
     ensures { IfOk result (λ names. names ≡ map (λ (p : PlainPou). p.name) (map view_pou blocks.now)) }

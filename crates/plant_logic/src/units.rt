@@ -24,7 +24,7 @@ use std::alloc::{AllocError, Global};
 use std::mem::replace;
 use word_index::Names;
 
-/// Adds a declared variable to the globals; an array and an instance are none. Fails if allocation fails.
+/// Adds a declared variable to the globals; an array and an instance are none.
 fn push_global(
     alloc: Global,
     variables: &mut Vec<Variable>,
@@ -42,7 +42,7 @@ fn push_global(
     Ok(())
 }
 
-/// Declared variables as globals, in order. Fails if allocation fails.
+/// Declared variables as globals, in order.
 fn globals_of(alloc: Global, list: &[Declared<'_>]) -> Result<Vec<Variable>, AllocError>
     ensures { IfOk result (λ variables. variables.items ≡ flat_map global_of list.now) }
 {
@@ -60,8 +60,7 @@ fn is_own(declared: &Declared<'_>) -> bool
     !matches!(declared.section(), SectionKind::External)
 }
 
-/// Adds a declared variable to a routine's own; an array and an instance are none, and a VAR_EXTERNAL is the global of its name. Fails if
-/// allocation fails.
+/// Adds a declared variable to a routine's own; an array and an instance are none, and a VAR_EXTERNAL is the global of its name.
 fn push_local(
     alloc: Global,
     locals: &mut Vec<Local>,
@@ -81,7 +80,7 @@ fn push_local(
     Ok(())
 }
 
-/// Declared variables as a routine's own, in order. Fails if allocation fails.
+/// Declared variables as a routine's own, in order.
 fn locals_of(alloc: Global, list: &[Declared<'_>]) -> Result<Vec<Local>, AllocError>
     ensures { IfOk result (λ locals. locals.items ≡ flat_map local_of list.now) }
 {
@@ -92,7 +91,7 @@ fn locals_of(alloc: Global, list: &[Declared<'_>]) -> Result<Vec<Local>, AllocEr
     Ok(locals)
 }
 
-/// Adds a declared array to the global ones; a variable and an instance are none. Fails if allocation fails.
+/// Adds a declared array to the global ones; a variable and an instance are none.
 fn push_global_row(
     alloc: Global,
     rows: &mut Vec<Row>,
@@ -110,7 +109,7 @@ fn push_global_row(
     Ok(())
 }
 
-/// Declared arrays as global ones, in order. Fails if allocation fails.
+/// Declared arrays as global ones, in order.
 fn global_rows_of(alloc: Global, list: &[Declared<'_>]) -> Result<Vec<Row>, AllocError>
     ensures { IfOk result (λ rows. rows.items ≡ flat_map global_row_of list.now) }
 {
@@ -121,8 +120,7 @@ fn global_rows_of(alloc: Global, list: &[Declared<'_>]) -> Result<Vec<Row>, Allo
     Ok(rows)
 }
 
-/// Adds a declared array to a routine's own; a variable and an instance are none, and a VAR_EXTERNAL is the global array of its name. Fails
-/// if allocation fails.
+/// Adds a declared array to a routine's own; a variable and an instance are none, and a VAR_EXTERNAL is the global array of its name.
 fn push_own_row(
     alloc: Global,
     rows: &mut Vec<Row>,
@@ -136,7 +134,7 @@ fn push_own_row(
     Ok(())
 }
 
-/// Declared arrays as a routine's own, in order. Fails if allocation fails.
+/// Declared arrays as a routine's own, in order.
 fn own_rows_of(alloc: Global, list: &[Declared<'_>]) -> Result<Vec<Row>, AllocError>
     ensures { IfOk result (λ rows. rows.items ≡ flat_map own_row_of list.now) }
 {
@@ -163,14 +161,15 @@ fn block_ref(names: &Names, word: &Text) -> BlockRef
     }
 }
 
-/// Adds a declared instance to a routine's own; a variable and an array are none. Fails if allocation fails.
+/// Adds a declared instance to a routine's own; a variable and an array are none.
 fn push_instance(
     alloc: Global,
     names: &Names,
     instances: &mut Vec<Instance>,
     declared: &Declared<'_>,
 ) -> Result<(), AllocError>
-    ensures { IfOk result (λ _. instances.new.items ≡ instances.old.items ++ instance_of names.now declared.now) }
+    ensures { IfOk result (λ _. instances.new.items
+        ≡ instances.old.items ++ instance_of names.now declared.now) }
 {
     if !is_own(declared) {
         return Ok(());
@@ -184,7 +183,7 @@ fn push_instance(
     Ok(())
 }
 
-/// Declared instances as a routine's own, in order. Fails if allocation fails.
+/// Declared instances as a routine's own, in order.
 fn instances_of(
     alloc: Global,
     names: &Names,
@@ -199,13 +198,14 @@ fn instances_of(
     Ok(instances)
 }
 
-/// Adds an assignment of its initial value to a declared variable, if one is written. Fails if allocation fails.
+/// Adds an assignment of its initial value to a declared variable, if one is written.
 fn push_start(
     alloc: Global,
     starts: &mut Vec<Stmt<Text>>,
     declared: &Declared<'_>,
 ) -> Result<(), AllocError>
-    ensures { IfOk result (λ _. map view_stmt starts.new.items ≡ map view_stmt starts.old.items ++ start_of declared.now) }
+    ensures { IfOk result (λ _. map view_stmt starts.new.items
+        ≡ map view_stmt starts.old.items ++ start_of declared.now) }
 {
     let Some(value) = declared.initial() else {
         return Ok(());
@@ -216,7 +216,7 @@ fn push_start(
     Ok(())
 }
 
-/// The initial values that are written for declared variables, in order. Fails if allocation fails.
+/// The initial values that are written for declared variables, in order.
 fn starts_of(alloc: Global, list: &[Declared<'_>]) -> Result<Vec<Stmt<Text>>, AllocError>
     ensures { IfOk result (λ starts. view_body starts.items ≡ starts_in list.now) }
 {
@@ -236,12 +236,16 @@ struct Heads {
     starts: Vec<Stmt<Text>>,
 }
 
-/// What sections declare. Fails if allocation fails.
+/// What sections declare.
 fn heads_of(alloc: Global, names: &Names, sections: &[Section]) -> Result<Heads, AllocError>
-    ensures locals { IfOk result (λ heads. heads.locals.items ≡ flat_map local_of (declared_in (map view_section sections.now))) }
-    ensures rows { IfOk result (λ heads. heads.rows.items ≡ flat_map own_row_of (declared_in (map view_section sections.now))) }
-    ensures instances { IfOk result (λ heads. heads.instances.items ≡ flat_map (instance_of names.now) (declared_in (map view_section sections.now))) }
-    ensures starts { IfOk result (λ heads. view_body heads.starts.items ≡ starts_in (declared_in (map view_section sections.now))) }
+    ensures locals { IfOk result (λ heads. heads.locals.items
+        ≡ flat_map local_of (declared_in (map view_section sections.now))) }
+    ensures rows { IfOk result (λ heads. heads.rows.items
+        ≡ flat_map own_row_of (declared_in (map view_section sections.now))) }
+    ensures instances { IfOk result (λ heads. heads.instances.items
+        ≡ flat_map (instance_of names.now) (declared_in (map view_section sections.now))) }
+    ensures starts { IfOk result (λ heads. view_body heads.starts.items
+        ≡ starts_in (declared_in (map view_section sections.now))) }
 {
     let declared = declared_in(alloc, sections)?;
     Ok(Heads {
@@ -260,7 +264,7 @@ fn body_of(alloc: Global, pou: Pou) -> Vec<Stmt<Text>>
     replace(&mut pou.body, Vec::new(alloc))
 }
 
-/// The routine of a block or program. Its body is moved. Fails if allocation fails.
+/// The routine of a block or program. Its body is moved.
 fn routine_of(alloc: Global, names: &Names, pou: Pou) -> Result<Routine, AllocError>
     ensures { IfOk result (λ routine. view_routine routine ≡ routine_of names.now (view_pou pou)) }
 {
@@ -281,9 +285,10 @@ fn routine_of(alloc: Global, names: &Names, pou: Pou) -> Result<Routine, AllocEr
     })
 }
 
-/// The routines of blocks or programs, in order. Fails if allocation fails.
+/// The routines of blocks or programs, in order.
 fn routines_of(alloc: Global, names: &Names, pous: Vec<Pou>) -> Result<Vec<Routine>, AllocError>
-    ensures { IfOk result (λ routines. map view_routine routines.items ≡ map (routine_of names.now) (map view_pou pous.items)) }
+    ensures { IfOk result (λ routines. map view_routine routines.items
+        ≡ map (routine_of names.now) (map view_pou pous.items)) }
 {
     let mut routines = Vec::new(alloc);
     for pou in pous {
@@ -292,7 +297,7 @@ fn routines_of(alloc: Global, names: &Names, pous: Vec<Pou>) -> Result<Vec<Routi
     Ok(routines)
 }
 
-/// Adds declared names to others, in order. Fails if allocation fails.
+/// Adds declared names to others, in order.
 fn push_declared<'a>(list: &mut Vec<Declared<'a>>, more: &[Declared<'a>]) -> Result<(), AllocError>
     ensures { IfOk result (λ _. list.new.items ≡ list.old.items ++ more.now) }
 {
@@ -302,7 +307,7 @@ fn push_declared<'a>(list: &mut Vec<Declared<'a>>, more: &[Declared<'a>]) -> Res
     Ok(())
 }
 
-/// The names that all units declare as globals, in order of text. Fails if allocation fails.
+/// The names that all units declare as globals, in order of text.
 fn declared_globals<'a>(alloc: Global, units: &'a [Unit]) -> Result<Vec<Declared<'a>>, AllocError>
     ensures { IfOk result (λ list. list.items ≡ declared_globals (map view_unit units.now)) }
 {
@@ -322,11 +327,14 @@ struct GlobalHeads {
     starts: Vec<Stmt<Text>>,
 }
 
-/// The globals and the global arrays of units, and the globals' initial values. Fails if allocation fails.
+/// The globals and the global arrays of units, and the globals' initial values.
 fn globals_in(alloc: Global, units: &[Unit]) -> Result<GlobalHeads, AllocError>
-    ensures globals { IfOk result (λ heads. heads.globals.items ≡ flat_map global_of (declared_globals (map view_unit units.now))) }
-    ensures rows { IfOk result (λ heads. heads.rows.items ≡ flat_map global_row_of (declared_globals (map view_unit units.now))) }
-    ensures starts { IfOk result (λ heads. view_body heads.starts.items ≡ starts_in (declared_globals (map view_unit units.now))) }
+    ensures globals { IfOk result (λ heads. heads.globals.items
+        ≡ flat_map global_of (declared_globals (map view_unit units.now))) }
+    ensures rows { IfOk result (λ heads. heads.rows.items
+        ≡ flat_map global_row_of (declared_globals (map view_unit units.now))) }
+    ensures starts { IfOk result (λ heads. view_body heads.starts.items
+        ≡ starts_in (declared_globals (map view_unit units.now))) }
 {
     let declared = declared_globals(alloc, units)?;
     Ok(GlobalHeads {
@@ -336,7 +344,7 @@ fn globals_in(alloc: Global, units: &[Unit]) -> Result<GlobalHeads, AllocError>
     })
 }
 
-/// The source that units make, where no two blocks have one name. Fails if allocation fails.
+/// The source that units make, where no two blocks have one name.
 fn logic_in(alloc: Global, units: Vec<Unit>) -> Result<Logic, AllocError>
     requires { repeats (map pou_word (block_pous (pous_of (map view_unit units.items)))) ≡ false }
     ensures { IfOk result (λ logic. source_of logic ≡ source_in (map view_unit units.items)) }
@@ -357,8 +365,8 @@ fn logic_in(alloc: Global, units: Vec<Unit>) -> Result<Logic, AllocError>
     })
 }
 
-/// The source that well-formed units make: their globals, their programs and their block types, each list in order of text. An instance
-/// has the number of its block type among these. The bodies are those of the units. Fails if allocation fails.
+/// The source that well-formed units make: their globals, their programs and their block types, each list in order of text. An instance has the
+/// number of its block type among these. The bodies are those of the units.
 #[tactic(auto, using(crate::proofs::Apart::typed_blocks_apart))]
 pub fn logic_of(alloc: Global, typed: Typed) -> Result<(Logic, Vec<usize>), AllocError>
     ensures source { IfOk result (λ made. source_of made.0 ≡ source_in typed) }

@@ -70,7 +70,8 @@ pub fn text_of<'a>(texts: &PlantTexts<'a>, file: FileOf) -> &'a [u8]
 
 /// The place at which the cause of a spot begins, in the text of the spot's file; `None` where none can be told.
 pub fn place_of(texts: &PlantTexts<'_>, spot: &Spot) -> Option<Place>
-    ensures { result ≡ option_map (λ mark. place_in (text_of texts.now spot.now.file) mark.0) spot.now.cause.mark }
+    ensures { result
+        ≡ option_map (λ mark. place_in (text_of texts.now spot.now.file) mark.0) spot.now.cause.mark }
 {
     match spot.cause.mark {
         Some(mark) => Some(place_at(text_of(texts, spot.file), mark.0)),

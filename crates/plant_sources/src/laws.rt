@@ -8,12 +8,17 @@ ghost use Rattle.plant_sources.specs.Sources.{HaveUnits, IsSourceFault, SameFaul
 
 /// Each list of texts has units, or a first fault that isn't `Memory`.
 pub fn spelled_or_stopped()
-    ensures { (texts : List (List ℕ)) → ((units : List PlainUnit) × HaveUnits texts units) ⊎ ((f : SourceFault) × IsSourceFault texts f × (f ≢ fault.Memory)) }
+    ensures { (texts : List (List ℕ))
+        → ((units : List PlainUnit) × HaveUnits texts units)
+        ⊎ ((f : SourceFault) × IsSourceFault texts f × (f ≢ fault.Memory)) }
 {}
 
 /// A list of texts has at most one list of units and, `Memory` and the place of a C5 apart, at most one fault, and never both.
 pub fn one_answer()
-    ensures units { (texts : List (List ℕ)) (a b : List PlainUnit) → HaveUnits texts a → HaveUnits texts b → a ≡ b }
-    ensures fault { (texts : List (List ℕ)) (f g : SourceFault) → IsSourceFault texts f → IsSourceFault texts g → SameFault f g }
-    ensures apart { (texts : List (List ℕ)) (units : List PlainUnit) (f : SourceFault) → HaveUnits texts units → IsSourceFault texts f → f ≡ fault.Memory }
+    ensures units { (texts : List (List ℕ)) (a b : List PlainUnit) → HaveUnits texts a
+        → HaveUnits texts b → a ≡ b }
+    ensures fault { (texts : List (List ℕ)) (f g : SourceFault) → IsSourceFault texts f
+        → IsSourceFault texts g → SameFault f g }
+    ensures apart { (texts : List (List ℕ)) (units : List PlainUnit) (f : SourceFault)
+        → HaveUnits texts units → IsSourceFault texts f → f ≡ fault.Memory }
 {}

@@ -30,7 +30,8 @@ fn tokens(alloc: Global, source: usize, text: &[u8]) -> Result<Vec<Token>, Sourc
 /// The unit that the tokens of a source's text spell, or C5.
 fn parsed(alloc: Global, source: usize, text: &[u8], tokens: &[Token]) -> Result<Unit, SourceFault>
     requires { Lexes text.now tokens.now }
-    ensures { MatchResult result (λ unit. SpellsUnit (lexemes text.now tokens.now) (view_unit unit)) (IsTextFault source text.now) }
+    ensures { MatchResult result (λ unit. SpellsUnit (lexemes text.now tokens.now) (view_unit unit))
+        (IsTextFault source text.now) }
 {
     match parse(alloc, text, tokens) {
         Ok(unit) => Ok(unit),
@@ -48,7 +49,8 @@ fn parsed(alloc: Global, source: usize, text: &[u8], tokens: &[Token]) -> Result
 
 /// The unit of the text of a source, or its fault.
 pub(crate) fn unit(alloc: Global, source: usize, text: &[u8]) -> Result<Unit, SourceFault>
-    ensures { MatchResult result (λ unit. HasUnit text.now (view_unit unit)) (IsTextFault source text.now) }
+    ensures { MatchResult result (λ unit. HasUnit text.now (view_unit unit))
+        (IsTextFault source text.now) }
 {
     let tokens = match tokens(alloc, source, text) {
         Ok(tokens) => tokens,
@@ -60,7 +62,7 @@ pub(crate) fn unit(alloc: Global, source: usize, text: &[u8]) -> Result<Unit, So
 /// The units of sources, each given by its name and its text.
 ///
 /// Every fault but `Memory` is that of the first source that has one: C4 where its text has no tokens, else C5. `Memory` comes if
-/// allocation fails.
+/// memory is refused.
 pub fn units(alloc: Global, sources: &[(&str, &[u8])]) -> Result<Vec<Unit>, SourceFault>
     ensures { MatchResult result
         (λ units. HaveUnits (map (λ s. s.1.now) sources.now) (map view_unit units.items))

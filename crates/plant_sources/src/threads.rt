@@ -24,7 +24,7 @@ fn bytes_of(sources: &[(&str, &[u8])]) -> usize {
     bytes
 }
 
-/// What each source reads as, in order: each is read by itself, several at once. Fails if allocation fails.
+/// What each source reads as, in order: each is read by itself, several at once.
 fn readings<H: Threads + Sync>(
     rt: &H,
     alloc: Global,
@@ -49,7 +49,9 @@ fn collected(
     alloc: Global,
     readings: Vec<Result<Unit, SourceFault>>,
 ) -> Result<Vec<Unit>, SourceFault>
-    ensures { (texts : List (List ℕ)) → AreReadings 0 texts readings.items → MatchResult result (λ units. HaveUnits texts (map view_unit units.items)) (IsSourceFault texts) }
+    ensures { (texts : List (List ℕ)) → AreReadings 0 texts readings.items
+        → MatchResult result (λ units. HaveUnits texts (map view_unit units.items))
+        (IsSourceFault texts) }
 {
     let mut units = Vec::new(alloc);
     for reading in readings {

@@ -54,9 +54,10 @@ fn input_of(plant: &Plant, pair: &Pair) -> Option<Input>
     }
 }
 
-/// Lists the inputs that pairs name, in order, in place of those listed before; false if one names no input. Fails if allocation fails.
+/// Lists the inputs that pairs name, in order, in place of those listed before; false if one names no input.
 fn list_inputs(plant: &Plant, pairs: &[Pair], inputs: &mut Vec<Input>) -> Result<bool, AllocError>
-    ensures inputs { IfOk result (λ all. inputs_of (globals_of plant.now) pairs.now ≡ (if all then Some inputs.new.items else None)) }
+    ensures inputs { IfOk result (λ all. inputs_of (globals_of plant.now) pairs.now
+        ≡ (if all then Some inputs.new.items else None)) }
     ensures within { OnOk result (All (λ p. p.number < length (globals_of plant.now)) inputs.new.items) }
 {
     inputs.clear();
@@ -69,7 +70,7 @@ fn list_inputs(plant: &Plant, pairs: &[Pair], inputs: &mut Vec<Input>) -> Result
     Ok(true)
 }
 
-/// Lists the values of inputs, in order, in place of those listed before; false if one doesn't fit its input's kind. Fails if allocation fails.
+/// Lists the values of inputs, in order, in place of those listed before; false if one doesn't fit its input's kind.
 fn list_values(inputs: &[Input], values: &mut Vec<(u32, Value)>) -> Result<bool, AllocError>
     ensures { IfOk result (λ all. values_of inputs.now ≡ (if all then Some values.new.items else None)) }
 {
@@ -104,7 +105,7 @@ fn has_twin_of_few(inputs: &[Input]) -> bool
     false
 }
 
-/// Whether an input is named twice, among so many globals. A few inputs take no memory. Fails if allocation fails.
+/// Whether an input is named twice, among so many globals. A few inputs take no memory.
 fn has_twin(alloc: Global, globals: usize, inputs: &[Input]) -> Result<bool, AllocError>
     requires { All (λ p. p.number < globals) inputs.now }
     ensures { IfOk result (λ twin. twin ≡ has_twin inputs.now) }
@@ -158,10 +159,13 @@ pub fn taken_image(
     pairs: &[Pair],
     moment: u64,
 ) -> Result<(), EngineFault>
-    ensures ok { OnOk result (taken_scan (globals_of plant.now) last events pairs.now moment ≡ Ok (Scan room.new.image.items moment)) }
+    ensures ok { OnOk result
+        (taken_scan (globals_of plant.now) last events pairs.now moment
+        ≡ Ok (Scan room.new.image.items moment)) }
     ensures forward { OnOk result (last ≤ moment) }
     ensures range { OnOk result (moment ≤ LAST_MOMENT) }
-    ensures err { IfErr result (λ e. IsDue e (taken_scan (globals_of plant.now) last events pairs.now moment)) }
+    ensures err { IfErr result (λ e. IsDue e
+        (taken_scan (globals_of plant.now) last events pairs.now moment)) }
     ensures no_crew { IsNoCrews result }
 {
     if moment > LAST_MOMENT {

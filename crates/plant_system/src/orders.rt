@@ -114,7 +114,8 @@ fn order_outcome(
 ) -> Result<Effect, OrderFault>
     requires each { length bank.now.alarms ≡ length plant.now.alarms }
     requires sites { bank.now.sites ≡ sites_of plant.now.alarms }
-    ensures { result ≡ order_outcome plant.now bank.now.alarms faulted.now bank.now.moment console order }
+    ensures { result
+        ≡ order_outcome plant.now bank.now.alarms faulted.now bank.now.moment console order }
 {
     match (order.target, order.verb) {
         (None, _) => Err(OrderFault::UnknownTarget),

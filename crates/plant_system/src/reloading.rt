@@ -42,7 +42,7 @@ impl ReadyReload {
     }
 }
 
-/// The alarms of a new plant after those of a state. Fails if allocation fails.
+/// The alarms of a new plant after those of a state.
 fn bank_after(
     alloc: Global,
     plant: &Plant,
@@ -58,7 +58,7 @@ fn bank_after(
     state.bank.reloaded(alloc, new.areas(), news)
 }
 
-/// The delays of a new plant's alarms after those of a state. Fails if allocation fails.
+/// The delays of a new plant's alarms after those of a state.
 fn delays_after(
     alloc: Global,
     plant: &Plant,
@@ -67,13 +67,14 @@ fn delays_after(
     kept: &[Option<u32>],
 ) -> Result<Delays, AllocError>
     requires { kept.now ≡ kept_numbers plant.now new.now }
-    ensures { IfOk result (λ delays. delays ≡ delays_reloaded (delays_of new.now.alarms) kept.now state.now.delays) }
+    ensures { IfOk result (λ delays. delays
+        ≡ delays_reloaded (delays_of new.now.alarms) kept.now state.now.delays) }
 {
     let delays = delays_of(alloc, new.alarm_rows())?;
     state.delays.reloaded(alloc, delays, kept)
 }
 
-/// Makes ready what a reload of a new plant leaves of a state. The scan after it asks all alarms. The state stays as it is. Fails if allocation fails.
+/// Makes ready what a reload of a new plant leaves of a state. The scan after it asks all alarms. The state stays as it is.
 pub fn ready_reload(
     alloc: Global,
     plant: &Plant,

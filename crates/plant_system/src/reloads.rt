@@ -78,7 +78,7 @@ fn new_of(old: &Plant, new: &Plant, alarm: u32) -> NewAlarm
     }
 }
 
-/// The alarms of a new plant, each with the number of the old one as which it goes on, if there is one. Fails if allocation fails.
+/// The alarms of a new plant, each with the number of the old one as which it goes on, if there is one.
 pub fn news_of(alloc: Global, old: &Plant, new: &Plant) -> Result<Vec<NewAlarm>, AllocError>
     ensures { IfOk result (λ news. news.items ≡ news_of old.now new.now) }
 {
@@ -90,7 +90,7 @@ pub fn news_of(alloc: Global, old: &Plant, new: &Plant) -> Result<Vec<NewAlarm>,
     Ok(news)
 }
 
-/// The numbers of the old alarms as which new ones go on. Fails if allocation fails.
+/// The numbers of the old alarms as which new ones go on.
 pub fn kept_of(alloc: Global, news: &[NewAlarm]) -> Result<Vec<Option<u32>>, AllocError>
     ensures { IfOk result (λ kept. kept.items ≡ kept_of news.now) }
 {

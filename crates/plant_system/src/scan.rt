@@ -105,7 +105,7 @@ pub fn empty_report(alloc: Global) -> Report {
     }
 }
 
-/// What an earlier scan was made ready in, or a new place. Fails if allocation fails.
+/// What an earlier scan was made ready in, or a new place.
 fn spare_scan(
     alloc: Global,
     spare: &mut Option<Box<ReadyScan>>,
@@ -122,8 +122,8 @@ fn spare_scan(
     Ok(Box::new(alloc, empty)?)
 }
 
-/// Runs a scan on copies of what a state has, and puts what it does to the state and what it reports in the place of another's. Fails if
-/// allocation fails, or the crew.
+/// Runs a scan on copies of what a state has, and puts what it does to the state and what it reports in the place of another's. Fails if memory is
+/// refused, or the crew.
 fn run_scan<C: Crew<Job, Start, Done, H>, H>(
     rt: &H,
     alloc: Global,
@@ -140,7 +140,9 @@ fn run_scan<C: Crew<Job, Start, Done, H>, H>(
     requires later { before.now.state.now.moment ≤ moment }
     requires range { moment ≤ LAST_MOMENT }
     requires image { All (FitsGlobal (globals_of before.now.plant.now)) image.now }
-    ensures ok { OnOk result (ScanRan before.now.plant.now before.now.state.now image.now moment (after_effect scan.new.effect before.now.state.now) scan.new.report) }
+    ensures ok { OnOk result
+        (ScanRan before.now.plant.now before.now.state.now image.now moment
+        (after_effect scan.new.effect before.now.state.now) scan.new.report) }
     ensures err { IfErr result (λ e. IsDue e (Ok (Scan image.now moment))) }
     ensures crew { C.faulted crew.new ≡ faults_by (C.faulted crew.old) result }
 {
@@ -201,8 +203,11 @@ pub fn prepared_scan<C: Crew<Job, Start, Done, H>, H>(
     requires asked { C.asks }
     requires ready { IsReady before.now.plant.now before.now.state.now }
     requires levels { IfSome before.now.levels.now (AreLevelsOf before.now.plant.now.source) }
-    ensures ok { IfOk result (IsPreparedScan before.now.plant.now before.now.state.now before.now.events pairs.now moment) }
-    ensures err { IfErr result (λ e. IsDue e (taken_scan (globals_of before.now.plant.now) before.now.state.now.moment before.now.events pairs.now moment)) }
+    ensures ok { IfOk result
+        (IsPreparedScan before.now.plant.now before.now.state.now before.now.events pairs.now moment) }
+    ensures err { IfErr result (λ e. IsDue e
+        (taken_scan (globals_of before.now.plant.now) before.now.state.now.moment before.now.events
+        pairs.now moment)) }
     ensures crew { C.faulted crew.new ≡ faults_by (C.faulted crew.old) result }
 {
     let old = before.state;

@@ -87,9 +87,11 @@ pub enum Effect {
     Restarted(u32),
 }
 
-/// The alarms of a plant before the first event. Fails if allocation fails.
+/// The alarms of a plant before the first event.
 fn opening_bank(alloc: Global, plant: &Plant) -> Result<Bank, AllocError>
-    ensures { IfOk result (λ bank. bank ≡ record { sites = sites_of plant.now.alarms; alarms = map opening_alarm plant.now.alarms; moment = 0 }) }
+    ensures { IfOk result (λ bank. bank
+        ≡ record
+        { sites = sites_of plant.now.alarms; alarms = map opening_alarm plant.now.alarms; moment = 0 }) }
 {
     let rows = plant.alarm_rows();
     let sites = opening_sites(alloc, rows)?;
@@ -97,7 +99,7 @@ fn opening_bank(alloc: Global, plant: &Plant) -> Result<Bank, AllocError>
     Bank::new(alloc, plant.areas(), sites, alarms)
 }
 
-/// The delays of a plant's alarms before the first scan. Fails if allocation fails.
+/// The delays of a plant's alarms before the first scan.
 fn opening_delays(alloc: Global, plant: &Plant) -> Result<Delays, AllocError>
     ensures { IfOk result (λ delays. delays ≡ delays_in (opening_system plant.now)) }
 {
@@ -105,7 +107,7 @@ fn opening_delays(alloc: Global, plant: &Plant) -> Result<Delays, AllocError>
     Delays::new(alloc, delays)
 }
 
-/// What the alarms of a plant watch. Fails if allocation fails.
+/// What the alarms of a plant watch.
 fn opening_watches(alloc: Global, plant: &Plant) -> Result<Watches, AllocError>
     ensures { IfOk result (λ watches. watches ≡ watches_of plant.now.alarms) }
 {
@@ -113,7 +115,7 @@ fn opening_watches(alloc: Global, plant: &Plant) -> Result<Watches, AllocError>
     Watches::new(alloc, watches)
 }
 
-/// What is kept of a plant with these cells, alarms and delays, after so many reloads, before the next scan. Fails if allocation fails.
+/// What is kept of a plant with these cells, alarms and delays, after so many reloads, before the next scan.
 pub fn state_with(
     alloc: Global,
     plant: &Plant,
@@ -140,8 +142,7 @@ pub fn state_with(
     })
 }
 
-/// The state before the first event: each variable has its initial value, no program is faulted, and each alarm is normal. Fails if
-/// allocation fails.
+/// The state before the first event: each variable has its initial value, no program is faulted, and each alarm is normal.
 pub fn opening_state(alloc: Global, plant: &Plant) -> Result<State, AllocError>
     ensures state { IfOk result (IsState (opening_system plant.now)) }
     ensures is_plant { OnOk result (IsPlant plant.now) }
@@ -164,7 +165,7 @@ pub fn empty_effect(alloc: Global) -> ScanEffect {
     }
 }
 
-/// Makes cells a copy of others, in their own memory if they have as many values and clocks. Fails if allocation fails.
+/// Makes cells a copy of others, in their own memory if they have as many values and clocks.
 pub fn copy_cells(alloc: Global, cells: &Cells, copy: &mut Cells) -> Result<(), AllocError>
     ensures { OnOk result (copy.new ≡ cells.now) }
 {
@@ -176,7 +177,7 @@ pub fn copy_cells(alloc: Global, cells: &Cells, copy: &mut Cells) -> Result<(), 
     Ok(())
 }
 
-/// Makes flags a copy of others, in their own memory. Fails if allocation fails.
+/// Makes flags a copy of others, in their own memory.
 pub fn copy_flags(flags: &[bool], copy: &mut Vec<bool>) -> Result<(), AllocError>
     ensures { OnOk result (copy.new.items ≡ flags.now) }
 {
@@ -211,7 +212,9 @@ pub fn apply_scan(effect: &mut ScanEffect, state: &mut State)
 
 /// Does what an order does: nothing, if it is refused.
 pub fn apply(done: &Result<Effect, OrderFault>, state: &mut State)
-    ensures { state.new ≡ record state.old { faulted = faulted_by done.now state.old.faulted; alarms = alarms_by done.now state.old.alarms } }
+    ensures { state.new
+        ≡ record state.old
+        {faulted = faulted_by done.now state.old.faulted; alarms = alarms_by done.now state.old.alarms} }
 {
     match done {
         Ok(Effect::Changed(number, alarm)) => {

@@ -33,7 +33,7 @@ pub fn set_inputs(image: &[(u32, Value)], cells: &mut Cells)
     }
 }
 
-/// The alarms before the first scan, one for each row. Fails if allocation fails.
+/// The alarms before the first scan, one for each row.
 pub fn opening_alarms(alloc: Global, rows: &[AlarmRow]) -> Result<Vec<Alarm>, AllocError>
     requires { All (λ row. row.max_shelve_ms ≤ LONGEST_SHELVE_MS) rows.now }
     ensures { IfOk result (λ alarms. alarms.items ≡ map opening_alarm rows.now) }
@@ -45,7 +45,7 @@ pub fn opening_alarms(alloc: Global, rows: &[AlarmRow]) -> Result<Vec<Alarm>, Al
     Ok(alarms)
 }
 
-/// The area and the priority of each alarm, one for each row. Fails if allocation fails.
+/// The area and the priority of each alarm, one for each row.
 pub fn opening_sites(alloc: Global, rows: &[AlarmRow]) -> Result<Vec<Site>, AllocError>
     ensures { IfOk result (λ sites. sites.items ≡ sites_of rows.now) }
 {
@@ -59,7 +59,7 @@ pub fn opening_sites(alloc: Global, rows: &[AlarmRow]) -> Result<Vec<Site>, Allo
     Ok(sites)
 }
 
-/// The delay of each alarm, one for each row. Fails if allocation fails.
+/// The delay of each alarm, one for each row.
 pub fn delays_of(alloc: Global, rows: &[AlarmRow]) -> Result<Vec<u32>, AllocError>
     ensures { IfOk result (λ delays. delays.items ≡ delays_of rows.now) }
 {
@@ -70,7 +70,7 @@ pub fn delays_of(alloc: Global, rows: &[AlarmRow]) -> Result<Vec<u32>, AllocErro
     Ok(delays)
 }
 
-/// What each alarm watches, one for each row. Fails if allocation fails.
+/// What each alarm watches, one for each row.
 pub fn watches_of(alloc: Global, rows: &[AlarmRow]) -> Result<Vec<Watch>, AllocError>
     ensures { IfOk result (λ watches. watches.items ≡ watches_of rows.now) }
 {
@@ -85,7 +85,7 @@ pub fn watches_of(alloc: Global, rows: &[AlarmRow]) -> Result<Vec<Watch>, AllocE
 }
 
 /// Lists the alarms of a state that a scan moves which leaves these cells, each as it leaves it, the changes of their codes in the order of the
-/// database, and what the delays take of the conditions that may have changed, all in place of what was listed before. The state stays. Fails if allocation fails.
+/// database, and what the delays take of the conditions that may have changed, all in place of what was listed before. The state stays.
 pub fn step_alarms(
     alloc: Global,
     old: &State,
@@ -99,10 +99,19 @@ pub fn step_alarms(
     requires later { old.now.delays.last ≤ moment }
     requires each { length old.now.alarms ≡ length old.now.watches }
     requires delays { length old.now.delays.delays ≡ length old.now.watches }
-    requires follow { old.now.follows ≡ true → Follow (value_at old.now.cells) old.now.watches old.now.delays old.now.alarms }
-    ensures alarms { OnOk result (put_all old.now.alarms moved.new.items ≡ alarms_watched (value_at cells.now) moment old.now.watches old.now.delays old.now.alarms) }
-    ensures changes { OnOk result (changes.new.items ≡ changes_from 0 old.now.alarms (alarms_watched (value_at cells.now) moment old.now.watches old.now.delays old.now.alarms)) }
-    ensures met { OnOk result (after_met met.new.items moment moved.new.items old.now.delays ≡ after_conditions (watched_conditions (value_at cells.now) old.now.watches) moment old.now.delays) }
+    requires follow { old.now.follows ≡ true
+        → Follow (value_at old.now.cells) old.now.watches old.now.delays old.now.alarms }
+    ensures alarms { OnOk result
+        (put_all old.now.alarms moved.new.items
+        ≡ alarms_watched (value_at cells.now) moment old.now.watches old.now.delays old.now.alarms) }
+    ensures changes { OnOk result
+        (changes.new.items
+        ≡ changes_from 0 old.now.alarms
+        (alarms_watched (value_at cells.now) moment old.now.watches old.now.delays old.now.alarms)) }
+    ensures met { OnOk result
+        (after_met met.new.items moment moved.new.items old.now.delays
+        ≡ after_conditions (watched_conditions (value_at cells.now) old.now.watches) moment
+        old.now.delays) }
 {
     let last = LastScan {
         bank: &old.bank,
@@ -122,7 +131,7 @@ fn is_output(region: Option<Region>) -> bool
     matches!(region, Some(Region::Output))
 }
 
-/// The outputs and their values, in order of declaration: each is in the range of its kind. Fails if allocation fails.
+/// The outputs and their values, in order of declaration: each is in the range of its kind.
 pub fn outputs(
     alloc: Global,
     globals: &[Variable],
@@ -143,8 +152,7 @@ pub fn outputs(
     Ok(outputs)
 }
 
-/// Lists the outputs with the values that they have in cells, in place of what was listed before; each is in the range of its kind. Fails if
-/// allocation fails.
+/// Lists the outputs with the values that they have in cells, in place of what was listed before; each is in the range of its kind.
 pub fn renew(
     outputs: &[(u32, Value)],
     cells: &Cells,
@@ -161,14 +169,15 @@ pub fn renew(
     Ok(())
 }
 
-/// Lists the outputs whose number isn't what it was before, in order, in place of what was listed before. Fails if allocation fails.
+/// Lists the outputs whose number isn't what it was before, in order, in place of what was listed before.
 pub fn list_changed(
     outputs: &[(u32, Value)],
     before: &Cells,
     now: &Cells,
     changed: &mut Vec<(u32, Value)>,
 ) -> Result<(), AllocError>
-    ensures { OnOk result (changed.new.items ≡ filter (differs (value_at before.now) (value_at now.now)) outputs.now) }
+    ensures { OnOk result
+        (changed.new.items ≡ filter (differs (value_at before.now) (value_at now.now)) outputs.now) }
 {
     changed.clear();
     for (global, value) in outputs {

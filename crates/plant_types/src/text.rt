@@ -31,7 +31,7 @@ impl Text {
         Text { text, at: 0 }
     }
 
-    /// Copies a string slice. Fails only where memory was refused.
+    /// Copies a string slice.
     pub fn from_str(alloc: Global, text: &str) -> Result<Text, AllocError>
         ensures { IfOk result (λ t. t ≡ text.now) }
     {
@@ -41,7 +41,7 @@ impl Text {
         })
     }
 
-    /// Copies the text. Fails only where memory was refused.
+    /// Copies the text.
     pub fn copy(&self, alloc: Global) -> Result<Text, AllocError>
         ensures { IfOk result (λ t. t ≡ self.now) }
     {

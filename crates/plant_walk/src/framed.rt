@@ -134,7 +134,7 @@ struct Laid {
     paths: Vec<u32>,
 }
 
-/// The frame of a source's initial values, in a table of its own. Fails if allocation fails.
+/// The frame of a source's initial values, in a table of its own.
 fn start_table(alloc: Global, logic: &Logic) -> Result<Vec<Frame>, AllocError>
     requires named { IsDistinctlyNamed (source_of logic.now) }
     requires small { IsSmall (source_of logic.now) }
@@ -145,7 +145,7 @@ fn start_table(alloc: Global, logic: &Logic) -> Result<Vec<Frame>, AllocError>
     Ok(start)
 }
 
-/// The frames of a source, and the table of its initial values. Fails if allocation fails.
+/// The frames of a source, and the table of its initial values.
 fn tables_of(
     alloc: Global,
     logic: &Logic,
@@ -162,11 +162,12 @@ fn tables_of(
     Ok((frames_of(alloc, logic, order)?, start))
 }
 
-/// What is made of a sound source. Fails if allocation fails.
+/// What is made of a sound source.
 fn made_of(alloc: Global, logic: &Logic, order: &[usize]) -> Result<Made, AllocError>
     requires sound { IsSound (source_of logic.now) }
     requires below { AreBelow (source_of logic.now).blocks order.now }
-    ensures laid { IfOk result (λ m. IsLaid (source_of logic.now) order.now m.frames.items m.names m.values.items m.standards.bases.items m.paths.items) }
+    ensures laid { IfOk result (λ m. IsLaid (source_of logic.now) order.now m.frames.items m.names
+        m.values.items m.standards.bases.items m.paths.items) }
     ensures start { IfOk result (λ m. HasStart (source_of logic.now) m.start.items) }
     ensures standards { IfOk result (λ m. m.standards.list.items ≡ all_standards (source_of logic.now)) }
 {
@@ -185,12 +186,14 @@ fn made_of(alloc: Global, logic: &Logic, order: &[usize]) -> Result<Made, AllocE
     })
 }
 
-/// The cells before the first scan, by what is made of a source. Fails if allocation fails.
+/// The cells before the first scan, by what is made of a source.
 fn opened(alloc: Global, logic: &Logic, order: &[usize], made: &Made) -> Result<Cells, AllocError>
-    requires laid { IsLaid (source_of logic.now) order.now made.now.frames.items made.now.names made.now.values.items made.now.standards.bases.items made.now.paths.items }
+    requires laid { IsLaid (source_of logic.now) order.now made.now.frames.items made.now.names
+        made.now.values.items made.now.standards.bases.items made.now.paths.items }
     requires start { HasStart (source_of logic.now) made.now.start.items }
     requires standards { made.now.standards.list.items ≡ all_standards (source_of logic.now) }
-    ensures { IfOk result (λ cells. StandFor (source_of logic.now) cells (opening (source_of logic.now))) }
+    ensures { IfOk result (λ cells. StandFor (source_of logic.now) cells
+        (opening (source_of logic.now))) }
 {
     frames_begin();
     typed_names_are_known();
@@ -208,14 +211,17 @@ fn opened(alloc: Global, logic: &Logic, order: &[usize], made: &Made) -> Result<
     Ok(cells)
 }
 
-/// What is kept of a sound source, and the frames that its codes are made of. Fails if allocation fails.
+/// What is kept of a sound source, and the frames that its codes are made of.
 fn laid_of(alloc: Global, logic: &Logic, order: &[usize]) -> Result<(Laid, Vec<Frame>), AllocError>
     requires sound { IsSound (source_of logic.now) }
     requires below { AreBelow (source_of logic.now).blocks order.now }
     ensures seats { IfOk result (λ m. m.0.seats ≡ m.1.items) }
-    ensures laid { IfOk result (λ m. IsLaid (source_of logic.now) order.now m.1.items m.0.names m.0.values.items m.0.clocks.items m.0.paths.items) }
-    ensures kept { IfOk result (λ m. IsKept (source_of logic.now) order.now (length order.now) m.0.globals.items m.0.programs.items m.0.cells (global_cells (source_of logic.now))) }
-    ensures declared { IfOk result (λ m. AreDeclared (source_of logic.now) m.0.rows.items m.0.blocks.items) }
+    ensures laid { IfOk result (λ m. IsLaid (source_of logic.now) order.now m.1.items m.0.names
+        m.0.values.items m.0.clocks.items m.0.paths.items) }
+    ensures kept { IfOk result (λ m. IsKept (source_of logic.now) order.now (length order.now)
+        m.0.globals.items m.0.programs.items m.0.cells (global_cells (source_of logic.now))) }
+    ensures declared { IfOk result (λ m. AreDeclared (source_of logic.now) m.0.rows.items
+        m.0.blocks.items) }
 {
     let globals = copy_variables(alloc, &logic.globals)?;
     let rows = copy_rows(alloc, &logic.rows)?;
@@ -247,7 +253,7 @@ fn laid_of(alloc: Global, logic: &Logic, order: &[usize]) -> Result<(Laid, Vec<F
     Ok((laid, frames))
 }
 
-/// The codes of the programs of a source, by what is kept of it and what its programs cost. Its frames are let go. Fails if allocation fails.
+/// The codes of the programs of a source, by what is kept of it and what its programs cost. Its frames are let go.
 fn codes_in(
     alloc: Global,
     logic: &Shown<Logic>,
@@ -256,10 +262,13 @@ fn codes_in(
     frames: Vec<Frame>,
     costs: &[u64],
 ) -> Result<Vec<Code>, AllocError>
-    requires laid { IsLaid (source_of logic.now) order.now frames.items laid.now.names laid.now.values.items laid.now.clocks.items laid.now.paths.items }
+    requires laid { IsLaid (source_of logic.now) order.now frames.items laid.now.names
+        laid.now.values.items laid.now.clocks.items laid.now.paths.items }
     requires globals { laid.now.globals.items ≡ (source_of logic.now).globals }
     requires costs { costs.now ≡ program_costs (source_of logic.now) }
-    ensures { IfOk result (λ codes. AreCodes frames.items (global_cells (source_of logic.now)) (length order.now) laid.now.values.items laid.now.clocks.items (program_costs (source_of logic.now)) codes.items) }
+    ensures { IfOk result (λ codes. AreCodes frames.items (global_cells (source_of logic.now))
+        (length order.now) laid.now.values.items laid.now.clocks.items
+        (program_costs (source_of logic.now)) codes.items) }
 {
     block_type_counts();
     typed_names_are_known();
@@ -277,13 +286,14 @@ fn codes_in(
 
 /// How many cells the globals of a source have, by where the values of its programs begin.
 fn global_cells(logic: &Shown<Logic>, values: &Vec<usize>) -> usize
-    requires { AreBases (program_values_base (source_of logic.now)) (length (source_of logic.now).programs) values.now.items }
+    requires { AreBases (program_values_base (source_of logic.now))
+        (length (source_of logic.now).programs) values.now.items }
     ensures { result ≡ global_cells (source_of logic.now) }
 {
     values[0]
 }
 
-/// A source made ready to run, by what is kept of it, by its frames, which are let go, and by what its programs cost. Fails if allocation fails.
+/// A source made ready to run, by what is kept of it, by its frames, which are let go, and by what its programs cost.
 fn framed_by(
     alloc: Global,
     logic: Shown<Logic>,
@@ -293,8 +303,10 @@ fn framed_by(
     costs: &[u64],
 ) -> Result<Framed, AllocError>
     requires seats { laid.seats ≡ frames.items }
-    requires laid { IsLaid (source_of logic) order.now.items frames.items laid.names laid.values.items laid.clocks.items laid.paths.items }
-    requires kept { IsKept (source_of logic) order.now.items (length order.now.items) laid.globals.items laid.programs.items laid.cells (global_cells (source_of logic)) }
+    requires laid { IsLaid (source_of logic) order.now.items frames.items laid.names laid.values.items
+        laid.clocks.items laid.paths.items }
+    requires kept { IsKept (source_of logic) order.now.items (length order.now.items) laid.globals.items
+        laid.programs.items laid.cells (global_cells (source_of logic)) }
     requires declared { AreDeclared (source_of logic) laid.rows.items laid.blocks.items }
     requires costs { costs.now ≡ program_costs (source_of logic) }
     ensures { IfOk result (λ framed. framed ≡ source_of logic) }
@@ -332,8 +344,8 @@ fn framed_by(
     })
 }
 
-/// A sound source made ready to run, by what its programs cost. Its statements are let go as soon as it has its frames, and these as its programs
-/// get their codes: nothing of either is kept. Fails if allocation fails.
+/// A sound source made ready to run, by what its programs cost. Its statements are let go as soon as it has its frames, and these as its programs get
+/// their codes: nothing of either is kept.
 fn ready(
     alloc: Global,
     logic: Logic,
@@ -352,11 +364,13 @@ fn ready(
     framed_by(alloc, shown, order, laid, frames, costs)
 }
 
-/// A source made ready to run, if it keeps the limits; else the first limit that it is past, or `Memory` where an allocation failed.
+/// A source made ready to run, if it keeps the limits; else the first limit that it is past, or `Memory` where memory was refused.
 fn judged(alloc: Global, logic: Logic, order: &Vec<usize>) -> Result<Framed, LimitFault>
     requires sound { KeepsLimits (source_of logic) → IsSound (source_of logic) }
     requires below { AreBelow (source_of logic).blocks order.now.items }
-    ensures made { MatchResult result (λ framed. (framed ≡ source_of logic) × KeepsLimits (source_of logic)) (IsLimitFault (source_of logic)) }
+    ensures made { MatchResult result
+        (λ framed. (framed ≡ source_of logic) × KeepsLimits (source_of logic))
+        (IsLimitFault (source_of logic)) }
     ensures sound { IfOk result IsSound }
 {
     match limits(alloc, &logic, order) {
@@ -388,9 +402,11 @@ pub fn walked(base: u32, ended: Result<(), Stop>) -> Walked
 impl Framed {
     /// Makes the logic of well-formed units ready to run. The units are let go.
     ///
-    /// Fails with the first limit that it is past: `Slots`, `Size` or `Cost`; and with `Memory` where an allocation failed.
+    /// Fails with the first limit that it is past: `Slots`, `Size` or `Cost`; and with `Memory` where memory was refused.
     pub fn of(alloc: Global, typed: Typed) -> Result<Framed, LimitFault>
-        ensures made { MatchResult result (λ framed. (framed ≡ source_in typed) × KeepsLimits (source_in typed)) (IsLimitFault (source_in typed)) }
+        ensures made { MatchResult result
+            (λ framed. (framed ≡ source_in typed) × KeepsLimits (source_in typed))
+            (IsLimitFault (source_in typed)) }
         ensures sound { IfOk result IsSound }
     {
         order_is_of_source();
@@ -398,7 +414,7 @@ impl Framed {
         judged(alloc, logic, &order)
     }
 
-    /// The same logic. Fails if allocation fails.
+    /// The same logic.
     pub fn copy(&self, alloc: Global) -> Result<Framed, AllocError>
         ensures { IfOk result (λ copy. copy ≡ self.now) }
     {
@@ -468,7 +484,6 @@ impl Framed {
     }
 
     /// The cells before the first scan: each value is FALSE or 0, or the initial value that is written, and no standard block was called.
-    /// Fails if allocation fails.
     pub fn opening(&self, alloc: Global) -> Result<Cells, AllocError>
         ensures { IfOk result (λ cells. StandFor self.now cells (opening self.now)) }
     {
@@ -485,11 +500,14 @@ impl Framed {
     ) -> Result<(Walked, u128), AllocError>
         requires there { program < length self.now.programs }
         requires cells { HasCells self.now cells.old }
-        ensures ran { IfOk result (λ ended. (w : World) → StandFor self.now cells.old w → Agree self.now (run_program self.now program moment w) (ran self.now ended.0 cells.new)) }
+        ensures ran { IfOk result (λ ended. (w : World) → StandFor self.now cells.old w
+            → Agree self.now (run_program self.now program moment w) (ran self.now ended.0 cells.new)) }
         ensures within { IfOk result (λ ended. IsWithin self.now ended.0) }
         ensures shape { HasCells self.now cells.new }
-        ensures count { IfOk result (λ ended. TakesInstructions self.now program moment cells.old ended.1) }
-        ensures cost { IfOk result (λ ended. ended.1 ≤ 4 * get_or (program_costs self.now) program 0 + 4) }
+        ensures count { IfOk result (λ ended. TakesInstructions self.now program moment cells.old
+            ended.1) }
+        ensures cost { IfOk result (λ ended. ended.1
+            ≤ 4 * get_or (program_costs self.now) program 0 + 4) }
         ensures kept { IfErr result (λ _. cells.new ≡ cells.old) }
     {
         frames_agree();
@@ -529,16 +547,18 @@ impl Framed {
     pub fn path_base(&self, program: usize) -> u32
         requires { program < length self.now.programs }
         ensures base { result ≡ program_paths_base self.now program }
-        ensures fits { program_paths_base self.now program + length (paths_in self.now program) < 2 ^ 32 }
+        ensures fits { program_paths_base self.now program + length (paths_in self.now program)
+            < 2 ^ 32 }
     {
         self.paths[program]
     }
 
-    /// Adds the text of the path of a number: the names of the program and of the instances below it, as declared, with points between them.
-    /// Fails if allocation fails; what was added then is of no use.
+    /// Adds the text of the path of a number: the names of the program and of the instances below it, as declared, with points between them. Fails if
+    /// memory is refused; what was added then is of no use.
     pub fn push_path(&self, path: u32, text: &mut String) -> Result<(), AllocError>
         requires { path < length (paths_of self.now) }
-        ensures { IfOk result (λ _. string_bytes text.new ≡ string_bytes text.old ++ path_text (slice_index_or (paths_of self.now) path [])) }
+        ensures { IfOk result (λ _. string_bytes text.new
+            ≡ string_bytes text.old ++ path_text (slice_index_or (paths_of self.now) path [])) }
     {
         frames_have_paths();
         let programs = self.programs.as_slice();

@@ -28,7 +28,7 @@ impl Drop for Heading {
     }
 }
 
-/// The same variables of a routine in the same order. Fails if memory was refused.
+/// The same variables of a routine in the same order.
 fn copy_locals(alloc: Global, locals: &[Local]) -> Result<Vec<Local>, AllocError>
     ensures { IfOk result (λ copies. copies.items ≡ locals.now) }
 {
@@ -42,7 +42,7 @@ fn copy_locals(alloc: Global, locals: &[Local]) -> Result<Vec<Local>, AllocError
     Ok(copies)
 }
 
-/// The same arrays in the same order. Fails if memory was refused.
+/// The same arrays in the same order.
 pub fn copy_rows(alloc: Global, rows: &[Row]) -> Result<Vec<Row>, AllocError>
     ensures { IfOk result (λ copies. copies.items ≡ rows.now) }
 {
@@ -57,7 +57,7 @@ pub fn copy_rows(alloc: Global, rows: &[Row]) -> Result<Vec<Row>, AllocError>
     Ok(copies)
 }
 
-/// The same instances in the same order. Fails if memory was refused.
+/// The same instances in the same order.
 fn copy_instances(alloc: Global, instances: &[Instance]) -> Result<Vec<Instance>, AllocError>
     ensures { IfOk result (λ copies. copies.items ≡ instances.now) }
 {
@@ -71,7 +71,7 @@ fn copy_instances(alloc: Global, instances: &[Instance]) -> Result<Vec<Instance>
     Ok(copies)
 }
 
-/// The heading of a routine. Fails if memory was refused.
+/// The heading of a routine.
 fn heading_of(alloc: Global, routine: &Routine) -> Result<Heading, AllocError>
     ensures { IfOk result (λ heading. view_heading heading ≡ heading_of (view_routine routine.now)) }
 {
@@ -83,9 +83,10 @@ fn heading_of(alloc: Global, routine: &Routine) -> Result<Heading, AllocError>
     })
 }
 
-/// The headings of routines, in order. Fails if memory was refused.
+/// The headings of routines, in order.
 pub fn headings_of(alloc: Global, routines: &[Routine]) -> Result<Vec<Heading>, AllocError>
-    ensures { IfOk result (λ headings. map view_heading headings.items ≡ map heading_of (map view_routine routines.now)) }
+    ensures { IfOk result (λ headings. map view_heading headings.items
+        ≡ map heading_of (map view_routine routines.now)) }
 {
     let mut headings = Vec::with_capacity(alloc, routines.len())?;
     for routine in routines {
@@ -94,7 +95,7 @@ pub fn headings_of(alloc: Global, routines: &[Routine]) -> Result<Vec<Heading>, 
     Ok(headings)
 }
 
-/// The same heading. Fails if memory was refused.
+/// The same heading.
 fn copy_heading(alloc: Global, heading: &Heading) -> Result<Heading, AllocError>
     ensures { IfOk result (λ copy. view_heading copy ≡ view_heading heading.now) }
 {
@@ -106,7 +107,7 @@ fn copy_heading(alloc: Global, heading: &Heading) -> Result<Heading, AllocError>
     })
 }
 
-/// The same headings in the same order. Fails if memory was refused.
+/// The same headings in the same order.
 pub fn copy_headings(alloc: Global, headings: &[Heading]) -> Result<Vec<Heading>, AllocError>
     ensures { IfOk result (λ copies. map view_heading copies.items ≡ map view_heading headings.now) }
 {
@@ -117,7 +118,7 @@ pub fn copy_headings(alloc: Global, headings: &[Heading]) -> Result<Vec<Heading>
     Ok(copies)
 }
 
-/// The same globals in the same order. Fails if memory was refused.
+/// The same globals in the same order.
 pub fn copy_variables(alloc: Global, variables: &[Variable]) -> Result<Vec<Variable>, AllocError>
     ensures { IfOk result (λ copies. copies.items ≡ variables.now) }
 {

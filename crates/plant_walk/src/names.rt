@@ -9,7 +9,7 @@ use plant_logic::Variable;
 use std::alloc::{AllocError, Global};
 use word_index::Names;
 
-/// The names of globals in order of declaration, of which no two are the same word. Fails if allocation fails.
+/// The names of globals in order of declaration, of which no two are the same word.
 pub fn global_names(alloc: Global, globals: &[Variable]) -> Result<Names, AllocError>
     requires { repeats (global_words globals.now) ≡ false }
     ensures { IfOk result (λ names. names ≡ global_names globals.now) }

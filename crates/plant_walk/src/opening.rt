@@ -22,9 +22,13 @@ pub fn start_programs(
     cells: &mut Cells,
 )
     requires frames { IsFrames (source_of logic.now) order.now frames.now }
-    requires values { AreBases (program_values_base (source_of logic.now)) (length (source_of logic.now).programs) values.now }
-    requires clocks { AreBases (program_clocks_base (source_of logic.now)) (length (source_of logic.now).programs) clocks.now }
-    ensures { cells.new ≡ programs_started (source_of logic.now) order.now frames.now (length (source_of logic.now).programs) 0 cells.old }
+    requires values { AreBases (program_values_base (source_of logic.now))
+        (length (source_of logic.now).programs) values.now }
+    requires clocks { AreBases (program_clocks_base (source_of logic.now))
+        (length (source_of logic.now).programs) clocks.now }
+    ensures { cells.new
+        ≡ programs_started (source_of logic.now) order.now frames.now
+        (length (source_of logic.now).programs) 0 cells.old }
 {
     let globals = values[0];
     let mut place = order.len();

@@ -47,7 +47,7 @@ fn routine_count(counts: &[u32], seats: &[Seat]) -> u32
     total
 }
 
-/// How many paths each frame has, up to where counts stop. Fails if allocation fails.
+/// How many paths each frame has, up to where counts stop.
 fn count_frames(alloc: Global, frames: &[Frame]) -> Result<Vec<u32>, AllocError>
     ensures { IfOk result (λ counts. ArePathsCounted frames.now (length frames.now) counts.items) }
 {
@@ -59,8 +59,8 @@ fn count_frames(alloc: Global, frames: &[Frame]) -> Result<Vec<u32>, AllocError>
     Ok(counts)
 }
 
-/// The number of the first path of each program, and behind them the number of all paths. No count stops that is needed here: a program has at
-/// most one path more than its size. Fails if allocation fails.
+/// The number of the first path of each program, and behind them the number of all paths. No count stops that is needed here: a program has at most
+/// one path more than its size.
 pub fn path_bases(
     alloc: Global,
     logic: &Logic,
@@ -70,8 +70,10 @@ pub fn path_bases(
     requires frames { IsFrames (source_of logic.now) order.now frames.now }
     requires below { AreBelow (source_of logic.now).blocks order.now }
     requires sound { IsSound (source_of logic.now) }
-    ensures bases { IfOk result (λ row. AreBases (program_paths_base (source_of logic.now)) (length (source_of logic.now).programs) row.items) }
-    ensures fit { IfOk result (λ _. program_paths_base (source_of logic.now) (length (source_of logic.now).programs) < 2 ^ 32) }
+    ensures bases { IfOk result (λ row. AreBases (program_paths_base (source_of logic.now))
+        (length (source_of logic.now).programs) row.items) }
+    ensures fit { IfOk result (λ _. program_paths_base (source_of logic.now)
+        (length (source_of logic.now).programs) < 2 ^ 32) }
 {
     frames_have_paths();
     let counts = count_frames(alloc, frames)?;

@@ -21,7 +21,7 @@ pub struct Standards {
     pub bases: Vec<usize>,
 }
 
-/// The standard blocks of all programs. Fails if allocation fails.
+/// The standard blocks of all programs.
 pub fn standards_of(
     alloc: Global,
     logic: &Logic,
@@ -31,8 +31,10 @@ pub fn standards_of(
     requires frames { IsFrames (source_of logic.now) order.now frames.now }
     requires below { AreBelow (source_of logic.now).blocks order.now }
     requires types { HasItsTypes (source_of logic.now) }
-    ensures list { IfOk result (λ standards. standards.list.items ≡ all_standards (source_of logic.now)) }
-    ensures bases { IfOk result (λ standards. AreBases (program_clocks_base (source_of logic.now)) (length (source_of logic.now).programs) standards.bases.items) }
+    ensures list { IfOk result (λ standards. standards.list.items
+        ≡ all_standards (source_of logic.now)) }
+    ensures bases { IfOk result (λ standards. AreBases (program_clocks_base (source_of logic.now))
+        (length (source_of logic.now).programs) standards.bases.items) }
 {
     frames_have_standards();
     let mut list = Vec::new(alloc);

@@ -56,8 +56,8 @@ fn value_count(counts: &[usize], routine: &Routine) -> usize
     total
 }
 
-/// How many values an instance of each block type has, up to where counts stop: a block type that no program uses may have more than any
-/// memory has room for. Fails if allocation fails.
+/// How many values an instance of each block type has, up to where counts stop: a block type that no program uses may have more than any memory has
+/// room for.
 fn count_types(alloc: Global, blocks: &[Routine], order: &[usize]) -> Result<Vec<usize>, AllocError>
     requires { AreBelow (map view_routine blocks.now) order.now }
     ensures { IfOk result (λ counts. AreCounted (map view_routine blocks.now) counts.items) }
@@ -70,12 +70,13 @@ fn count_types(alloc: Global, blocks: &[Routine], order: &[usize]) -> Result<Vec
     Ok(counts)
 }
 
-/// The number of the first value of each program, and behind them the number of all values. The order lists each block type after those
-/// that it declares. No count of a program's values stops, since the values are no more than the slots. Fails if allocation fails.
+/// The number of the first value of each program, and behind them the number of all values. The order lists each block type after those that it
+/// declares. No count of a program's values stops, since the values are no more than the slots.
 pub fn value_bases(alloc: Global, logic: &Logic, order: &[usize]) -> Result<Vec<usize>, AllocError>
     requires below { AreBelow (source_of logic.now).blocks order.now }
     requires slots { KeepsSlots (source_of logic.now) }
-    ensures { IfOk result (λ row. AreBases (program_values_base (source_of logic.now)) (length (source_of logic.now).programs) row.items) }
+    ensures { IfOk result (λ row. AreBases (program_values_base (source_of logic.now))
+        (length (source_of logic.now).programs) row.items) }
 {
     let counts = count_types(alloc, &logic.blocks, order)?;
     let mut row = Vec::new(alloc);

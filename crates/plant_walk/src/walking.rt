@@ -22,8 +22,8 @@ pub enum Walked {
 }
 
 /// Runs the code of the program of a number, from 0, over the cells. If the cells stand for a world, it ends as the source does in that world, and
-/// leaves them standing for the world that the source leaves. The moment is that of the scan, in milliseconds. The stack is memory for the run, and is first made as long as the code needs: a run on
-/// a stack that is long enough allocates nothing. Fails if allocation fails; then nothing has run.
+/// leaves them standing for the world that the source leaves. The moment is that of the scan, in milliseconds. The stack is memory for the run, and
+/// is first made as long as the code needs: a run on a stack that is long enough allocates nothing. Fails if memory is refused; then nothing has run.
 pub fn run(
     framed: &Framed,
     program: u32,
@@ -33,7 +33,8 @@ pub fn run(
 ) -> Result<Walked, AllocError>
     requires there { program < length framed.now.programs }
     requires cells { HasCells framed.now cells.old }
-    ensures ran { IfOk result (λ ended. (w : World) → StandFor framed.now cells.old w → Agree framed.now (run_program framed.now program moment w) (ran framed.now ended cells.new)) }
+    ensures ran { IfOk result (λ ended. (w : World) → StandFor framed.now cells.old w
+        → Agree framed.now (run_program framed.now program moment w) (ran framed.now ended cells.new)) }
     ensures within { IfOk result (λ ended. IsWithin framed.now ended) }
     ensures shape { HasCells framed.now cells.new }
     ensures kept { IfErr result (λ _. cells.new ≡ cells.old) }
@@ -53,10 +54,13 @@ pub fn run_counted(
 ) -> Result<(Walked, u128), AllocError>
     requires there { program < length framed.now.programs }
     requires cells { HasCells framed.now cells.old }
-    ensures ran { IfOk result (λ ended. (w : World) → StandFor framed.now cells.old w → Agree framed.now (run_program framed.now program moment w) (ran framed.now ended.0 cells.new)) }
+    ensures ran { IfOk result (λ ended. (w : World) → StandFor framed.now cells.old w
+        → Agree framed.now (run_program framed.now program moment w)
+        (ran framed.now ended.0 cells.new)) }
     ensures within { IfOk result (λ ended. IsWithin framed.now ended.0) }
     ensures shape { HasCells framed.now cells.new }
-    ensures count { IfOk result (λ ended. TakesInstructions framed.now program moment cells.old ended.1) }
+    ensures count { IfOk result (λ ended. TakesInstructions framed.now program moment cells.old
+        ended.1) }
     ensures cost { IfOk result (λ ended. ended.1 ≤ 4 * get_or (program_costs framed.now) program 0 + 4) }
     ensures kept { IfErr result (λ _. cells.new ≡ cells.old) }
 {

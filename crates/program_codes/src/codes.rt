@@ -24,7 +24,7 @@ use const_fold::{
 use plant_cells::Cells;
 use std::alloc::{AllocError, Global};
 
-/// Folds a program's frame, and puts it and its counts behind those of a table. Fails if memory was refused.
+/// Folds a program's frame, and puts it and its counts behind those of a table.
 fn push_program(
     alloc: Global,
     program: Frame,
@@ -32,9 +32,13 @@ fn push_program(
     counts: &mut FrameCounts,
 ) -> Result<(), AllocError>
     requires counted { AreCounts folded.old.items counts.old }
-    requires few { (last : Frame) → view_frame last ≡ folded_frame (view_frame program) → HasFewLines (folded.old.items ++ last ∷ []) }
-    ensures folded { IfOk result (λ _. (last : Frame) × (folded.new.items ≡ folded.old.items ++ last ∷ []) × (view_frame last ≡ folded_frame (view_frame program))) }
-    ensures counts { IfOk result (λ _. (count : Count) × (counts.new.frames.items ≡ counts.old.frames.items ++ count ∷ [])) }
+    requires few { (last : Frame) → view_frame last ≡ folded_frame (view_frame program)
+        → HasFewLines (folded.old.items ++ last ∷ []) }
+    ensures folded { IfOk result (λ _. (last : Frame)
+        × (folded.new.items ≡ folded.old.items ++ last ∷ [])
+        × (view_frame last ≡ folded_frame (view_frame program))) }
+    ensures counts { IfOk result (λ _. (count : Count)
+        × (counts.new.frames.items ≡ counts.old.frames.items ++ count ∷ [])) }
     ensures counted { IfOk result (λ _. AreCounts folded.new.items counts.new) }
 {
     let last = fold_frame(alloc, program)?;
@@ -62,18 +66,20 @@ fn code_of(
     requires named { NamesFit globals folded.now first (record { values = values; clocks = clocks }) }
     requires few { HasFewLines folded.now }
     requires cost { frame_cost folded.now (length folded.now) first ≤ cost }
-    ensures runs { IfOk result (IsCodeOf folded.now globals first (record { values = values; clocks = clocks }) cost) }
-    ensures is { IfOk result (λ code. code ≡ code_of globals folded.now first (record { values = values; clocks = clocks }) cost) }
+    ensures runs { IfOk result
+        (IsCodeOf folded.now globals first (record { values = values; clocks = clocks }) cost) }
+    ensures is { IfOk result (λ code. code
+        ≡ code_of globals folded.now first (record { values = values; clocks = clocks }) cost) }
 {
     let code = compile_counted(alloc, folded, counts, globals, first, values, clocks, cost)?;
     Ok(code)
 }
 
-/// The codes of the programs of a table, which are its frames from a number on, in their order. The rows have the numbers at which the values
-/// and the clocks of each program begin, and behind them where those of the last one end. The costs are told by the codes: no program costs more
-/// before its constants are folded. Each slot and each clock that a program names is to be a number of 32 bits, and each frame so small that its
-/// lines are numbered so, too. A program may have instances of the frames before the first program's alone. The table is taken over: the frames before
-/// the programs are let go with the last code, and each program's frame as soon as its code is there. Fails if memory was refused.
+/// The codes of the programs of a table, which are its frames from a number on, in their order. The rows have the numbers at which the values and the
+/// clocks of each program begin, and behind them where those of the last one end. The costs are told by the codes: no program costs more before its
+/// constants are folded. Each slot and each clock that a program names is to be a number of 32 bits, and each frame so small that its lines are
+/// numbered so, too. A program may have instances of the frames before the first program's alone. The table is taken over: the frames before the
+/// programs are let go with the last code, and each program's frame as soon as its code is there.
 pub fn codes_of(
     alloc: Global,
     frames: Vec<Frame>,
@@ -93,7 +99,8 @@ pub fn codes_of(
     requires there { first ≤ length frames.items }
     requires enough { CostNoMore frames.items first costs.now }
     requires apart { ProgramsUseFirst frames.items first }
-    ensures { IfOk result (λ codes. AreCodes frames.items globals first values.now clocks.now costs.now codes.items) }
+    ensures { IfOk result (λ codes. AreCodes frames.items globals first values.now clocks.now costs.now
+        codes.items) }
 {
     folded_body_does_same::<usize, Cells>();
     folded_constants_are_literals::<usize>();
@@ -118,7 +125,7 @@ pub fn codes_of(
     Ok(codes)
 }
 
-/// The same codes in the same order. Fails if allocation fails.
+/// The same codes in the same order.
 pub fn copy_codes(alloc: Global, codes: &[Code]) -> Result<Vec<Code>, AllocError>
     ensures { IfOk result (λ copies. copies.items ≡ codes.now) }
 {

@@ -8,8 +8,7 @@ use block_walk::Frame;
 use const_fold::fold_body;
 use std::alloc::{AllocError, Global};
 
-/// A frame with the constants of its body folded. Its instances and its initial values are moved; its body is let go. Fails if allocation
-/// fails.
+/// A frame with the constants of its body folded. Its instances and its initial values are moved; its body is let go.
 pub(crate) fn fold_frame(alloc: Global, frame: Frame) -> Result<Frame, AllocError>
     ensures { IfOk result (λ folded. view_frame folded ≡ folded_frame (view_frame frame)) }
 {
@@ -18,7 +17,7 @@ pub(crate) fn fold_frame(alloc: Global, frame: Frame) -> Result<Frame, AllocErro
     Ok(folded)
 }
 
-/// The frames with the constants of their bodies folded. Each body is let go as soon as its folded one is there. Fails if allocation fails.
+/// The frames with the constants of their bodies folded. Each body is let go as soon as its folded one is there.
 pub(crate) fn fold_frames(alloc: Global, frames: Vec<Frame>) -> Result<Vec<Frame>, AllocError>
     ensures { IfOk result (λ folded. AreFolded frames.items folded.items) }
 {

@@ -61,7 +61,9 @@ pub fn run_code_counted(
     requires values { code.now.values ≤ length cells.old.values }
     requires clocks { code.now.clocks ≤ length cells.old.clocks }
     requires room { code.now.stack ≤ stack.old }
-    ensures ran { (names : List Path) → run_of moment names code.now cells.old ≡ Over (ended names result.0 cells.new) (4 * code.now.cost + 4 - result.1) }
+    ensures ran { (names : List Path)
+        → run_of moment names code.now cells.old
+        ≡ Over (ended names result.0 cells.new) (4 * code.now.cost + 4 - result.1) }
     ensures count { result.1 ≤ 4 * code.now.cost + 4 }
     ensures path { IfErr result.0 (λ stop. stop.place.path < code.now.paths) }
     ensures shape { SameShape cells.new cells.old }

@@ -503,7 +503,7 @@ fn program(dice: &mut Dice, many: u32) -> Routine {
     Routine { depth, ..chosen }
 }
 
-/// A random source: two block types, and 2 to 12 programs with random bodies, which share some of the globals. Fails if memory was refused.
+/// A random source: two block types, and 2 to 12 programs with random bodies, which share some of the globals.
 pub fn source(alloc: Global, dice: &mut Dice) -> Result<Vec<u8>, AllocError> {
     let mut text = Page::new(alloc);
     text.add(GLOBALS);

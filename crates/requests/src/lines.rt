@@ -20,7 +20,9 @@ pub(crate) fn without_cr(line: &[u8]) -> &[u8]
 
 /// Returns the bytes before the first LF and those after it; `None` where there is no LF.
 pub(crate) fn split_at_lf(bytes: &[u8]) -> Option<(&[u8], &[u8])>
-    ensures { MatchOption result (has_lf bytes.now ≡ false) (λ r. (bytes.now ≡ r.0.now ++ 10 ∷ r.1.now) × (has_lf r.0.now ≡ false) × (length r.1.now < length bytes.now)) }
+    ensures { MatchOption result (has_lf bytes.now ≡ false)
+        (λ r. (bytes.now ≡ r.0.now ++ 10 ∷ r.1.now) × (has_lf r.0.now ≡ false)
+        × (length r.1.now < length bytes.now)) }
 {
     let Some(n) = memchr(b'\n', bytes) else {
         return None;

@@ -65,7 +65,8 @@ pub struct Taken<'a> {
 
 /// Holds more bytes of a line, as many as there is room for up to `MOST_HELD`.
 fn hold(held: &mut Vec<u8>, bytes: &[u8]) -> Result<(), AllocError>
-    ensures ok { OnOk result (held.new.items ≡ held.old.items ++ take (1048578 - length held.old.items) bytes.now) }
+    ensures ok { OnOk result
+        (held.new.items ≡ held.old.items ++ take (1048578 - length held.old.items) bytes.now) }
     ensures err { OnErr result (held.new.items ≡ held.old.items) }
 {
     let room = MOST_HELD.saturating_sub(held.len());
@@ -121,7 +122,8 @@ impl Splitter {
     fn take_line<'a>(&mut self, line: &'a [u8]) -> Result<Ended<'a>, AllocError>
         requires in_line { has_lf self.old ≡ false }
         requires lf { has_lf line.now ≡ false }
-        ensures { IfOk result (λ ended. (begun : List ℕ) → IsHeld begun self.old → Takes begun (line.now ++ 10 ∷ []) ended self.new) }
+        ensures { IfOk result (λ ended. (begun : List ℕ) → IsHeld begun self.old
+            → Takes begun (line.now ++ 10 ∷ []) ended self.new) }
     {
         if self.held.is_empty() {
             let bare = without_cr(line);
@@ -188,7 +190,8 @@ impl Splitter {
     /// The request that the end of the input ends: what was held, which may be a line without its LF, or a body that is too short; `None` where nothing
     /// was. Nothing is held then.
     pub fn end(&mut self) -> Option<Held>
-        ensures last { (begun : List ℕ) → IsHeld begun self.old → AskAlike (held_requests result) (last_request begun) }
+        ensures last { (begun : List ℕ) → IsHeld begun self.old
+            → AskAlike (held_requests result) (last_request begun) }
         ensures held { self.new ≡ [] }
     {
         if self.held.is_empty() {

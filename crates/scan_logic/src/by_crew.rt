@@ -39,7 +39,9 @@ fn run_in_levels<C: Crew<Job, Start, Done, H>, H>(
     requires levels { AreLevelsOf framed.now levelled.now }
     requires flags { length faulted.old.items ≡ length framed.now.programs }
     requires cells { HasCells framed.now cells.old }
-    ensures ran { IfOk result (λ faults. (w : World) → StandFor framed.now cells.old w → ProgramsRan framed.now (programs_from framed.now moment 0 faulted.old.items w) cells.new faulted.new.items (map (placed_fault framed.now) faults.items)) }
+    ensures ran { IfOk result (λ faults. (w : World) → StandFor framed.now cells.old w
+        → ProgramsRan framed.now (programs_from framed.now moment 0 faulted.old.items w) cells.new
+        faulted.new.items (map (placed_fault framed.now) faults.items)) }
     ensures told { IfOk result (λ faults. All (λ fault. IsOfProgram framed.now fault) faults.items) }
     ensures faults { C.faulted crew.new ≡ faults_after (C.faulted crew.old) result }
 {
@@ -87,8 +89,11 @@ pub fn run_by_crew<C: Crew<Job, Start, Done, H>, H>(
     requires levels { AreLevelsOf framed.now levelled.now }
     requires flags { length faulted.old.items ≡ length framed.now.programs }
     requires cells { HasCells framed.now cells.old }
-    ensures ran { IfOk result (λ faults. (w : World) → StandFor framed.now cells.old w → ProgramsRan framed.now (programs_from framed.now moment 0 faulted.old.items w) cells.new faulted.new.items faults.items) }
-    ensures within { IfOk result (λ faults. All (λ f. f.0.path < length (paths_of framed.now)) faults.items) }
+    ensures ran { IfOk result (λ faults. (w : World) → StandFor framed.now cells.old w
+        → ProgramsRan framed.now (programs_from framed.now moment 0 faulted.old.items w) cells.new
+        faulted.new.items faults.items) }
+    ensures within { IfOk result (λ faults. All (λ f. f.0.path < length (paths_of framed.now))
+        faults.items) }
     ensures faults { C.faulted crew.new ≡ faults_after (C.faulted crew.old) result }
 {
     place_is_in_source();

@@ -13,8 +13,7 @@ use plant_types::{Place, Trap};
 use plant_walk::{Framed, Stack, Walked, run, sound_source_is_small};
 use std::alloc::AllocError;
 
-/// Runs the program of a number, from 0, unless it is faulted, and returns its fault. What it assigned before a fault is kept. Fails if
-/// allocation fails.
+/// Runs the program of a number, from 0, unless it is faulted, and returns its fault. What it assigned before a fault is kept.
 fn run_program(
     framed: &Framed,
     program: u32,
@@ -26,7 +25,9 @@ fn run_program(
     requires there { program < length framed.now.programs }
     requires cells { HasCells framed.now cells.old }
     ensures cells { HasCells framed.now cells.new }
-    ensures ran { IfOk result (λ fault. (w : World) → StandFor framed.now cells.old w → Agree framed.now (run_by is_faulted framed.now program moment w) (ended_by framed.now fault cells.new)) }
+    ensures ran { IfOk result (λ fault. (w : World) → StandFor framed.now cells.old w
+        → Agree framed.now (run_by is_faulted framed.now program moment w)
+        (ended_by framed.now fault cells.new)) }
     ensures within { IfOk result (λ fault. IfSome fault (λ f. f.0.path < length (paths_of framed.now))) }
 {
     if is_faulted {
@@ -41,7 +42,7 @@ fn run_program(
 /// Runs the programs in order, but for those that are faulted, and lists the faults in place of those listed before. A program that traps is
 /// faulted from then on. The moment is that of the scan, in milliseconds.
 ///
-/// Fails if allocation fails.
+/// Fails if memory is refused.
 pub fn run_in_order(
     framed: &Framed,
     moment: u64,
@@ -52,7 +53,10 @@ pub fn run_in_order(
 ) -> Result<(), AllocError>
     requires flags { length faulted.old.items ≡ length framed.now.programs }
     requires cells { HasCells framed.now cells.old }
-    ensures ran { OnOk result ((w : World) → StandFor framed.now cells.old w → ProgramsRan framed.now (programs_from framed.now moment 0 faulted.old.items w) cells.new faulted.new.items faults.new.items) }
+    ensures ran { OnOk result
+        ((w : World) → StandFor framed.now cells.old w
+        → ProgramsRan framed.now (programs_from framed.now moment 0 faulted.old.items w) cells.new
+        faulted.new.items faults.new.items) }
     ensures within { OnOk result (All (λ f. f.0.path < length (paths_of framed.now)) faults.new.items) }
 {
     sound_source_is_small();

@@ -38,8 +38,7 @@ impl Model for Levelled {
 }
 
 impl Levelled {
-    /// The programs of a plant in levels. It takes time in proportion to the plant's values and to the size of its programs. Fails only where
-    /// memory was refused.
+    /// The programs of a plant in levels. It takes time in proportion to the plant's values and to the size of its programs.
     pub fn of(alloc: Global, framed: &Framed) -> Result<Levelled, AllocError>
         ensures { IfOk result (AreLevelsOf framed.now) }
     {

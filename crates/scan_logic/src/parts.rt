@@ -12,7 +12,7 @@ use slice_store::Parts;
 use std::alloc::{AllocError, Global};
 use std::sync::Arc;
 
-/// Makes a table as long as a code needs it. Fails if memory was refused.
+/// Makes a table as long as a code needs it.
 fn make_room(table: &mut Vec<u32>, many: usize) -> Result<(), AllocError>
     requires table { length table.old.items ≤ 2 ^ 32 }
     requires many { many ≤ 65536 }
@@ -25,7 +25,7 @@ fn make_room(table: &mut Vec<u32>, many: usize) -> Result<(), AllocError>
     Ok(())
 }
 
-/// The part of a code, made with tables that may have served other codes. Fails if memory was refused.
+/// The part of a code, made with tables that may have served other codes.
 fn part_of(
     alloc: Global,
     code: &Code,
@@ -45,7 +45,7 @@ fn part_of(
     relocate(alloc, code, slots.as_mut_slice(), clocks.as_mut_slice())
 }
 
-/// The parts of all programs' codes, in program order. Fails if memory was refused.
+/// The parts of all programs' codes, in program order.
 pub fn parts_of(alloc: Global, framed: &Framed) -> Result<Vec<Part>, AllocError>
     ensures parts { IfOk result (λ parts. AreProgramParts framed.now parts.items) }
     ensures few { IfOk result (λ parts. length parts.items ≤ 512) }
@@ -61,7 +61,7 @@ pub fn parts_of(alloc: Global, framed: &Framed) -> Result<Vec<Part>, AllocError>
     Ok(parts)
 }
 
-/// Parts that threads share as one list. Fails if memory was refused.
+/// Parts that threads share as one list.
 pub fn shared(alloc: Global, parts: Vec<Part>) -> Result<Arc<Parts>, AllocError>
     ensures { IfOk result (λ shared. arc_value shared ≡ parts.items) }
 {

@@ -22,7 +22,7 @@ fn placed(framed: &Framed, fault: &ProgramFault) -> (Place, Trap)
     (placed, fault.stop.trap)
 }
 
-/// Faults, with the numbers that their paths have among those of all programs. Fails if memory was refused.
+/// Faults, with the numbers that their paths have among those of all programs.
 pub fn all_placed(
     alloc: Global,
     framed: &Framed,

@@ -21,7 +21,7 @@ use plant_walk::Framed;
 use slice_store::{Done, Job, Start};
 use std::alloc::{AllocError, Global};
 
-/// Makes the levels of a plant's programs, unless they are there or the crew that is to run these is alone. Fails if memory was refused.
+/// Makes the levels of a plant's programs, unless they are there or the crew that is to run these is alone.
 pub fn plan_levels(
     alloc: Global,
     framed: &Framed,
@@ -60,7 +60,10 @@ pub fn run_programs<C: Crew<Job, Start, Done, H>, H>(
     requires levels { IfSome levels.now (AreLevelsOf framed.now) }
     requires flags { length faulted.old.items ≡ length framed.now.programs }
     requires cells { HasCells framed.now cells.old }
-    ensures ran { OnOk result ((w : World) → StandFor framed.now cells.old w → ProgramsRan framed.now (programs_from framed.now moment 0 faulted.old.items w) cells.new faulted.new.items faults.new.items) }
+    ensures ran { OnOk result
+        ((w : World) → StandFor framed.now cells.old w
+        → ProgramsRan framed.now (programs_from framed.now moment 0 faulted.old.items w) cells.new
+        faulted.new.items faults.new.items) }
     ensures within { OnOk result (All (λ f. f.0.path < length (paths_of framed.now)) faults.new.items) }
     ensures faults { C.faulted crew.new ≡ faults_after (C.faulted crew.old) result }
 {

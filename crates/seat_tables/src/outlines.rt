@@ -17,7 +17,7 @@ impl Drop for Outline {
     }
 }
 
-/// The outlines of frames, in the same order. Fails if memory was refused.
+/// The outlines of frames, in the same order.
 pub fn outlines_of(alloc: Global, frames: &[Frame]) -> Result<Vec<Outline>, AllocError>
     ensures { IfOk result (λ outlines. AreOutlines frames.now outlines.items) }
 {
@@ -30,7 +30,7 @@ pub fn outlines_of(alloc: Global, frames: &[Frame]) -> Result<Vec<Outline>, Allo
     Ok(outlines)
 }
 
-/// The same outlines in the same order. Fails if memory was refused.
+/// The same outlines in the same order.
 pub fn copy_outlines(alloc: Global, outlines: &[Outline]) -> Result<Vec<Outline>, AllocError>
     ensures { IfOk result (λ copies. map seats_in copies.items ≡ map seats_in outlines.now) }
 {

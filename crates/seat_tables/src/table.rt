@@ -43,7 +43,7 @@ impl Model for SeatTable {
 }
 
 impl SeatTable {
-    /// The instances of frames, which aren't needed any more. Fails if memory was refused.
+    /// The instances of frames, which aren't needed any more.
     pub fn of(alloc: Global, frames: &Vec<Frame>) -> Result<SeatTable, AllocError>
         ensures { IfOk result (λ table. table ≡ frames.now.items) }
     {
@@ -54,7 +54,7 @@ impl SeatTable {
         })
     }
 
-    /// The same table. Fails if memory was refused.
+    /// The same table.
     pub fn copy(&self, alloc: Global) -> Result<SeatTable, AllocError>
         ensures { IfOk result (λ copy. copy ≡ self.now) }
     {
@@ -70,7 +70,9 @@ impl SeatTable {
     pub fn push_path(&self, k: usize, path: u32, text: &mut String) -> Result<(), AllocError>
         requires in_turn { AreInTurn self.now }
         requires path { path < length (frame_paths self.now (length self.now) k) }
-        ensures { IfOk result (λ _. string_bytes text.new ≡ string_bytes text.old ++ path_suffix (slice_index_or (frame_paths self.now (length self.now) k) path [])) }
+        ensures { IfOk result (λ _. string_bytes text.new
+            ≡ string_bytes text.old
+            ++ path_suffix (slice_index_or (frame_paths self.now (length self.now) k) path [])) }
     {
         push_within(self, self.outlines.len(), k, path, text)
     }
@@ -118,7 +120,9 @@ fn push_within(
     requires there { limit ≤ length table.now }
     requires in_turn { AreInTurn table.now }
     requires path { path < length (frame_paths table.now limit k) }
-    ensures { IfOk result (λ _. string_bytes text.new ≡ string_bytes text.old ++ path_suffix (slice_index_or (frame_paths table.now limit k) path [])) }
+    ensures { IfOk result (λ _. string_bytes text.new
+        ≡ string_bytes text.old
+        ++ path_suffix (slice_index_or (frame_paths table.now limit k) path [])) }
 {
     let outline = &table.outlines[k];
     if path == 0 {

@@ -10,7 +10,9 @@ use byte_streams::Sink;
 /// Writes all of a text. Fails only if a write fails.
 pub fn put_all<S: Sink>(sink: &mut S, text: &[u8]) -> Result<(), ServeFault>
     ensures ok { OnOk result (Appends (S.written sink.old) (S.written sink.new) text.now) }
-    ensures err { OnErr result ((part : List ℕ) × (more : List ℕ) × (text.now ≡ part ++ more) × Appends (S.written sink.old) (S.written sink.new) part) }
+    ensures err { OnErr result
+        ((part : List ℕ) × (more : List ℕ) × (text.now ≡ part ++ more)
+        × Appends (S.written sink.old) (S.written sink.new) part) }
     ensures fault { IfErr result (λ e. e ≡ ServeFault.Write) }
     ensures read { is_read result ≡ false }
     ensures crew { is_crew result ≡ false }

@@ -8,5 +8,6 @@ ghost use Rattle.shift_report.specs.Shifts.{telling_of};
 /// Orders are told alike only where their verbs, with the times of shelvings, their targets and their refusals are the same. So notes of which
 /// `are_told` is true are of the very orders.
 pub fn tellings_tell_apart()
-    ensures { (v w : Verb) (t u : Option ℕ) (r s : Option OrderFault) → telling_of v t r ≡ telling_of w u s → (v ≡ w) × (t ≡ u) × (r ≡ s) }
+    ensures { (v w : Verb) (t u : Option ℕ) (r s : Option OrderFault)
+        → telling_of v t r ≡ telling_of w u s → (v ≡ w) × (t ≡ u) × (r ≡ s) }
 {}

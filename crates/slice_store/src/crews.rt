@@ -21,7 +21,8 @@ impl<H: Threads + Sync> Crew<Job, Start, Done, H> for Scoped<Ungated> {
     fn run(&mut self, rt: &H, alloc: Global, jobs: Vec<Job>) -> Result<Vec<Done>, CrewFault>
         requires asked { IsSync H.row }
         requires numbered { AreNumbered (λ start. start.number) (map (λ job. job) jobs.items) }
-        ensures each { IfOk result (λ runs. IsEachOnce (map (λ job. job) jobs.items) (map (λ done. done) runs.items)) }
+        ensures each { IfOk result (λ runs. IsEachOnce (map (λ job. job) jobs.items)
+            (map (λ done. done) runs.items)) }
         ensures faults { 0 ≡ faults_after 0 result }
         ensures alone { ⊥ → IsMemoryAtMost result × ⊥ }
     {
@@ -49,7 +50,8 @@ impl<H: Threads + Sync> Crew<Job, Start, Done, H> for Scoped<BoxedGate> {
     fn run(&mut self, rt: &H, alloc: Global, jobs: Vec<Job>) -> Result<Vec<Done>, CrewFault>
         requires asked { IsSync H.row }
         requires numbered { AreNumbered (λ start. start.number) (map (λ job. job) jobs.items) }
-        ensures each { IfOk result (λ runs. IsEachOnce (map (λ job. job) jobs.items) (map (λ done. done) runs.items)) }
+        ensures each { IfOk result (λ runs. IsEachOnce (map (λ job. job) jobs.items)
+            (map (λ done. done) runs.items)) }
         ensures faults { 0 ≡ faults_after 0 result }
         ensures alone { ⊥ → IsMemoryAtMost result × ⊥ }
     {

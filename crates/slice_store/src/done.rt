@@ -88,7 +88,9 @@ fn run_in(
     requires values { code.now.values ≤ length cells.old.values }
     requires clocks { code.now.clocks ≤ length cells.old.clocks }
     requires room { code.now.stack ≤ length stack.old }
-    ensures ran { (names : List Path) → run_of moment names code.now cells.old ≡ Over (ended names result.0 cells.new) (4 * code.now.cost + 4 - result.1) }
+    ensures ran { (names : List Path)
+        → run_of moment names code.now cells.old
+        ≡ Over (ended names result.0 cells.new) (4 * code.now.cost + 4 - result.1) }
     ensures path { IfErr result.0 (λ stop. stop.place.path < code.now.paths) }
     ensures shape { SameShape cells.new cells.old }
 {
@@ -112,7 +114,8 @@ fn put_part(part: &Part, left: &Cells, values: &mut [i64], clocks: &mut [Clock])
     requires inside { HasPart part.now (record { values = values.old; clocks = clocks.old }) }
     requires values { length left.now.values ≡ length part.now.slots }
     requires clocks { length left.now.clocks ≡ length part.now.clocks }
-    ensures { PutsPart part.now left.now (record { values = values.old; clocks = clocks.old }) (record { values = values.new; clocks = clocks.new }) }
+    ensures { PutsPart part.now left.now (record { values = values.old; clocks = clocks.old })
+        (record { values = values.new; clocks = clocks.new }) }
 {
     part.put_written(left, values);
     put_clocks(part.clocks(), left.clocks(), clocks);
@@ -200,7 +203,8 @@ impl Done {
     pub(crate) fn take_into(&self, values: &mut [i64], clocks: &mut [Clock], faulted: &mut [bool])
         requires inside { HasPart self.now.part (record { values = values.old; clocks = clocks.old }) }
         requires numbered { (0 < self.now.number) × (self.now.number ≤ length faulted.old) }
-        ensures { Takes self.now (record { values = values.old; clocks = clocks.old }) faulted.old (record { values = values.new; clocks = clocks.new }) faulted.new }
+        ensures { Takes self.now (record { values = values.old; clocks = clocks.old }) faulted.old
+            (record { values = values.new; clocks = clocks.new }) faulted.new }
     {
         let Run {
             start,

@@ -45,7 +45,8 @@ impl Out {
 
 /// The place of a run's start among those that are out, if it is there.
 fn place_of(out: &[Out], done: &Done) -> Option<usize>
-    ensures { MatchOption result (Contains out.now done.now → ⊥) (λ i. (i < length out.now) × (slice_index_or out.now i done.now ≡ done.now)) }
+    ensures { MatchOption result (Contains out.now done.now → ⊥)
+        (λ i. (i < length out.now) × (slice_index_or out.now i done.now ≡ done.now)) }
 {
     for (i, o) in out.iter().enumerate() {
         if o.is(done) {
@@ -92,8 +93,10 @@ fn tick_off(out: &[Out], runs: &[Done], ticks: &mut [bool]) -> bool
 
 /// Whether all are ticked.
 fn all_ticked(ticks: &[bool]) -> bool
-    ensures all { IsTrue result → (i : ℕ) → i < length ticks.now → slice_index_or ticks.now i false ≡ true }
-    ensures one { IsFalse result → (i : ℕ) × (i < length ticks.now) × (slice_index_or ticks.now i false ≡ false) }
+    ensures all { IsTrue result → (i : ℕ) → i < length ticks.now
+        → slice_index_or ticks.now i false ≡ true }
+    ensures one { IsFalse result
+        → (i : ℕ) × (i < length ticks.now) × (slice_index_or ticks.now i false ≡ false) }
 {
     for t in ticks {
         if !*t {

@@ -35,7 +35,7 @@ impl Reserve {
         }
     }
 
-    /// Makes a place for the memory of each job up to a number. Fails if memory was refused.
+    /// Makes a place for the memory of each job up to a number.
     fn widen(&mut self, number: u32) -> Result<(), AllocError> {
         for _ in self.runs.len()..number as usize + 1 {
             self.runs.push(None)?;
@@ -43,7 +43,7 @@ impl Reserve {
         Ok(())
     }
 
-    /// Takes the memory that the job of a number left, if it left any, and makes a place for it. Fails if memory was refused.
+    /// Takes the memory that the job of a number left, if it left any, and makes a place for it.
     pub(crate) fn take(&mut self, number: u32) -> Result<Option<Box<Run>>, AllocError> {
         self.widen(number)?;
         match self.runs.get_mut(number as usize) {

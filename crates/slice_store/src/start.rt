@@ -46,8 +46,12 @@ impl Start {
     /// A start of a number, with the cells of the part of that number at a moment.
     pub(crate) fn new(number: u32, parts: Arc<Parts>, moment: u64, cells: Cells) -> Start
         requires there { HasNumber (arc_value parts) number }
-        requires runs { CanRun (record { number = number; part = part_of (arc_value parts) number; moment = moment; cells = cells }) }
-        ensures { result ≡ record { number = number; part = part_of (arc_value parts) number; moment = moment; cells = cells } }
+        requires runs { CanRun
+            (record
+            {number = number; part = part_of (arc_value parts) number; moment = moment; cells = cells}) }
+        ensures { result
+            ≡ record
+            {number = number; part = part_of (arc_value parts) number; moment = moment; cells = cells} }
     {
         Start {
             number,
@@ -89,8 +93,14 @@ impl Start {
     /// Becomes another start, and leaves its earlier cells in the place of those that it takes. It copies none of them.
     pub(crate) fn renew(&mut self, number: u32, parts: Arc<Parts>, moment: u64, cells: &mut Cells)
         requires there { HasNumber (arc_value parts) number }
-        requires runs { CanRun (record { number = number; part = part_of (arc_value parts) number; moment = moment; cells = cells.old }) }
-        ensures { self.new ≡ record { number = number; part = part_of (arc_value parts) number; moment = moment; cells = cells.old } }
+        requires runs { CanRun
+            (record
+            {number = number; part = part_of (arc_value parts) number; moment = moment; cells =
+            cells.old}) }
+        ensures { self.new
+            ≡ record
+            {number = number; part = part_of (arc_value parts) number; moment = moment; cells =
+            cells.old} }
     {
         self.number = number;
         self.parts = parts;

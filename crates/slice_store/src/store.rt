@@ -63,20 +63,25 @@ impl Model for Store {
 
 /// Puts into all values and clocks what each run's program wrote, and flags each that trapped.
 fn take_all(values: &mut [i64], clocks: &mut [Clock], faulted: &mut [bool], runs: &[Done])
-    requires { (moment : ℕ) × AreJobsOf (record { values = values.old; clocks = clocks.old }) (length faulted.old) moment runs.now }
-    ensures { TakesRuns (record { values = values.old; clocks = clocks.old }) faulted.old runs.now (record { values = values.new; clocks = clocks.new }) faulted.new }
+    requires { (moment : ℕ)
+        × AreJobsOf (record { values = values.old; clocks = clocks.old }) (length faulted.old) moment
+        runs.now }
+    ensures { TakesRuns (record { values = values.old; clocks = clocks.old }) faulted.old runs.now
+        (record { values = values.new; clocks = clocks.new }) faulted.new }
 {
     for done in runs {
         done.take_into(values, clocks, faulted);
     }
 }
 
-/// Where the job of a number starts, with the cells of its part. Fails if memory was refused.
+/// Where the job of a number starts, with the cells of its part.
 fn start_of(number: u32, parts: &Arc<Parts>, moment: u64, cells: Cells) -> Result<Start, AllocError>
     requires there { HasNumber (arc_value parts.now) number }
     requires values { length cells.values ≡ length (part_of (arc_value parts.now) number).slots }
     requires clocks { length cells.clocks ≡ length (part_of (arc_value parts.now) number).clocks }
-    ensures { IfOk result (λ start. start ≡ record { number = number; part = part_of (arc_value parts.now) number; moment = moment; cells = cells }) }
+    ensures { IfOk result (λ start. start
+        ≡ record
+        {number = number; part = part_of (arc_value parts.now) number; moment = moment; cells = cells}) }
 {
     let _code = parts.numbered(number).code();
     let parts = Arc::try_clone(parts)?;
@@ -84,7 +89,7 @@ fn start_of(number: u32, parts: &Arc<Parts>, moment: u64, cells: Cells) -> Resul
 }
 
 /// Starts in the place of an earlier start, whose cells it leaves in the place of those that it takes, and tells whether it could: not where somebody
-/// else holds that start too; then nothing changes. Fails if memory was refused.
+/// else holds that start too; then nothing changes.
 fn renewed(
     place: &mut Arc<Start>,
     number: u32,
@@ -95,7 +100,11 @@ fn renewed(
     requires there { HasNumber (arc_value parts.now) number }
     requires values { length cells.old.values ≡ length (part_of (arc_value parts.now) number).slots }
     requires clocks { length cells.old.clocks ≡ length (part_of (arc_value parts.now) number).clocks }
-    ensures put { IfOk result (λ could. IsTrue could → arc_value place.new ≡ record { number = number; part = part_of (arc_value parts.now) number; moment = moment; cells = cells.old }) }
+    ensures put { IfOk result (λ could. IsTrue could
+        → arc_value place.new
+        ≡ record
+        {number = number; part = part_of (arc_value parts.now) number; moment = moment; cells =
+        cells.old}) }
     ensures kept { IfOk result (λ could. could ≡ false → cells.new ≡ cells.old) }
 {
     let _code = parts.numbered(number).code();
@@ -109,7 +118,7 @@ fn renewed(
     }
 }
 
-/// A start that threads may share. Fails if memory was refused.
+/// A start that threads may share.
 fn shared_start(alloc: Global, start: Start) -> Result<Arc<Start>, AllocError>
     ensures { IfOk result (λ shared. arc_value shared ≡ start) }
 {
@@ -124,8 +133,7 @@ fn no_cells(alloc: Global) -> Cells {
     Cells::new(Vec::new(alloc), Vec::new(alloc))
 }
 
-/// Starts in the place of an earlier start where nobody else holds that, and else in a new one. It takes the cells, and leaves some for their memory. Fails
-/// if memory was refused.
+/// Starts in the place of an earlier start where nobody else holds that, and else in a new one. It takes the cells, and leaves some for their memory.
 fn put_start(
     alloc: Global,
     place: &mut Arc<Start>,
@@ -137,7 +145,11 @@ fn put_start(
     requires there { HasNumber (arc_value parts.now) number }
     requires values { length cells.old.values ≡ length (part_of (arc_value parts.now) number).slots }
     requires clocks { length cells.old.clocks ≡ length (part_of (arc_value parts.now) number).clocks }
-    ensures { OnOk result (arc_value place.new ≡ record { number = number; part = part_of (arc_value parts.now) number; moment = moment; cells = cells.old }) }
+    ensures { OnOk result
+        (arc_value place.new
+        ≡ record
+        {number = number; part = part_of (arc_value parts.now) number; moment = moment; cells =
+        cells.old}) }
 {
     if renewed(place, number, parts, moment, cells)? {
         return Ok(());
@@ -148,10 +160,10 @@ fn put_start(
     Ok(())
 }
 
-/// Gives a run as many cells as its start has, the words of stack that its code needs, in its own room where that serves, and what it costs. Fails if
-/// memory was refused.
+/// Gives a run as many cells as its start has, the words of stack that its code needs, in its own room where that serves, and what it costs.
 fn make_ready(alloc: Global, run: &mut Run) -> Result<(), AllocError>
-    ensures ready { OnOk result (IsReadyJob (arc_value run.new.start) run.new.cells run.new.stack.items) }
+    ensures ready { OnOk result
+        (IsReadyJob (arc_value run.new.start) run.new.cells run.new.stack.items) }
     ensures start { arc_value run.new.start ≡ arc_value run.old.start }
 {
     let Run {
@@ -175,7 +187,7 @@ fn make_ready(alloc: Global, run: &mut Run) -> Result<(), AllocError>
     Ok(())
 }
 
-/// The starts of jobs, in the room of others. Fails if memory was refused.
+/// The starts of jobs, in the room of others.
 fn starts_of(jobs: &[Job], room: Vec<Out>) -> Result<Vec<Out>, AllocError>
     ensures { IfOk result (λ out. out.items ≡ jobs.now) }
 {
@@ -187,7 +199,7 @@ fn starts_of(jobs: &[Job], room: Vec<Out>) -> Result<Vec<Out>, AllocError>
     Ok(out)
 }
 
-/// Ticks for so many jobs, all off, in the room of others. Fails if memory was refused.
+/// Ticks for so many jobs, all off, in the room of others.
 fn no_ticks(many: usize, room: Vec<bool>) -> Result<Vec<bool>, AllocError>
     ensures { IfOk result (λ ticks. ticks.items ≡ replicate many false) }
 {
@@ -215,15 +227,16 @@ impl Store {
         }
     }
 
-    /// A store that holds a copy of the values and clocks of all programs, and of which programs are faulted, at a moment in milliseconds. No job
-    /// is out. Fails if memory was refused.
+    /// A store that holds a copy of the values and clocks of all programs, and of which programs are faulted, at a moment in milliseconds. No job is
+    /// out.
     pub fn new(
         alloc: Global,
         cells: &Cells,
         faulted: &[bool],
         moment: u64,
     ) -> Result<Store, AllocError>
-        ensures { IfOk result (λ store. store ≡ record { cells = cells.now; faulted = faulted.now; moment = moment; out = [] }) }
+        ensures { IfOk result (λ store. store
+            ≡ record { cells = cells.now; faulted = faulted.now; moment = moment; out = [] }) }
     {
         let copy = cells.copy(alloc)?;
         let flags = Vec::from_slice(alloc, faulted)?;
@@ -300,16 +313,18 @@ impl Store {
         requires flagged { program < length self.now.faulted }
         ensures level { IsTrue result → slice_index levels.now program ≡ level }
         ensures sound { IsTrue result → slice_index_or self.now.faulted program false ≡ false }
-        ensures chosen { slice_index levels.now program ≡ level → slice_index_or self.now.faulted program false ≡ false → IsTrue result }
+        ensures chosen { slice_index levels.now program ≡ level
+            → slice_index_or self.now.faulted program false ≡ false → IsTrue result }
     {
         levels.of(program as u32) == level && !self.is_faulted(program)
     }
 
-    /// The job of a number, from the cells and at the moment of the store, in memory of its own. Fails if memory was refused.
+    /// The job of a number, from the cells and at the moment of the store, in memory of its own.
     fn begin_anew(&self, alloc: Global, number: u32, parts: &Arc<Parts>) -> Result<Job, AllocError>
         requires there { HasNumber (arc_value parts.now) number }
         requires inside { HasPart (part_of (arc_value parts.now) number) self.now.cells }
-        ensures { IfOk result (λ job. job ≡ begun number (part_of (arc_value parts.now) number) self.now.moment self.now.cells) }
+        ensures { IfOk result (λ job. job
+            ≡ begun number (part_of (arc_value parts.now) number) self.now.moment self.now.cells) }
     {
         let part = parts.numbered(number);
         let mut cells = no_cells(alloc);
@@ -329,7 +344,7 @@ impl Store {
         Ok(Job::new(run))
     }
 
-    /// The job of a number, from the cells and at the moment of the store, in the memory of an earlier one. Fails if memory was refused.
+    /// The job of a number, from the cells and at the moment of the store, in the memory of an earlier one.
     fn begin_again(
         &self,
         alloc: Global,
@@ -339,7 +354,8 @@ impl Store {
     ) -> Result<Job, AllocError>
         requires there { HasNumber (arc_value parts.now) number }
         requires inside { HasPart (part_of (arc_value parts.now) number) self.now.cells }
-        ensures { IfOk result (λ job. job ≡ begun number (part_of (arc_value parts.now) number) self.now.moment self.now.cells) }
+        ensures { IfOk result (λ job. job
+            ≡ begun number (part_of (arc_value parts.now) number) self.now.moment self.now.cells) }
     {
         let part = parts.numbered(number);
         let mut run = earlier;
@@ -357,8 +373,7 @@ impl Store {
         Ok(Job::new(run))
     }
 
-    /// The job of a program, from the cells and at the moment of the store, in the memory of an earlier one if there is one. Fails if memory was
-    /// refused.
+    /// The job of a program, from the cells and at the moment of the store, in the memory of an earlier one if there is one.
     fn begin_program(
         &self,
         alloc: Global,
@@ -368,7 +383,8 @@ impl Store {
     ) -> Result<Job, AllocError>
         requires there { HasNumber (arc_value parts.now) number }
         requires inside { HasPart (part_of (arc_value parts.now) number) self.now.cells }
-        ensures { IfOk result (λ job. job ≡ begun number (part_of (arc_value parts.now) number) self.now.moment self.now.cells) }
+        ensures { IfOk result (λ job. job
+            ≡ begun number (part_of (arc_value parts.now) number) self.now.moment self.now.cells) }
     {
         match reserve.take(number)? {
             Some(run) => self.begin_again(alloc, run, number, parts),
@@ -376,7 +392,7 @@ impl Store {
         }
     }
 
-    /// The jobs of a level's programs that aren't faulted, in program order, in the memory of earlier ones. Fails if memory was refused.
+    /// The jobs of a level's programs that aren't faulted, in program order, in the memory of earlier ones.
     fn begin_level(
         &self,
         alloc: Global,
@@ -385,8 +401,10 @@ impl Store {
         levels: &Levels,
         level: u32,
     ) -> Result<Vec<Job>, AllocError>
-        requires { CanSplit (arc_value parts.now) levels.now level self.now.cells (length self.now.faulted) }
-        ensures { IfOk result (λ jobs. AreJobsBefore (arc_value parts.now) levels.now level self.now (length (arc_value parts.now)) jobs.items) }
+        requires { CanSplit (arc_value parts.now) levels.now level self.now.cells
+            (length self.now.faulted) }
+        ensures { IfOk result (λ jobs. AreJobsBefore (arc_value parts.now) levels.now level self.now
+            (length (arc_value parts.now)) jobs.items) }
     {
         let many = parts.count();
         let mut jobs = Vec::with_capacity(alloc, many)?;
@@ -400,7 +418,7 @@ impl Store {
     }
 
     /// Begins a level: a job for each program of it that isn't faulted, in program order, from the cells and at the moment of the store, in the
-    /// memory of earlier jobs. No list of what is out is kept, so who begins knows what `take_in` wants to know. Fails if memory was refused.
+    /// memory of earlier jobs. No list of what is out is kept, so who begins knows what `take_in` wants to know.
     pub fn begin(
         &mut self,
         alloc: Global,
@@ -408,9 +426,12 @@ impl Store {
         levels: &Levels,
         level: u32,
     ) -> Result<Vec<Job>, AllocError>
-        requires { CanSplit (arc_value parts.now) levels.now level self.old.cells (length self.old.faulted) }
-        ensures jobs { IfOk result (λ jobs. AreJobsBefore (arc_value parts.now) levels.now level self.old (length (arc_value parts.now)) jobs.items) }
-        ensures of_cells { IfOk result (λ jobs. AreJobsOf self.old.cells (length self.old.faulted) self.old.moment jobs.items) }
+        requires { CanSplit (arc_value parts.now) levels.now level self.old.cells
+            (length self.old.faulted) }
+        ensures jobs { IfOk result (λ jobs. AreJobsBefore (arc_value parts.now) levels.now level self.old
+            (length (arc_value parts.now)) jobs.items) }
+        ensures of_cells { IfOk result (λ jobs. AreJobsOf self.old.cells (length self.old.faulted)
+            self.old.moment jobs.items) }
         ensures numbered { IfOk result (λ jobs. AreNumbered (λ s. s.number) jobs.items) }
         ensures same { self.new ≡ self.old }
     {
@@ -430,8 +451,10 @@ impl Store {
         level: u32,
     ) -> Result<Vec<Job>, AllocError>
         requires gathered { self.old.out ≡ [] }
-        requires programs { CanSplit (arc_value parts.now) levels.now level self.old.cells (length self.old.faulted) }
-        ensures jobs { IfOk result (λ jobs. AreJobsBefore (arc_value parts.now) levels.now level self.old (length (arc_value parts.now)) jobs.items) }
+        requires programs { CanSplit (arc_value parts.now) levels.now level self.old.cells
+            (length self.old.faulted) }
+        ensures jobs { IfOk result (λ jobs. AreJobsBefore (arc_value parts.now) levels.now level self.old
+            (length (arc_value parts.now)) jobs.items) }
         ensures numbered { IfOk result (λ jobs. AreNumbered (λ s. s.number) jobs.items) }
         ensures out { IfOk result (λ jobs. self.new.out ≡ jobs.items) }
         ensures refused { IfErr result (λ e. self.new.out ≡ []) }
@@ -450,7 +473,8 @@ impl Store {
     pub fn take_in(&mut self, runs: Vec<Done>)
         requires gathered { self.old.out ≡ [] }
         requires runs { AreRunsFrom self.old runs.items }
-        ensures taken { TakesRuns self.old.cells self.old.faulted runs.items self.new.cells self.new.faulted }
+        ensures taken { TakesRuns self.old.cells self.old.faulted runs.items self.new.cells
+            self.new.faulted }
         ensures gathered { self.new.out ≡ [] }
         ensures moment { self.new.moment ≡ self.old.moment }
     {
@@ -465,7 +489,9 @@ impl Store {
 
     /// Takes in one run for each job that is out, in any order. After a misfit the store isn't used again. It allocates nothing.
     pub fn gather(&mut self, runs: Vec<Done>) -> Result<(), Misfit>
-        ensures fits { OnOk result (IsEachOnce self.old.out runs.items × TakesRuns self.old.cells self.old.faulted runs.items self.new.cells self.new.faulted) }
+        ensures fits { OnOk result
+            (IsEachOnce self.old.out runs.items
+            × TakesRuns self.old.cells self.old.faulted runs.items self.new.cells self.new.faulted) }
         ensures after { OnOk result ((self.new.out ≡ []) × (self.new.moment ≡ self.old.moment)) }
         ensures misfit { IfErr result (λ e. IsMisfit self.old.out runs.items e) }
     {

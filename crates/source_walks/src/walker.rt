@@ -59,7 +59,7 @@ impl Model for Walker {
     ghost invariant = { λ w. IsWalker (source_of w.logic) w.order.items w.frames.items w.values.items w.clocks.items w.paths.items };
 }
 
-/// A sound source whose programs can be walked. Fails if memory was refused.
+/// A sound source whose programs can be walked.
 fn made_of(alloc: Global, logic: Logic, order: Vec<usize>) -> Result<Walker, AllocError>
     requires sound { IsSound (source_of logic) }
     requires below { AreBelow (source_of logic).blocks order.items }
@@ -95,7 +95,8 @@ impl Walker {
     ///
     /// Fails with the first limit that it is past: `Slots`, `Size` or `Cost`; and with `Memory` if memory was refused.
     pub fn of(alloc: Global, typed: Typed) -> Result<Walker, LimitFault>
-        ensures { MatchResult result (λ walker. walker ≡ source_in typed) (IsLimitFault (source_in typed)) }
+        ensures { MatchResult result (λ walker. walker ≡ source_in typed)
+            (IsLimitFault (source_in typed)) }
     {
         order_is_of_source();
         let (logic, order) = logic_of(alloc, typed)?;
@@ -113,7 +114,8 @@ impl Walker {
     /// leaves them standing for the world that the source leaves. The moment is that of the scan, in milliseconds. It allocates nothing.
     pub fn walk(&self, program: u32, cells: &mut Cells, moment: u64) -> Walked
         requires there { program < length self.now.programs }
-        ensures ran { (w : World) → StandFor self.now cells.old w → Agree self.now (run_program self.now program moment w) (ran self.now result cells.new) }
+        ensures ran { (w : World) → StandFor self.now cells.old w
+            → Agree self.now (run_program self.now program moment w) (ran self.now result cells.new) }
         ensures within { IsWithin self.now result }
     {
         frames_agree();

@@ -127,7 +127,8 @@ fn climb(
     level_wanted: u32,
     reader: &mut Reader,
 ) -> Result<(Expr<Text>, u32), Stop>
-    ensures read { Returns (λ x. (view_expr x.0, x.1, reader.new)) result (climb limit level_wanted reader.old) }
+    ensures read { Returns (λ x. (view_expr x.0, x.1, reader.new)) result
+        (climb limit level_wanted reader.old) }
     ensures deep { IfOk result (λ x. x.1 ≤ limit) }
 {
     if limit == 0 {
@@ -152,7 +153,8 @@ fn leaf(value: Value, reader: &mut Reader) -> (Expr<Text>, u32)
 #[tactic(auto, unfolding(crate::specs::Reading::operand))]
 fn operand(alloc: Global, deeper: u32, reader: &mut Reader) -> Result<(Expr<Text>, u32), Stop>
     requires { deeper < u32.MAX }
-    ensures read { Returns (λ x. (view_expr x.0, x.1, reader.new)) result (operand_at (climb deeper) reader.old) }
+    ensures read { Returns (λ x. (view_expr x.0, x.1, reader.new)) result
+        (operand_at (climb deeper) reader.old) }
     ensures deep { IfOk result (λ x. x.1 ≤ deeper + 1) }
 {
     match reader.peek() {
@@ -196,7 +198,8 @@ fn reference(
     reader: &mut Reader,
 ) -> Result<(Expr<Text>, u32), Stop>
     requires { deeper < u32.MAX }
-    ensures read { Returns (λ x. (view_expr x.0, x.1, reader.new)) result (reference_at (climb deeper) word reader.old) }
+    ensures read { Returns (λ x. (view_expr x.0, x.1, reader.new)) result
+        (reference_at (climb deeper) word reader.old) }
     ensures deep { IfOk result (λ x. x.1 ≤ deeper + 1) }
 {
     if reader.is_symbol(Symbol::Point) {
@@ -220,7 +223,8 @@ fn indexed(
     reader: &mut Reader,
 ) -> Result<(Expr<Text>, u32), Stop>
     requires { deeper < u32.MAX }
-    ensures read { Returns (λ x. (view_expr x.0, x.1, reader.new)) result (index_at (climb deeper) word (drop 1 reader.old)) }
+    ensures read { Returns (λ x. (view_expr x.0, x.1, reader.new)) result
+        (index_at (climb deeper) word (drop 1 reader.old)) }
     ensures deep { IfOk result (λ x. x.1 ≤ deeper + 1) }
 {
     if deeper == 0 {
@@ -249,7 +253,8 @@ fn element_of(alloc: Global, name: Text, index: Expr<Text>) -> Result<Expr<Text>
 #[cycle(expr)]
 fn minus(alloc: Global, deeper: u32, reader: &mut Reader) -> Result<(Expr<Text>, u32), Stop>
     requires { deeper < u32.MAX }
-    ensures read { Returns (λ x. (view_expr x.0, x.1, reader.new)) result (minus_at (climb deeper) reader.old) }
+    ensures read { Returns (λ x. (view_expr x.0, x.1, reader.new)) result
+        (minus_at (climb deeper) reader.old) }
     ensures deep { IfOk result (λ x. x.1 ≤ deeper + 1) }
 {
     match reader.peek() {
@@ -273,7 +278,8 @@ fn prefixed(
     reader: &mut Reader,
 ) -> Result<(Expr<Text>, u32), Stop>
     requires { deeper < u32.MAX }
-    ensures read { Returns (λ x. (view_expr x.0, x.1, reader.new)) result (prefixed_at op (climb deeper top reader.old)) }
+    ensures read { Returns (λ x. (view_expr x.0, x.1, reader.new)) result
+        (prefixed_at op (climb deeper top reader.old)) }
     ensures deep { IfOk result (λ x. x.1 ≤ deeper + 1) }
 {
     let (inner, depth) = climb(alloc, deeper, TOP, reader)?;
@@ -316,7 +322,9 @@ fn chain(
 ) -> Result<(Expr<Text>, u32), Stop>
     requires some { 0 < limit }
     requires fits { first_depth ≤ limit }
-    ensures read { Returns (λ x. (view_expr x.0, x.1, reader.new)) result (chain_at (climb (limit - 1)) (limit - 1) level_wanted limit (view_expr first) first_depth reader.old) }
+    ensures read { Returns (λ x. (view_expr x.0, x.1, reader.new)) result
+        (chain_at (climb (limit - 1)) (limit - 1) level_wanted limit (view_expr first) first_depth
+        reader.old) }
     ensures deep { IfOk result (λ x. x.1 ≤ limit) }
 {
     let mut left = first;

@@ -26,7 +26,8 @@ pub trait Phrase {
 
     /// Parses one, if one is next; `None` otherwise.
     fn parse(&self, alloc: Global, reader: &mut Reader) -> Result<Option<Self::Tree>, Stop>
-        ensures { Returns (λ tree. (option_map view tree, reader.new)) result (perhaps_at (starts self.now) (one_at self.now) reader.old) };
+        ensures { Returns (λ tree. (option_map view tree, reader.new)) result
+            (perhaps_at (starts self.now) (one_at self.now) reader.old) };
 }
 
 /// Parses as many phrases as there are, and puts them after those in `before`.
@@ -36,7 +37,9 @@ fn parse_more<P: Phrase>(
     before: Vec<P::Tree>,
     reader: &mut Reader,
 ) -> Result<Vec<P::Tree>, Stop>
-    ensures { Returns (λ all. (map P.view all.items, reader.new)) result (with_first (map P.view before.items) (all_at (P.starts phrase.now) (P.one_at phrase.now) reader.old)) }
+    ensures { Returns (λ all. (map P.view all.items, reader.new)) result
+        (with_first (map P.view before.items)
+        (all_at (P.starts phrase.now) (P.one_at phrase.now) reader.old)) }
 {
     let mut all = before;
     // Each takes at least one token.
@@ -58,7 +61,8 @@ pub fn parse_all<P: Phrase>(
     phrase: &P,
     reader: &mut Reader,
 ) -> Result<Vec<P::Tree>, Stop>
-    ensures { Returns (λ all. (map P.view all.items, reader.new)) result (all_at (P.starts phrase.now) (P.one_at phrase.now) reader.old) }
+    ensures { Returns (λ all. (map P.view all.items, reader.new)) result
+        (all_at (P.starts phrase.now) (P.one_at phrase.now) reader.old) }
 {
     parse_more(alloc, phrase, Vec::new(alloc), reader)
 }
@@ -70,7 +74,9 @@ pub fn parse_after<P: Phrase>(
     first: P::Tree,
     reader: &mut Reader,
 ) -> Result<Vec<P::Tree>, Stop>
-    ensures { Returns (λ all. (map P.view all.items, reader.new)) result (with_first (P.view first ∷ []) (all_at (P.starts phrase.now) (P.one_at phrase.now) reader.old)) }
+    ensures { Returns (λ all. (map P.view all.items, reader.new)) result
+        (with_first (P.view first ∷ [])
+        (all_at (P.starts phrase.now) (P.one_at phrase.now) reader.old)) }
 {
     let mut all = Vec::new(alloc);
     all.push(first)?;

@@ -51,7 +51,8 @@ impl<'a> Reader<'a> {
 
     /// The kind of the next token; `None` at the end.
     pub fn peek(&self) -> Option<TokenKind>
-        ensures { MatchOption result (self.now ≡ []) (λ kind. self.now ≡ lexeme_of kind (first_name self.now) ∷ drop 1 self.now) }
+        ensures { MatchOption result (self.now ≡ [])
+            (λ kind. self.now ≡ lexeme_of kind (first_name self.now) ∷ drop 1 self.now) }
     {
         let (first, _rest) = self.tokens.split_first()?;
         let kind = first.kind;

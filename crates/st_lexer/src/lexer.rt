@@ -34,7 +34,8 @@ impl<T: Drop> From<AllocFailed<T>> for LexFault {
 // Adds the token that a piece is, if it is one.
 fn push_piece(tokens: &mut Vec<Token>, piece: Piece, from: usize, n: usize) -> Result<(), LexFault>
     requires { from + n < 2 ^ 64 }
-    ensures kept { OnOk result (tokens.new.items ≡ tokens.old.items ++ tokens_of from ((piece, n) ∷ [])) }
+    ensures kept { OnOk result
+        (tokens.new.items ≡ tokens.old.items ++ tokens_of from ((piece, n) ∷ [])) }
     ensures fault { IfErr result (λ e. e ≡ LexFault.Memory) }
 {
     match piece {
@@ -50,7 +51,9 @@ fn push_piece(tokens: &mut Vec<Token>, piece: Piece, from: usize, n: usize) -> R
 
 // The fault of a text in which no piece follows these bytes.
 fn bad(before: &[u8]) -> LexFault
-    ensures { result ≡ LexFault.Bad (count_by (λ b. b == 10) before.now + 1) (suffix_len (λ b. not (b == 10)) before.now + 1) }
+    ensures { result
+        ≡ LexFault.Bad (count_by (λ b. b == 10) before.now + 1)
+        (suffix_len (λ b. not (b == 10)) before.now + 1) }
 {
     let (line, column) = place_after(before);
     LexFault::Bad { line, column }

@@ -38,7 +38,7 @@ impl<'a> Model for BodyScope<'a> {
     ghost invariant = { λ scope. scope.own ≡ own_entries scope.declared.items };
 }
 
-/// The first declaration of each name. Fails if allocation fails.
+/// The first declaration of each name.
 fn own_entries<'a>(alloc: Global, list: &[Declared<'a>]) -> Result<Table<Declared<'a>>, AllocError>
     ensures { IfOk result (λ table. table ≡ own_entries list.now) }
 {
@@ -78,7 +78,7 @@ fn can_control(declared: Option<&Declared<'_>>) -> bool
 }
 
 impl<'a> BodyScope<'a> {
-    /// The names of a body with these sections. Fails if allocation fails.
+    /// The names of a body with these sections.
     pub fn new(
         alloc: Global,
         shared: &'a SharedNames<'a>,
@@ -153,7 +153,8 @@ impl<'a> BodyScope<'a> {
 
     /// The kind of the input of an instance; `None` if there is no such input.
     fn input(&self, instance: &Text, name: &Text) -> Option<Option<Kind>>
-        ensures { result ≡ option_map (λ m. m.kind) (input_named self.now.units self.now.own instance.now name.now) }
+        ensures { result
+            ≡ option_map (λ m. m.kind) (input_named self.now.units self.now.own instance.now name.now) }
     {
         match self.type_word(instance) {
             Some(word) => {
@@ -166,7 +167,8 @@ impl<'a> BodyScope<'a> {
 
     /// The kind of the output of an instance; `None` if there is no such output.
     fn output(&self, instance: &Text, name: &Text) -> Option<Option<Kind>>
-        ensures { result ≡ option_map (λ m. m.kind) (output_named self.now.units self.now.own instance.now name.now) }
+        ensures { result
+            ≡ option_map (λ m. m.kind) (output_named self.now.units self.now.own instance.now name.now) }
     {
         match self.type_word(instance) {
             Some(word) => {

@@ -96,13 +96,14 @@ impl<'a> Declared<'a> {
     }
 }
 
-/// Appends the names that are declared together. Fails if allocation fails.
+/// Appends the names that are declared together.
 fn push_together<'a>(
     list: &mut Vec<Declared<'a>>,
     section: SectionKind,
     declaration: &'a Declaration,
 ) -> Result<(), AllocError>
-    ensures { IfOk result (λ _. list.new.items ≡ list.old.items ++ declared_together section (view_declaration declaration.now)) }
+    ensures { IfOk result (λ _. list.new.items
+        ≡ list.old.items ++ declared_together section (view_declaration declaration.now)) }
 {
     for name in &declaration.names {
         list.push(Declared {
@@ -116,9 +117,10 @@ fn push_together<'a>(
     Ok(())
 }
 
-/// Appends the names that a section declares. Fails if allocation fails.
+/// Appends the names that a section declares.
 fn push_section<'a>(list: &mut Vec<Declared<'a>>, section: &'a Section) -> Result<(), AllocError>
-    ensures { IfOk result (λ _. list.new.items ≡ list.old.items ++ declared_by (view_section section.now)) }
+    ensures { IfOk result (λ _. list.new.items
+        ≡ list.old.items ++ declared_by (view_section section.now)) }
 {
     for declaration in &section.declarations {
         push_together(list, section.kind, declaration)?;
@@ -126,7 +128,7 @@ fn push_section<'a>(list: &mut Vec<Declared<'a>>, section: &'a Section) -> Resul
     Ok(())
 }
 
-/// The names that sections declare, in order of text. Fails if allocation fails.
+/// The names that sections declare, in order of text.
 pub fn declared_in<'a>(
     alloc: Global,
     sections: &'a [Section],
@@ -140,14 +142,15 @@ pub fn declared_in<'a>(
     Ok(list)
 }
 
-/// Appends the declarations of names that are not among these, letter case ignored, the first of each name. Fails if allocation fails.
+/// Appends the declarations of names that are not among these, letter case ignored, the first of each name.
 fn push_firsts<'a>(
     alloc: Global,
     firsts: &mut Vec<Declared<'a>>,
     names: &mut Names,
     list: &[Declared<'a>],
 ) -> Result<(), AllocError>
-    ensures { IfOk result (λ _. firsts.new.items ≡ firsts.old.items ++ first_declared names.old list.now) }
+    ensures { IfOk result (λ _. firsts.new.items
+        ≡ firsts.old.items ++ first_declared names.old list.now) }
 {
     for declared in list {
         let name = declared.name();
@@ -158,7 +161,7 @@ fn push_firsts<'a>(
     Ok(())
 }
 
-/// The first declaration of each name, letter case ignored, in order of text. Fails if allocation fails.
+/// The first declaration of each name, letter case ignored, in order of text.
 pub fn first_declared<'a>(
     alloc: Global,
     list: &[Declared<'a>],

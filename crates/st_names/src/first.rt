@@ -16,23 +16,24 @@ pub trait Judge {
     /// Whether a block or program is at fault.
     ghost bad_pou: { Self → PlainPou → Bool };
 
-    /// Whether the globals of a source are at fault. Fails if allocation fails.
+    /// Whether the globals of a source are at fault.
     fn globals(&self, alloc: Global, sections: &[Section]) -> Result<bool, AllocError>
         ensures { IfOk result (λ bad. bad ≡ bad_globals self.now (map view_section sections.now)) };
 
-    /// Whether a block or program is at fault. Fails if allocation fails.
+    /// Whether a block or program is at fault.
     fn pou(&self, alloc: Global, pou: &Pou) -> Result<bool, AllocError>
         ensures { IfOk result (λ bad. bad ≡ bad_pou self.now (view_pou pou.now)) };
 }
 
-/// The first block or program of a source that is at fault. Fails if allocation fails.
+/// The first block or program of a source that is at fault.
 fn first_pou<J: Judge>(
     alloc: Global,
     judge: &J,
     source: usize,
     pous: &[Pou],
 ) -> Result<Option<UnitPlace>, AllocError>
-    ensures { IfOk result (λ place. place ≡ first_pou (J.bad_globals judge.now) (J.bad_pou judge.now) source 0 (map view_pou pous.now)) }
+    ensures { IfOk result (λ place. place
+        ≡ first_pou (J.bad_globals judge.now) (J.bad_pou judge.now) source 0 (map view_pou pous.now)) }
 {
     for i in 0..pous.len() {
         if judge.pou(alloc, &pous[i])? {
@@ -45,13 +46,14 @@ fn first_pou<J: Judge>(
     Ok(None)
 }
 
-/// The first unit that is at fault; a source's globals come before its blocks and programs. Fails if allocation fails.
+/// The first unit that is at fault; a source's globals come before its blocks and programs.
 pub fn first_unit<J: Judge>(
     alloc: Global,
     judge: &J,
     units: &[Unit],
 ) -> Result<Option<UnitPlace>, AllocError>
-    ensures { IfOk result (λ place. place ≡ first_unit (J.bad_globals judge.now) (J.bad_pou judge.now) 0 (map view_unit units.now)) }
+    ensures { IfOk result (λ place. place
+        ≡ first_unit (J.bad_globals judge.now) (J.bad_pou judge.now) 0 (map view_unit units.now)) }
 {
     for i in 0..units.len() {
         if judge.globals(alloc, &units[i].globals)? {

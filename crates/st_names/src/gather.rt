@@ -14,7 +14,7 @@ use crate::table::Table;
 use st_parser::{Pou, PouKind, Section, SectionKind, Unit};
 use std::alloc::{AllocError, Global};
 
-/// Adds an input or an output to those of a block; what is neither adds nothing. Fails if allocation fails.
+/// Adds an input or an output to those of a block; what is neither adds nothing.
 fn add_member(
     alloc: Global,
     members: &mut Members,
@@ -37,7 +37,7 @@ fn add_member(
     }
 }
 
-/// Adds inputs and outputs to those of a block. Fails if allocation fails.
+/// Adds inputs and outputs to those of a block.
 fn add_members(
     alloc: Global,
     members: &mut Members,
@@ -51,9 +51,10 @@ fn add_members(
     Ok(())
 }
 
-/// The first declaration of each name that sections declare. Fails if allocation fails.
+/// The first declaration of each name that sections declare.
 fn firsts_in<'a>(alloc: Global, sections: &'a [Section]) -> Result<Vec<Declared<'a>>, AllocError>
-    ensures { IfOk result (λ firsts. firsts.items ≡ first_declared [] (declared_in (map view_section sections.now))) }
+    ensures { IfOk result (λ firsts. firsts.items
+        ≡ first_declared [] (declared_in (map view_section sections.now))) }
 {
     let all = declared_in(alloc, sections)?;
     let firsts = first_declared(alloc, &all);
@@ -61,13 +62,14 @@ fn firsts_in<'a>(alloc: Global, sections: &'a [Section]) -> Result<Vec<Declared<
     firsts
 }
 
-/// Adds what sections declare first as an input or an output. Fails if allocation fails.
+/// Adds what sections declare first as an input or an output.
 fn add_declared(
     alloc: Global,
     members: &mut Members,
     sections: &[Section],
 ) -> Result<(), AllocError>
-    ensures { IfOk result (λ _. members.new ≡ with_members members.old (first_declared [] (declared_in (map view_section sections.now)))) }
+    ensures { IfOk result (λ _. members.new
+        ≡ with_members members.old (first_declared [] (declared_in (map view_section sections.now)))) }
 {
     let firsts = firsts_in(alloc, sections)?;
     let added = add_members(alloc, members, &firsts);
@@ -75,7 +77,7 @@ fn add_declared(
     added
 }
 
-/// The inputs and outputs of a block: what it declares first as such. Fails if allocation fails.
+/// The inputs and outputs of a block: what it declares first as such.
 fn members_of(alloc: Global, block: &Pou) -> Result<Members, AllocError>
     ensures { IfOk result (λ members. members ≡ members_of (view_pou block.now)) }
 {
@@ -92,7 +94,7 @@ fn members_of(alloc: Global, block: &Pou) -> Result<Members, AllocError>
     }
 }
 
-/// What the name of a block or program stands for. Fails if allocation fails.
+/// What the name of a block or program stands for.
 fn named_of<'a>(alloc: Global, declaration: &Pou) -> Result<Named<'a>, AllocError>
     ensures { IfOk result (λ named. named ≡ named_of (pou (view_pou declaration.now))) }
 {
@@ -102,13 +104,14 @@ fn named_of<'a>(alloc: Global, declaration: &Pou) -> Result<Named<'a>, AllocErro
     }
 }
 
-/// Adds globals. Fails if allocation fails.
+/// Adds globals.
 fn add_globals<'a>(
     alloc: Global,
     table: &mut Table<Named<'a>>,
     list: &[Declared<'a>],
 ) -> Result<(), AllocError>
-    ensures { IfOk result (λ _. table.new ≡ with_entries table.old (map shared_entry (map global list.now))) }
+    ensures { IfOk result (λ _. table.new
+        ≡ with_entries table.old (map shared_entry (map global list.now))) }
 {
     for declared in list {
         let name = declared.name();
@@ -117,9 +120,10 @@ fn add_globals<'a>(
     Ok(())
 }
 
-/// Adds blocks and programs. Fails if allocation fails.
+/// Adds blocks and programs.
 fn add_pous<'a>(alloc: Global, table: &mut Table<Named<'a>>, pous: &[Pou]) -> Result<(), AllocError>
-    ensures { IfOk result (λ _. table.new ≡ with_entries table.old (map shared_entry (map pou (map view_pou pous.now)))) }
+    ensures { IfOk result (λ _. table.new
+        ≡ with_entries table.old (map shared_entry (map pou (map view_pou pous.now)))) }
 {
     for pou in pous {
         table.add(alloc, pou.name.as_str(), named_of(alloc, pou)?)?;
@@ -127,13 +131,14 @@ fn add_pous<'a>(alloc: Global, table: &mut Table<Named<'a>>, pous: &[Pou]) -> Re
     Ok(())
 }
 
-/// Adds what a source shares. Fails if allocation fails.
+/// Adds what a source shares.
 fn add_unit<'a>(
     alloc: Global,
     table: &mut Table<Named<'a>>,
     unit: &'a Unit,
 ) -> Result<(), AllocError>
-    ensures { IfOk result (λ _. table.new ≡ with_entries table.old (map shared_entry (shared_by (view_unit unit.now)))) }
+    ensures { IfOk result (λ _. table.new
+        ≡ with_entries table.old (map shared_entry (shared_by (view_unit unit.now)))) }
 {
     let globals = declared_in(alloc, &unit.globals)?;
     let added = add_globals(alloc, table, &globals);
@@ -143,13 +148,14 @@ fn add_unit<'a>(
     Ok(())
 }
 
-/// Adds what sources share. Fails if allocation fails.
+/// Adds what sources share.
 fn add_units<'a>(
     alloc: Global,
     table: &mut Table<Named<'a>>,
     units: &'a [Unit],
 ) -> Result<(), AllocError>
-    ensures { IfOk result (λ _. table.new ≡ with_entries table.old (map shared_entry (shared_in (map view_unit units.now)))) }
+    ensures { IfOk result (λ _. table.new
+        ≡ with_entries table.old (map shared_entry (shared_in (map view_unit units.now)))) }
 {
     for unit in units {
         add_unit(alloc, table, unit)?;
@@ -157,7 +163,7 @@ fn add_units<'a>(
     Ok(())
 }
 
-/// The first declaration of each name that sources share. Fails if allocation fails.
+/// The first declaration of each name that sources share.
 pub fn shared_entries<'a>(alloc: Global, units: &'a [Unit]) -> Result<Table<Named<'a>>, AllocError>
     ensures { IfOk result (λ table. table ≡ shared_entries (map view_unit units.now)) }
 {

@@ -43,7 +43,9 @@ fn option_known<S: Scope>(scope: &S, expr: &Option<Expr<Text>>) -> bool
 
 /// Whether the names in the tests of an IF are there.
 fn tests_known<S: Scope>(scope: &S, branches: &[Branch<Text>]) -> bool
-    ensures { result ≡ list_all (expr_known (S.units scope.now) (S.own scope.now)) (tests_of (view_branches branches.now)) }
+    ensures { result
+        ≡ list_all (expr_known (S.units scope.now) (S.own scope.now))
+        (tests_of (view_branches branches.now)) }
 {
     for branch in branches {
         if !expr_known(scope, &branch.test) {
@@ -55,7 +57,9 @@ fn tests_known<S: Scope>(scope: &S, branches: &[Branch<Text>]) -> bool
 
 /// Whether the names in the arguments of a call are there, but for those of inputs and outputs.
 fn arguments_known<S: Scope>(scope: &S, arguments: &[Argument<Text>]) -> bool
-    ensures { result ≡ list_all (argument_known (S.units scope.now) (S.own scope.now)) (map view_argument arguments.now) }
+    ensures { result
+        ≡ list_all (argument_known (S.units scope.now) (S.own scope.now))
+        (map view_argument arguments.now) }
 {
     for argument in arguments {
         let known = match argument {
@@ -71,7 +75,9 @@ fn arguments_known<S: Scope>(scope: &S, arguments: &[Argument<Text>]) -> bool
 
 /// Whether arguments are inputs and outputs of the block type of an instance.
 fn each_is_member<S: Scope>(scope: &S, instance: &Text, arguments: &[Argument<Text>]) -> bool
-    ensures { result ≡ list_all (is_member_of (S.units scope.now) (S.own scope.now) instance.now) (map view_argument arguments.now) }
+    ensures { result
+        ≡ list_all (is_member_of (S.units scope.now) (S.own scope.now) instance.now)
+        (map view_argument arguments.now) }
 {
     for argument in arguments {
         let is_member = match argument {
@@ -85,7 +91,7 @@ fn each_is_member<S: Scope>(scope: &S, instance: &Text, arguments: &[Argument<Te
     true
 }
 
-/// Whether the arguments of a call are members of its block type, each given once. Fails if allocation fails.
+/// Whether the arguments of a call are members of its block type, each given once.
 #[tactic(auto, using(crate::proofs::Asked::no_instance, crate::proofs::Asked::of_instance))]
 fn are_members<S: Scope>(
     alloc: Global,
@@ -93,7 +99,9 @@ fn are_members<S: Scope>(
     instance: &Text,
     arguments: &[Argument<Text>],
 ) -> Result<bool, AllocError>
-    ensures { IfOk result (λ are. are ≡ are_members (instance_type (S.units scope.now) (S.own scope.now) instance.now) (map view_argument arguments.now)) }
+    ensures { IfOk result (λ are. are
+        ≡ are_members (instance_type (S.units scope.now) (S.own scope.now) instance.now)
+        (map view_argument arguments.now)) }
 {
     if !scope.is_instance(instance) {
         return Ok(true);
@@ -108,14 +116,16 @@ fn are_members<S: Scope>(
     Ok(!repeat)
 }
 
-/// Whether the names of a call are there. Fails if allocation fails.
+/// Whether the names of a call are there.
 fn call_known<S: Scope>(
     alloc: Global,
     scope: &S,
     instance: &Text,
     arguments: &[Argument<Text>],
 ) -> Result<bool, AllocError>
-    ensures { IfOk result (λ known. known ≡ call_known (S.units scope.now) (S.own scope.now) instance.now (map view_argument arguments.now)) }
+    ensures { IfOk result (λ known. known
+        ≡ call_known (S.units scope.now) (S.own scope.now) instance.now
+        (map view_argument arguments.now)) }
 {
     if !scope.is_named(instance) {
         return Ok(false);
@@ -134,7 +144,9 @@ fn bounds_known<S: Scope>(
     to: &Expr<Text>,
     by: &Option<Expr<Text>>,
 ) -> bool
-    ensures { result ≡ bounds_known (S.units scope.now) (S.own scope.now) variable.now (view_expr from.now) (view_expr to.now) (view_option by.now) }
+    ensures { result
+        ≡ bounds_known (S.units scope.now) (S.own scope.now) variable.now (view_expr from.now)
+        (view_expr to.now) (view_option by.now) }
 {
     scope.is_named(variable)
         && expr_known(scope, from)
@@ -178,13 +190,14 @@ impl<'a, S: Scope> Rule for NamesKnown<'a, S> {
     }
 }
 
-/// Whether the names of a body are there. Fails if allocation fails.
+/// Whether the names of a body are there.
 pub fn body_known<S: Scope>(
     alloc: Global,
     scope: &S,
     body: &[Stmt<Text>],
 ) -> Result<bool, AllocError>
-    ensures { IfOk result (λ known. known ≡ body_known (S.units scope.now) (S.own scope.now) (view_body body.now)) }
+    ensures { IfOk result (λ known. known
+        ≡ body_known (S.units scope.now) (S.own scope.now) (view_body body.now)) }
 {
     let rule = NamesKnown { scope };
     every(alloc, &rule, body)
@@ -211,8 +224,12 @@ fn name_known<S: Scope>(
     name: &Text,
 ) -> bool
     requires typed { typed ≡ sort_known (S.units scope.now) declaration.now.sort }
-    requires initial { initial ≡ option_known (S.units scope.now) (S.own scope.now) (option_map view_expr declaration.now.initial) }
-    ensures { result ≡ declared_known (S.units scope.now) (S.own scope.now) (declared_as section (view_declaration declaration.now) name.now) }
+    requires initial { initial
+        ≡ option_known (S.units scope.now) (S.own scope.now)
+        (option_map view_expr declaration.now.initial) }
+    ensures { result
+        ≡ declared_known (S.units scope.now) (S.own scope.now)
+        (declared_as section (view_declaration declaration.now) name.now) }
 {
     if !typed {
         return false;
@@ -228,7 +245,9 @@ fn name_known<S: Scope>(
 
 /// Whether what each name of a declaration needs is there.
 fn declaration_known<S: Scope>(scope: &S, section: SectionKind, declaration: &Declaration) -> bool
-    ensures { result ≡ list_all (declared_known (S.units scope.now) (S.own scope.now)) (declared_together section (view_declaration declaration.now)) }
+    ensures { result
+        ≡ list_all (declared_known (S.units scope.now) (S.own scope.now))
+        (declared_together section (view_declaration declaration.now)) }
 {
     let typed = sort_known(scope, &declaration.sort);
     let initial = option_known(scope, &declaration.initial);
@@ -242,7 +261,9 @@ fn declaration_known<S: Scope>(scope: &S, section: SectionKind, declaration: &De
 
 /// Whether what each declaration of a section needs is there.
 fn section_known<S: Scope>(scope: &S, section: &Section) -> bool
-    ensures { result ≡ list_all (declared_known (S.units scope.now) (S.own scope.now)) (declared_by (view_section section.now)) }
+    ensures { result
+        ≡ list_all (declared_known (S.units scope.now) (S.own scope.now))
+        (declared_by (view_section section.now)) }
 {
     for declaration in &section.declarations {
         if !declaration_known(scope, section.kind, declaration) {
@@ -254,7 +275,9 @@ fn section_known<S: Scope>(scope: &S, section: &Section) -> bool
 
 /// Whether what each declaration of sections needs is there.
 pub fn sections_known<S: Scope>(scope: &S, sections: &[Section]) -> bool
-    ensures { result ≡ list_all (declared_known (S.units scope.now) (S.own scope.now)) (declared_in (map view_section sections.now)) }
+    ensures { result
+        ≡ list_all (declared_known (S.units scope.now) (S.own scope.now))
+        (declared_in (map view_section sections.now)) }
 {
     for section in sections {
         if !section_known(scope, section) {

@@ -16,13 +16,14 @@ use crate::taken::first_taken;
 use st_parser::{Pou, Section};
 use std::alloc::{AllocError, Global};
 
-/// Whether a declaration of globals names what isn't there. Fails if allocation fails.
+/// Whether a declaration of globals names what isn't there.
 fn globals_misnamed(
     alloc: Global,
     shared: &SharedNames<'_>,
     sections: &[Section],
 ) -> Result<bool, AllocError>
-    ensures { IfOk result (λ misnamed. misnamed ≡ globals_misnamed shared.now (map view_section sections.now)) }
+    ensures { IfOk result (λ misnamed. misnamed
+        ≡ globals_misnamed shared.now (map view_section sections.now)) }
 {
     let scope = BodyScope::new(alloc, shared, &[])?;
     let known = sections_known(&scope, sections);
@@ -30,7 +31,7 @@ fn globals_misnamed(
     Ok(!known)
 }
 
-/// Whether a block or program of these names declares a name twice, or names what isn't there. Fails if allocation fails.
+/// Whether a block or program of these names declares a name twice, or names what isn't there.
 fn is_misnamed(alloc: Global, scope: &BodyScope<'_>, pou: &Pou) -> Result<bool, AllocError>
     requires { scope.now.own ≡ declared_in (map view_section pou.now.sections.items) }
     ensures { IfOk result (λ misnamed. misnamed ≡ pou_misnamed scope.now.units (view_pou pou.now)) }
@@ -45,7 +46,7 @@ fn is_misnamed(alloc: Global, scope: &BodyScope<'_>, pou: &Pou) -> Result<bool, 
     Ok(!known)
 }
 
-/// Whether a block or program declares a name twice, or names what isn't there. Fails if allocation fails.
+/// Whether a block or program declares a name twice, or names what isn't there.
 fn pou_misnamed(alloc: Global, shared: &SharedNames<'_>, pou: &Pou) -> Result<bool, AllocError>
     ensures { IfOk result (λ misnamed. misnamed ≡ pou_misnamed shared.now (view_pou pou.now)) }
 {
@@ -109,7 +110,6 @@ fn earlier(a: Option<UnitPlace>, b: Option<UnitPlace>) -> Option<UnitPlace>
 }
 
 /// The first unit, in order of text, with a fault of names (C6): one that declares a name which is taken, or uses one that isn't there.
-/// Fails if allocation fails.
 pub fn first_misnamed(
     alloc: Global,
     shared: &SharedNames<'_>,

@@ -15,15 +15,16 @@ use st_tree::Argument;
 use std::alloc::{AllocError, Global};
 use word_index::Names;
 
-/// Adds a name. True if it was there already. Fails if allocation fails.
+/// Adds a name. True if it was there already.
 pub fn add_name(alloc: Global, names: &mut Names, name: &Text) -> Result<bool, AllocError>
-    ensures { IfOk result (λ there. Added there (is_among (map folded names.old) (folded name.now)) (map folded names.new) (map folded names.old ++ folded name.now ∷ [])) }
+    ensures { IfOk result (λ there. Added there (is_among (map folded names.old) (folded name.now))
+        (map folded names.new) (map folded names.old ++ folded name.now ∷ [])) }
 {
     let added = names.add(alloc, name.as_str())?;
     Ok(!added)
 }
 
-/// Whether a name is declared twice. Fails if allocation fails.
+/// Whether a name is declared twice.
 #[tactic(auto, using(crate::proofs::Twice::repeats_first))]
 pub fn repeats(alloc: Global, list: &[Declared<'_>]) -> Result<bool, AllocError>
     ensures { IfOk result (λ repeat. repeat ≡ repeats (declared_words list.now)) }
@@ -37,7 +38,7 @@ pub fn repeats(alloc: Global, list: &[Declared<'_>]) -> Result<bool, AllocError>
     Ok(false)
 }
 
-/// Whether arguments give an input twice. Fails if allocation fails.
+/// Whether arguments give an input twice.
 #[tactic(auto, using(crate::proofs::Twice::repeats_first))]
 pub fn inputs_repeat(alloc: Global, arguments: &[Argument<Text>]) -> Result<bool, AllocError>
     ensures { IfOk result (λ repeat. repeat ≡ repeats (given_inputs (map view_argument arguments.now))) }
@@ -53,10 +54,11 @@ pub fn inputs_repeat(alloc: Global, arguments: &[Argument<Text>]) -> Result<bool
     Ok(false)
 }
 
-/// Whether arguments take an output twice. Fails if allocation fails.
+/// Whether arguments take an output twice.
 #[tactic(auto, using(crate::proofs::Twice::repeats_first))]
 pub fn outputs_repeat(alloc: Global, arguments: &[Argument<Text>]) -> Result<bool, AllocError>
-    ensures { IfOk result (λ repeat. repeat ≡ repeats (taken_outputs (map view_argument arguments.now))) }
+    ensures { IfOk result (λ repeat. repeat
+        ≡ repeats (taken_outputs (map view_argument arguments.now))) }
 {
     let mut names = Names::new(alloc);
     for argument in arguments {

@@ -14,7 +14,7 @@ pub trait Rule {
     /// Whether a statement keeps the rule.
     ghost rule: { Self → PlainStmt (List ℕ) → Bool };
 
-    /// Whether a statement keeps the rule, whatever is inside it. Fails if allocation fails.
+    /// Whether a statement keeps the rule, whatever is inside it.
     fn keeps(&self, alloc: Global, stmt: &Stmt<Text>) -> Result<bool, AllocError>
         ensures { IfOk result (λ keeps. keeps ≡ rule self.now (view_stmt stmt.now)) };
 }
@@ -33,7 +33,7 @@ impl<'a, R: Rule> st_tree::Rule<Text> for Named<'a, R> {
     }
 }
 
-/// Whether each statement of a body keeps a rule, and each statement inside one of them. Fails if allocation fails.
+/// Whether each statement of a body keeps a rule, and each statement inside one of them.
 pub fn every<R: Rule>(alloc: Global, rule: &R, body: &[Stmt<Text>]) -> Result<bool, AllocError>
     ensures { IfOk result (λ keep. keep ≡ every (R.rule rule.now) (view_body body.now)) }
 {

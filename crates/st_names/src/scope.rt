@@ -46,7 +46,8 @@ pub trait Scope {
 
     /// Whether the block type of an instance has an output of a name.
     fn has_output(&self, instance: &Text, name: &Text) -> bool
-        ensures { result ≡ is_some (output_named (units self.now) (own self.now) instance.now name.now) };
+        ensures { result
+            ≡ is_some (output_named (units self.now) (own self.now) instance.now name.now) };
 
     /// The kind of the input of a name, of an instance's block type.
     fn input_kind(&self, instance: &Text, name: &Text) -> Option<Kind>

@@ -48,7 +48,7 @@ impl<'a> Model for SharedNames<'a> {
 }
 
 impl<'a> SharedNames<'a> {
-    /// The names that sources share. Fails if allocation fails.
+    /// The names that sources share.
     pub fn new(alloc: Global, units: &'a [Unit]) -> Result<SharedNames<'a>, AllocError>
         ensures { IfOk result (λ shared. shared ≡ map view_unit units.now) }
     {
@@ -107,7 +107,9 @@ impl<'a> SharedNames<'a> {
 
     /// The kind of the input of a name, of the block type of a word; `Some(None)` for an instance or an array in its place, `None` if there is no such input.
     pub fn input(&self, word: &Text, name: &Text) -> Option<Option<Kind>>
-        ensures { result ≡ option_map (λ m. m.kind) (option_and_then (λ t. find_member (inputs_of t) name.now) (block_type self.now word.now)) }
+        ensures { result
+            ≡ option_map (λ m. m.kind)
+            (option_and_then (λ t. find_member (inputs_of t) name.now) (block_type self.now word.now)) }
     {
         if is_timer(word) {
             return timer_input(name);
@@ -121,7 +123,9 @@ impl<'a> SharedNames<'a> {
 
     /// The kind of the output of a name, of the block type of a word; `Some(None)` for an instance or an array in its place, `None` if there is no such output.
     pub fn output(&self, word: &Text, name: &Text) -> Option<Option<Kind>>
-        ensures { result ≡ option_map (λ m. m.kind) (option_and_then (λ t. find_member (outputs_of t) name.now) (block_type self.now word.now)) }
+        ensures { result
+            ≡ option_map (λ m. m.kind)
+            (option_and_then (λ t. find_member (outputs_of t) name.now) (block_type self.now word.now)) }
     {
         if is_timer(word) {
             return timer_output(name);

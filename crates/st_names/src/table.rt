@@ -56,7 +56,7 @@ impl<T: Drop> Table<T> {
         }
     }
 
-    /// Adds a name with its value, and returns true; false if the name has one already, in any letter case, and then nothing changes. Fails if allocation fails.
+    /// Adds a name with its value, and returns true; false if the name has one already, in any letter case, and then nothing changes.
     pub fn add(&mut self, alloc: Global, name: &str, value: T) -> Result<bool, AllocError>
         ensures added { IfOk result (λ added. added ≡ not (is_some (value_of self.old name.now))) }
         ensures entries { IfOk result (λ added. self.new ≡ with_entry self.old (name.now, value)) }

@@ -18,10 +18,11 @@ use st_parser::{Pou, Unit};
 use std::alloc::{AllocError, Global};
 use word_index::Names;
 
-/// Adds a name. True if it is taken. Fails if allocation fails.
+/// Adds a name. True if it is taken.
 #[tactic(auto, using(crate::proofs::Twice::standard_folded))]
 fn add_shared(alloc: Global, names: &mut Names, name: &Text) -> Result<bool, AllocError>
-    ensures { IfOk result (λ taken. Added taken (is_taken (map folded names.old) (folded name.now)) (map folded names.new) (map folded names.old ++ folded name.now ∷ [])) }
+    ensures { IfOk result (λ taken. Added taken (is_taken (map folded names.old) (folded name.now))
+        (map folded names.new) (map folded names.old ++ folded name.now ∷ [])) }
 {
     if is_standard(name) {
         return Ok(true);
@@ -29,9 +30,11 @@ fn add_shared(alloc: Global, names: &mut Names, name: &Text) -> Result<bool, All
     add_name(alloc, names, name)
 }
 
-/// Adds the names of globals, up to the first that is taken. True if one is. Fails if allocation fails.
+/// Adds the names of globals, up to the first that is taken. True if one is.
 fn one_taken(alloc: Global, names: &mut Names, list: &[Declared<'_>]) -> Result<bool, AllocError>
-    ensures { IfOk result (λ taken. Added taken (one_taken (map folded names.old) (declared_words list.now)) (map folded names.new) (map folded names.old ++ declared_words list.now)) }
+    ensures { IfOk result (λ taken. Added taken
+        (one_taken (map folded names.old) (declared_words list.now)) (map folded names.new)
+        (map folded names.old ++ declared_words list.now)) }
 {
     for declared in list {
         if add_shared(alloc, names, declared.name())? {
@@ -41,14 +44,16 @@ fn one_taken(alloc: Global, names: &mut Names, list: &[Declared<'_>]) -> Result<
     Ok(false)
 }
 
-/// Adds the names of blocks and programs, up to the first that is taken, which is returned. Fails if allocation fails.
+/// Adds the names of blocks and programs, up to the first that is taken, which is returned.
 fn first_taken_pou(
     alloc: Global,
     names: &mut Names,
     source: usize,
     pous: &[Pou],
 ) -> Result<Option<UnitPlace>, AllocError>
-    ensures { IfOk result (λ place. AddedPous place (first_taken_pou source 0 (map folded names.old) (map view_pou pous.now)) (map folded names.new) (map folded names.old ++ map (λ p. folded p.name) (map view_pou pous.now))) }
+    ensures { IfOk result (λ place. AddedPous place
+        (first_taken_pou source 0 (map folded names.old) (map view_pou pous.now)) (map folded names.new)
+        (map folded names.old ++ map (λ p. folded p.name) (map view_pou pous.now))) }
 {
     for i in 0..pous.len() {
         if add_shared(alloc, names, &pous[i].name)? {
@@ -61,14 +66,16 @@ fn first_taken_pou(
     Ok(None)
 }
 
-/// Adds the names that a source shares, up to the first that is taken, whose unit is returned. Fails if allocation fails.
+/// Adds the names that a source shares, up to the first that is taken, whose unit is returned.
 fn first_taken_of(
     alloc: Global,
     names: &mut Names,
     source: usize,
     unit: &Unit,
 ) -> Result<Option<UnitPlace>, AllocError>
-    ensures { IfOk result (λ place. AddedPous place (first_taken_of source (map folded names.old) (view_unit unit.now)) (map folded names.new) (map folded names.old ++ global_words (view_unit unit.now) ++ pou_words (view_unit unit.now))) }
+    ensures { IfOk result (λ place. AddedPous place
+        (first_taken_of source (map folded names.old) (view_unit unit.now)) (map folded names.new)
+        (map folded names.old ++ global_words (view_unit unit.now) ++ pou_words (view_unit unit.now))) }
 {
     let globals = declared_in(alloc, &unit.globals)?;
     if one_taken(alloc, names, &globals)? {
@@ -78,7 +85,7 @@ fn first_taken_of(
     Ok(place)
 }
 
-/// The first unit, in order of text, that declares a name which an earlier declaration of all sources has, or a standard block. Fails if allocation fails.
+/// The first unit, in order of text, that declares a name which an earlier declaration of all sources has, or a standard block.
 pub fn first_taken(alloc: Global, units: &[Unit]) -> Result<Option<UnitPlace>, AllocError>
     ensures { IfOk result (λ place. place ≡ first_taken (map view_unit units.now)) }
 {

@@ -118,7 +118,8 @@ fn address(reader: &mut Reader) -> Result<Region, Stop>
 
 /// Parses `:=` and an initial value, if it is next.
 fn initial_value(alloc: Global, reader: &mut Reader) -> Result<Option<Expr<Text>>, Stop>
-    ensures { Returns (λ o. (option_map view_expr o, reader.new)) result (perhaps_at (is_symbol Symbol.Becomes) (after_symbol Symbol.Becomes expression_at) reader.old) }
+    ensures { Returns (λ o. (option_map view_expr o, reader.new)) result
+        (perhaps_at (is_symbol Symbol.Becomes) (after_symbol Symbol.Becomes expression_at) reader.old) }
 {
     if reader.is_symbol(Symbol::Becomes) {
         reader.symbol(Symbol::Becomes)?;
@@ -138,7 +139,8 @@ fn end_of_declaration(
     sort: Sort,
     reader: &mut Reader,
 ) -> Result<Declaration, Stop>
-    ensures { Returns (λ d. (view_declaration d, reader.new)) result (initial_at names.items region sort reader.old) }
+    ensures { Returns (λ d. (view_declaration d, reader.new)) result
+        (initial_at names.items region sort reader.old) }
 {
     let initial = initial_value(alloc, reader)?;
     reader.symbol(Symbol::Semicolon)?;
@@ -180,7 +182,8 @@ impl Phrase for CommaName {
 
 /// Parses the names after a first one, each with its comma.
 fn more_names(alloc: Global, first: Text, reader: &mut Reader) -> Result<Vec<Text>, Stop>
-    ensures { Returns (λ names. (names.items, reader.new)) result (with_first (first ∷ []) (others_at word_at reader.old)) }
+    ensures { Returns (λ names. (names.items, reader.new)) result
+        (with_first (first ∷ []) (others_at word_at reader.old)) }
 {
     parse_after(alloc, &CommaName, first, reader)
 }

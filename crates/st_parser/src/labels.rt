@@ -54,7 +54,8 @@ pub fn number(reader: &mut Reader) -> Result<i32, Stop>
 
 /// Parses `..` and the end of a range, if they are next.
 fn range_end(reader: &mut Reader) -> Result<Option<i64>, Stop>
-    ensures { Returns (λ high. (high, reader.new)) result (perhaps_at (is_symbol Symbol.Range) (after_symbol Symbol.Range number_at) reader.old) }
+    ensures { Returns (λ high. (high, reader.new)) result
+        (perhaps_at (is_symbol Symbol.Range) (after_symbol Symbol.Range number_at) reader.old) }
 {
     if reader.is_symbol(Symbol::Range) {
         reader.symbol(Symbol::Range)?;

@@ -101,7 +101,8 @@ fn simple(alloc: Global, word: Text, reader: &mut Reader) -> Result<Stmt<Text>, 
 
 /// Parses `BY` and the step of a `FOR`, if they are next.
 fn step(alloc: Global, reader: &mut Reader) -> Result<Option<Expr<Text>>, Stop>
-    ensures { Returns (λ o. (view_option o, reader.new)) result (perhaps_at (is_keyword Keyword.By) (after_keyword Keyword.By expression_at) reader.old) }
+    ensures { Returns (λ o. (view_option o, reader.new)) result
+        (perhaps_at (is_keyword Keyword.By) (after_keyword Keyword.By expression_at) reader.old) }
 {
     if reader.is_keyword(Keyword::By) {
         reader.keyword(Keyword::By)?;
@@ -118,7 +119,8 @@ type Bounds = (Expr<Text>, Expr<Text>, Option<Expr<Text>>);
 /// Parses the first value, the bound and the step of a `FOR`.
 #[tactic(auto, unfolding(crate::specs::ReadingStatements::bounds_at))]
 fn bounds(alloc: Global, reader: &mut Reader) -> Result<Bounds, Stop>
-    ensures { Returns (λ b. ((view_expr b.0, view_expr b.1, view_option b.2), reader.new)) result (bounds_at reader.old) }
+    ensures { Returns (λ b. ((view_expr b.0, view_expr b.1, view_option b.2), reader.new)) result
+        (bounds_at reader.old) }
 {
     let from = expression(alloc, reader)?;
     let from = reader.keyword_after(from, Keyword::To)?;
@@ -217,7 +219,8 @@ fn if_statement(alloc: Global, deeper: u32, reader: &mut Reader) -> Result<Stmt<
 #[cycle(stmt)]
 #[tactic(auto, unfolding(crate::specs::ReadingStatements::branches_at))]
 fn branches(alloc: Global, deeper: u32, reader: &mut Reader) -> Result<Vec<Branch<Text>>, Stop>
-    ensures { Returns (λ b. (map view_branch b.items, reader.new)) result (branches_at (sequence_at deeper) reader.old) }
+    ensures { Returns (λ b. (map view_branch b.items, reader.new)) result
+        (branches_at (sequence_at deeper) reader.old) }
 {
     let first = tested(alloc, deeper, reader)?;
     more_branches(alloc, deeper, first, reader)
@@ -231,7 +234,10 @@ fn more_branches(
     first: Branch<Text>,
     reader: &mut Reader,
 ) -> Result<Vec<Branch<Text>>, Stop>
-    ensures { Returns (λ b. (map view_branch b.items, reader.new)) result (with_first (view_branch first ∷ []) (all_at (is_keyword Keyword.Elsif) (after_keyword Keyword.Elsif (branch_at (sequence_at deeper))) reader.old)) }
+    ensures { Returns (λ b. (map view_branch b.items, reader.new)) result
+        (with_first (view_branch first ∷ [])
+        (all_at (is_keyword Keyword.Elsif) (after_keyword Keyword.Elsif (branch_at (sequence_at deeper)))
+        reader.old)) }
 {
     let mut branches = Vec::new(alloc);
     branches.push(first)?;
@@ -253,7 +259,8 @@ fn more_branches(
 #[cycle(stmt)]
 #[tactic(auto, unfolding(crate::specs::ReadingStatements::branch_at))]
 fn tested(alloc: Global, deeper: u32, reader: &mut Reader) -> Result<Branch<Text>, Stop>
-    ensures { Returns (λ b. (view_branch b, reader.new)) result (branch_at (sequence_at deeper) reader.old) }
+    ensures { Returns (λ b. (view_branch b, reader.new)) result
+        (branch_at (sequence_at deeper) reader.old) }
 {
     let test = expression(alloc, reader)?;
     let test = reader.keyword_after(test, Keyword::Then)?;
@@ -270,7 +277,8 @@ fn tested(alloc: Global, deeper: u32, reader: &mut Reader) -> Result<Branch<Text
 #[cycle(stmt)]
 #[tactic(auto, unfolding(crate::specs::ReadingStatements::otherwise_at))]
 fn otherwise(alloc: Global, deeper: u32, reader: &mut Reader) -> Result<Vec<Stmt<Text>>, Stop>
-    ensures { Returns (λ b. (view_body b.items, reader.new)) result (otherwise_at (sequence_at deeper) reader.old) }
+    ensures { Returns (λ b. (view_body b.items, reader.new)) result
+        (otherwise_at (sequence_at deeper) reader.old) }
 {
     if reader.is_keyword(Keyword::Else) {
         reader.advance();
@@ -313,7 +321,8 @@ fn case_statement(alloc: Global, deeper: u32, reader: &mut Reader) -> Result<Stm
 #[cycle(stmt)]
 #[tactic(auto, unfolding(crate::specs::ReadingStatements::choices_at))]
 fn choices(alloc: Global, deeper: u32, reader: &mut Reader) -> Result<Vec<Choice<Text>>, Stop>
-    ensures { Returns (λ c. (map view_choice c.items, reader.new)) result (choices_at (sequence_at deeper) reader.old) }
+    ensures { Returns (λ c. (map view_choice c.items, reader.new)) result
+        (choices_at (sequence_at deeper) reader.old) }
 {
     let first = labelled(alloc, deeper, reader)?;
     more_choices(alloc, deeper, first, reader)
@@ -327,7 +336,9 @@ fn more_choices(
     first: Choice<Text>,
     reader: &mut Reader,
 ) -> Result<Vec<Choice<Text>>, Stop>
-    ensures { Returns (λ c. (map view_choice c.items, reader.new)) result (with_first (view_choice first ∷ []) (all_at is_label (choice_at (sequence_at deeper)) reader.old)) }
+    ensures { Returns (λ c. (map view_choice c.items, reader.new)) result
+        (with_first (view_choice first ∷ [])
+        (all_at is_label (choice_at (sequence_at deeper)) reader.old)) }
 {
     let mut choices = Vec::new(alloc);
     choices.push(first)?;
@@ -348,7 +359,8 @@ fn more_choices(
 #[cycle(stmt)]
 #[tactic(auto, unfolding(crate::specs::ReadingStatements::choice_at))]
 fn labelled(alloc: Global, deeper: u32, reader: &mut Reader) -> Result<Choice<Text>, Stop>
-    ensures { Returns (λ c. (view_choice c, reader.new)) result (choice_at (sequence_at deeper) reader.old) }
+    ensures { Returns (λ c. (view_choice c, reader.new)) result
+        (choice_at (sequence_at deeper) reader.old) }
 {
     let labels = labels(alloc, reader)?;
     reader.symbol(Symbol::Colon)?;
@@ -359,7 +371,8 @@ fn labelled(alloc: Global, deeper: u32, reader: &mut Reader) -> Result<Choice<Te
 /// Parses what stands after `FOR` and before its statements.
 #[tactic(auto, unfolding(crate::specs::ReadingStatements::header_at))]
 fn header(alloc: Global, reader: &mut Reader) -> Result<(Text, Bounds), Stop>
-    ensures { Returns (λ h. ((h.0, (view_expr h.1.0, view_expr h.1.1, view_option h.1.2)), reader.new)) result (header_at reader.old) }
+    ensures { Returns (λ h. ((h.0, (view_expr h.1.0, view_expr h.1.1, view_option h.1.2)), reader.new))
+        result (header_at reader.old) }
 {
     let word = reader.word(alloc)?;
     let word = reader.symbol_after(word, Symbol::Becomes)?;
@@ -377,7 +390,9 @@ fn header(alloc: Global, reader: &mut Reader) -> Result<(Text, Bounds), Stop>
 
 /// The `FOR` of a variable and bounds over these statements.
 fn for_of(header: (Text, Bounds), body: Vec<Stmt<Text>>) -> Stmt<Text>
-    ensures { view_stmt result ≡ for_to 0 header.0 (view_expr header.1.0) (view_expr header.1.1) (view_option header.1.2) (view_body body.items) }
+    ensures { view_stmt result
+        ≡ for_to 0 header.0 (view_expr header.1.0) (view_expr header.1.1) (view_option header.1.2)
+        (view_body body.items) }
 {
     let (variable, (from, to, by)) = header;
     Stmt::For {

@@ -169,7 +169,9 @@ fn refused(tokens: &[Token], left: usize) -> ParseFault
 
 /// Parses all tokens of a text as one unit. The error is `Memory` where memory was refused; else the tokens spell no unit, and it names the first token with which none can go on.
 pub fn parse(alloc: Global, text: &[u8], tokens: &[Token]) -> Result<Unit, ParseFault>
-    ensures spelled { MatchResult result (λ unit. SpellsUnit (lexemes text.now tokens.now) (view_unit unit)) (SpellNone (lexemes text.now tokens.now)) }
+    ensures spelled { MatchResult result
+        (λ unit. SpellsUnit (lexemes text.now tokens.now) (view_unit unit))
+        (SpellNone (lexemes text.now tokens.now)) }
     ensures within { IfErr result (NamesOneOf (length tokens.now)) }
 {
     let mut reader = Reader::new(text, tokens);

@@ -36,35 +36,43 @@ pub fn constant_of_is_value_of<V>()
 /// By a step above 0 they are at most the bound, by one below 0 at least the bound; by the step 0 there are none.
 pub fn control_values_count_to_bound()
     ensures are { (span : Span) → CountsToBound span span.from (control_values span) }
-    ensures only { (span : Span) (values : List ℤ) → CountsToBound span span.from values → values ≡ control_values span }
+    ensures only { (span : Span) (values : List ℤ) → CountsToBound span span.from values
+        → values ≡ control_values span }
 {}
 
 /// The result of an operator is in the range of its kind, by operands of kinds that it takes. Only MOD asks that its left operand is in the range of its kind.
 pub fn operators_stay_in_range()
-    ensures unary { (op : Unary) (a r : Kind) (x n : ℤ) → unary_kind op a ≡ Some r → eval_unary op x ≡ Ok n → is_in_range r n ≡ true }
-    ensures binary { (op : Binary) (a b r : Kind) (x y n : ℤ) → binary_kind op a b ≡ Some r → is_in_range a x ≡ true → eval_binary op x y ≡ Ok n → is_in_range r n ≡ true }
+    ensures unary { (op : Unary) (a r : Kind) (x n : ℤ) → unary_kind op a ≡ Some r
+        → eval_unary op x ≡ Ok n → is_in_range r n ≡ true }
+    ensures binary { (op : Binary) (a b r : Kind) (x y n : ℤ) → binary_kind op a b ≡ Some r
+        → is_in_range a x ≡ true → eval_binary op x y ≡ Ok n → is_in_range r n ≡ true }
 {}
 
 /// The value of an expression is in the range of its kind, if the values of its variables, of its elements and of its outputs are in the ranges of theirs.
 pub fn value_stays_in_range<V>()
     ensures { (sorts : Sorts V) (values : ValuesOf V) → AreInRange sorts values
-        → (e : PlainExpr V) (k : Kind) (n : ℤ) → kind_of_expr sorts e ≡ Some k → value_of values e ≡ Ok n → is_in_range k n ≡ true }
+        → (e : PlainExpr V) (k : Kind) (n : ℤ) → kind_of_expr sorts e ≡ Some k → value_of values e ≡ Ok n
+        → is_in_range k n ≡ true }
 {}
 
 /// The control values of a FOR whose bounds are DINTs are DINTs: none is past the range, whatever the step.
 pub fn control_values_stay_in_range()
-    ensures { (span : Span) → is_in_range kind.Dint span.from ≡ true → is_in_range kind.Dint span.to ≡ true → All (λ n. is_in_range kind.Dint n ≡ true) (control_values span) }
+    ensures { (span : Span) → is_in_range kind.Dint span.from ≡ true
+        → is_in_range kind.Dint span.to ≡ true
+        → All (λ n. is_in_range kind.Dint n ≡ true) (control_values span) }
 {}
 
 /// A body whose kinds are right keeps each invariant that gives its variables and outputs the ranges of their kinds, be it to a trap.
 /// `run_all_keeps` of `proofs/RunLaws.antt` says the same of any fact of worlds that is no test.
 pub fn run_stays_in_range<V, W>()
-    ensures { (context : Context V) (space : Space V W) (holds : W → Bool) → IsInvariant context space (λ w. holds w ≡ true)
-        → (body : PlainBody V) → all_fit context body ≡ true → controls_fit context body ≡ true
-        → (w : W) → holds w ≡ true → Leaves (λ u. holds u ≡ true) (run_all space body w) }
+    ensures { (context : Context V) (space : Space V W) (holds : W → Bool)
+        → IsInvariant context space (λ w. holds w ≡ true) → (body : PlainBody V)
+        → all_fit context body ≡ true → controls_fit context body ≡ true → (w : W) → holds w ≡ true
+        → Leaves (λ u. holds u ≡ true) (run_all space body w) }
 {}
 
 /// A body with other names does what the body does where each of its names means what the other one means.
 pub fn renamed_body_does_same<V, W, A>()
-    ensures { (f : V → W) (space : Space W A) (body : PlainBody V) (w : A) → run_all (renamed_space f space) body w ≡ run_all space (mapped_body (renaming f) body) w }
+    ensures { (f : V → W) (space : Space W A) (body : PlainBody V) (w : A)
+        → run_all (renamed_space f space) body w ≡ run_all space (mapped_body (renaming f) body) w }
 {}

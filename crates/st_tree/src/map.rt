@@ -48,7 +48,8 @@ fn mapped_option<V, W: Drop, P: Pass<V, W>>(
     pass: &P,
     expr: &Option<Expr<V>>,
 ) -> Result<Option<Expr<W>>, AllocError>
-    ensures { IfOk result (λ e. view_option e ≡ mapped_option (P.mapping pass.now) (view_option expr.now)) }
+    ensures { IfOk result (λ e. view_option e
+        ≡ mapped_option (P.mapping pass.now) (view_option expr.now)) }
 {
     match expr {
         Some(expr) => Ok(Some(mapped_expr(alloc, pass, expr)?)),
@@ -67,9 +68,11 @@ fn mapped_bounds<V, W: Drop, P: Pass<V, W>>(
     to: &Expr<V>,
     by: &Option<Expr<V>>,
 ) -> Result<Bounds<W>, AllocError>
-    ensures from { IfOk result (λ b. view_expr b.0 ≡ mapped_expr (P.mapping pass.now) (view_expr from.now)) }
+    ensures from { IfOk result (λ b. view_expr b.0
+        ≡ mapped_expr (P.mapping pass.now) (view_expr from.now)) }
     ensures to { IfOk result (λ b. view_expr b.1 ≡ mapped_expr (P.mapping pass.now) (view_expr to.now)) }
-    ensures by { IfOk result (λ b. view_option b.2 ≡ mapped_option (P.mapping pass.now) (view_option by.now)) }
+    ensures by { IfOk result (λ b. view_option b.2
+        ≡ mapped_option (P.mapping pass.now) (view_option by.now)) }
 {
     let from = mapped_expr(alloc, pass, from)?;
     let to = match mapped_expr(alloc, pass, to) {
@@ -91,7 +94,9 @@ fn mapped_bounds<V, W: Drop, P: Pass<V, W>>(
 
 /// The FOR of these parts.
 fn for_of<W>(number: u32, variable: W, bounds: Bounds<W>, body: Vec<Stmt<W>>) -> Stmt<W>
-    ensures { view_stmt result ≡ for_to number variable (view_expr bounds.0) (view_expr bounds.1) (view_option bounds.2) (view_body body.items) }
+    ensures { view_stmt result
+        ≡ for_to number variable (view_expr bounds.0) (view_expr bounds.1) (view_option bounds.2)
+        (view_body body.items) }
 {
     let (from, to, by) = bounds;
     Stmt::For {
@@ -111,7 +116,8 @@ fn mapped_argument<V, W: Drop, P: Pass<V, W>>(
     instance: &V,
     argument: &Argument<V>,
 ) -> Result<Argument<W>, AllocError>
-    ensures { IfOk result (λ a. view_argument a ≡ mapped_argument (P.mapping pass.now) instance.now (view_argument argument.now)) }
+    ensures { IfOk result (λ a. view_argument a
+        ≡ mapped_argument (P.mapping pass.now) instance.now (view_argument argument.now)) }
 {
     match argument {
         Argument::Input(name, expr) => {
@@ -132,7 +138,8 @@ fn mapped_arguments<V, W: Drop, P: Pass<V, W>>(
     instance: &V,
     arguments: &[Argument<V>],
 ) -> Result<Vec<Argument<W>>, AllocError>
-    ensures { IfOk result (λ r. map view_argument r.items ≡ map (mapped_argument (P.mapping pass.now) instance.now) (map view_argument arguments.now)) }
+    ensures { IfOk result (λ r. map view_argument r.items
+        ≡ map (mapped_argument (P.mapping pass.now) instance.now) (map view_argument arguments.now)) }
 {
     let mut mapped = Vec::with_capacity(alloc, arguments.len())?;
     for argument in arguments {
@@ -239,7 +246,8 @@ fn mapped_branches<V, W: Drop, P: Pass<V, W>>(
     pass: &P,
     branches: &[Branch<V>],
 ) -> Result<Vec<Branch<W>>, AllocError>
-    ensures { IfOk result (λ r. view_branches r.items ≡ mapped_branches (P.mapping pass.now) (view_branches branches.now)) }
+    ensures { IfOk result (λ r. view_branches r.items
+        ≡ mapped_branches (P.mapping pass.now) (view_branches branches.now)) }
 {
     let mut mapped = Vec::with_capacity(alloc, branches.len())?;
     for branch in branches {
@@ -257,7 +265,8 @@ fn mapped_choices<V, W: Drop, P: Pass<V, W>>(
     pass: &P,
     choices: &[Choice<V>],
 ) -> Result<Vec<Choice<W>>, AllocError>
-    ensures { IfOk result (λ r. view_choices r.items ≡ mapped_choices (P.mapping pass.now) (view_choices choices.now)) }
+    ensures { IfOk result (λ r. view_choices r.items
+        ≡ mapped_choices (P.mapping pass.now) (view_choices choices.now)) }
 {
     let mut mapped = Vec::with_capacity(alloc, choices.len())?;
     for choice in choices {
@@ -275,7 +284,8 @@ pub(crate) fn mapped_body<V, W: Drop, P: Pass<V, W>>(
     pass: &P,
     body: &[Stmt<V>],
 ) -> Result<Vec<Stmt<W>>, AllocError>
-    ensures { IfOk result (λ r. view_body r.items ≡ mapped_body (P.mapping pass.now) (view_body body.now)) }
+    ensures { IfOk result (λ r. view_body r.items
+        ≡ mapped_body (P.mapping pass.now) (view_body body.now)) }
 {
     let mut mapped = Vec::with_capacity(alloc, body.len())?;
     for stmt in body {

@@ -66,34 +66,43 @@ pub trait Pass<V, W> {
     /// The laws of the pass: what it puts in the place of a name that is known means the same, in worlds that match, and these match
     /// after a value of its kind is assigned to a variable that may be assigned, or to an input. It does nothing.
     fn laws(&self)
-        ensures { (case : Case) → IsLawful (context self.now case) (known self.now) (mapping self.now) (from self.now case) (to self.now case) (matches self.now case) };
+        ensures { (case : Case)
+            → IsLawful (context self.now case) (known self.now) (mapping self.now) (from self.now case)
+            (to self.now case) (matches self.now case) };
 }
 
-/// Returns the expression that a pass makes of an expression. In worlds that match it has the same outcome, a trap too, if the pass
-/// knows each of the expression's names. Fails only where memory is refused.
+/// Returns the expression that a pass makes of an expression. In worlds that match it has the same outcome, a trap too, if the pass knows each of the
+/// expression's names.
 pub fn map_expr<V, W: Drop, P: Pass<V, W>>(
     alloc: Global,
     pass: &P,
     expr: &Expr<V>,
 ) -> Result<Expr<W>, AllocError>
-    ensures tree { IfOk result (λ e. view_expr e ≡ mapped_expr (P.mapping pass.now) (view_expr expr.now)) }
-    ensures same { IfOk result (λ e. (case : P.Case) → expr_known (P.known pass.now) (view_expr expr.now) ≡ true → SameOutcome (P.matches pass.now case) (P.from pass.now case) (P.to pass.now case) (view_expr expr.now) (view_expr e)) }
+    ensures tree { IfOk result (λ e. view_expr e
+        ≡ mapped_expr (P.mapping pass.now) (view_expr expr.now)) }
+    ensures same { IfOk result (λ e. (case : P.Case)
+        → expr_known (P.known pass.now) (view_expr expr.now) ≡ true
+        → SameOutcome (P.matches pass.now case) (P.from pass.now case) (P.to pass.now case)
+        (view_expr expr.now) (view_expr e)) }
 {
     pass.laws();
     let mapped = mapped_expr(alloc, pass, expr)?;
     Ok(mapped)
 }
 
-/// Returns the body that a pass makes of a body, each statement with the same number. From worlds that match the two do the same, if the
-/// pass knows each of the body's names and the body's kinds are right: both end or both trap in the same place, and the worlds that they
-/// leave match. Fails only where memory is refused.
+/// Returns the body that a pass makes of a body, each statement with the same number. From worlds that match the two do the same, if the pass knows
+/// each of the body's names and the body's kinds are right: both end or both trap in the same place, and the worlds that they leave match.
 pub fn map_body<V, W: Drop, P: Pass<V, W>>(
     alloc: Global,
     pass: &P,
     body: &[Stmt<V>],
 ) -> Result<Vec<Stmt<W>>, AllocError>
-    ensures tree { IfOk result (λ r. view_body r.items ≡ mapped_body (P.mapping pass.now) (view_body body.now)) }
-    ensures same { IfOk result (λ r. (case : P.Case) → IsKeptBody (P.context pass.now case) (P.known pass.now) (view_body body.now) → Same (P.matches pass.now case) (run_all (P.from pass.now case) (view_body body.now)) (run_all (P.to pass.now case) (view_body r.items))) }
+    ensures tree { IfOk result (λ r. view_body r.items
+        ≡ mapped_body (P.mapping pass.now) (view_body body.now)) }
+    ensures same { IfOk result (λ r. (case : P.Case)
+        → IsKeptBody (P.context pass.now case) (P.known pass.now) (view_body body.now)
+        → Same (P.matches pass.now case) (run_all (P.from pass.now case) (view_body body.now))
+        (run_all (P.to pass.now case) (view_body r.items))) }
 {
     pass.laws();
     let mapped = mapped_body(alloc, pass, body)?;

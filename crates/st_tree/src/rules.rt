@@ -13,7 +13,7 @@ pub trait Rule<V> {
     /// Whether a statement keeps the rule.
     ghost rule: { Self → PlainStmt V → Bool };
 
-    /// Whether a statement keeps the rule, whatever is inside it. Fails if allocation fails.
+    /// Whether a statement keeps the rule, whatever is inside it.
     fn keeps(&self, alloc: Global, stmt: &Stmt<V>) -> Result<bool, AllocError>
         ensures { IfOk result (λ keeps. keeps ≡ rule self.now (view_stmt stmt.now)) };
 }
@@ -74,7 +74,7 @@ fn every_choice<V, R: Rule<V>>(
     Ok(true)
 }
 
-/// Whether each statement of a body keeps a rule, and each statement inside one of them. Fails if allocation fails.
+/// Whether each statement of a body keeps a rule, and each statement inside one of them.
 #[cycle(every)]
 pub fn every<V, R: Rule<V>>(alloc: Global, rule: &R, body: &[Stmt<V>]) -> Result<bool, AllocError>
     ensures { IfOk result (λ keep. keep ≡ every (R.rule rule.now) (view_body body.now)) }

@@ -24,9 +24,10 @@ impl Drop for Blocks<'_> {
     }
 }
 
-/// Adds the block types that a section's declarations name. Fails if allocation fails.
+/// Adds the block types that a section's declarations name.
 fn push_types<'a>(section: &'a Section, words: &mut Vec<&'a str>) -> Result<(), AllocError>
-    ensures { IfOk result (λ _. map (λ word. word.now) words.new.items ≡ map (λ word. word.now) words.old.items ++ section_types (view_section section.now)) }
+    ensures { IfOk result (λ _. map (λ word. word.now) words.new.items
+        ≡ map (λ word. word.now) words.old.items ++ section_types (view_section section.now)) }
 {
     for declaration in &section.declarations {
         match &declaration.sort {
@@ -37,7 +38,7 @@ fn push_types<'a>(section: &'a Section, words: &mut Vec<&'a str>) -> Result<(), 
     Ok(())
 }
 
-/// A function block with the block types that its declarations name. Fails if allocation fails.
+/// A function block with the block types that its declarations name.
 fn block_of<'a>(alloc: Global, pou: &'a Pou) -> Result<Block<'a>, AllocError>
     ensures { IfOk result (λ block. block ≡ block_of (view_pou pou.now)) }
 {
@@ -48,15 +49,17 @@ fn block_of<'a>(alloc: Global, pou: &'a Pou) -> Result<Block<'a>, AllocError>
     Ok(Block::new(pou.name.as_str(), words))
 }
 
-/// Adds the function blocks of a source. Fails if allocation fails.
+/// Adds the function blocks of a source.
 fn push_blocks<'a>(
     alloc: Global,
     source: usize,
     pous: &'a [Pou],
     list: &mut Blocks<'a>,
 ) -> Result<(), AllocError>
-    ensures blocks { IfOk result (λ _. list.new.blocks.items ≡ list.old.blocks.items ++ blocks_among (map view_pou pous.now)) }
-    ensures places { IfOk result (λ _. list.new.places.items ≡ list.old.places.items ++ places_among source 0 (map view_pou pous.now)) }
+    ensures blocks { IfOk result (λ _. list.new.blocks.items
+        ≡ list.old.blocks.items ++ blocks_among (map view_pou pous.now)) }
+    ensures places { IfOk result (λ _. list.new.places.items
+        ≡ list.old.places.items ++ places_among source 0 (map view_pou pous.now)) }
 {
     for (number, pou) in pous.iter().enumerate() {
         if let PouKind::Block = pou.kind {
@@ -70,7 +73,7 @@ fn push_blocks<'a>(
     Ok(())
 }
 
-/// The function blocks of all sources. Fails if allocation fails.
+/// The function blocks of all sources.
 pub fn blocks_of<'a>(alloc: Global, units: &'a [Unit]) -> Result<Blocks<'a>, AllocError>
     ensures blocks { IfOk result (λ list. list.blocks.items ≡ blocks_of (map view_unit units.now)) }
     ensures places { IfOk result (λ list. list.places.items ≡ block_places 0 (map view_unit units.now)) }

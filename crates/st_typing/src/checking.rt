@@ -62,8 +62,8 @@ impl<'a> Judge for Inconstant<'a> {
     }
 }
 
-/// Fails for the first unit with a name that isn't there or is taken, else for the first with something of another kind than it must have,
-/// or if allocation fails.
+/// Fails for the first unit with a name that isn't there or is taken, else for the first with something of another kind than it must have, or if
+/// memory is refused.
 fn check_kinds(alloc: Global, shared: &SharedNames<'_>) -> Result<(), TypeFault>
     ensures { MatchResult result (λ _. AreKinded shared.now) (IsTypeFault shared.now) }
 {
@@ -76,11 +76,12 @@ fn check_kinds(alloc: Global, shared: &SharedNames<'_>) -> Result<(), TypeFault>
     Ok(())
 }
 
-/// An order of the function blocks in which each stands after those that it declares; `None` where one is nested too deep. Fails for the
-/// first that holds itself, or if allocation fails.
+/// An order of the function blocks in which each stands after those that it declares; `None` where one is nested too deep. Fails for the first that
+/// holds itself, or if memory is refused.
 fn block_order(alloc: Global, units: &[Unit]) -> Result<Option<Vec<usize>>, TypeFault>
     requires { AreKinded (map view_unit units.now) }
-    ensures { MatchResult result (IsNested (map view_unit units.now)) (IsTypeFault (map view_unit units.now)) }
+    ensures { MatchResult result (IsNested (map view_unit units.now))
+        (IsTypeFault (map view_unit units.now)) }
 {
     let list = blocks_of(alloc, units)?;
     match order_blocks(alloc, &list.blocks) {
@@ -91,7 +92,7 @@ fn block_order(alloc: Global, units: &[Unit]) -> Result<Option<Vec<usize>>, Type
     }
 }
 
-/// Fails for the first unit with a constant, bounds of an array or a control variable that isn't allowed, or if allocation fails.
+/// Fails for the first unit with a constant, bounds of an array or a control variable that isn't allowed, or if memory is refused.
 fn check_constants(alloc: Global, shared: &SharedNames<'_>) -> Result<(), TypeFault>
     requires { AreApart shared.now }
     ensures { MatchResult result (λ _. AreConstant shared.now) (IsTypeFault shared.now) }
@@ -102,8 +103,8 @@ fn check_constants(alloc: Global, shared: &SharedNames<'_>) -> Result<(), TypeFa
     Ok(())
 }
 
-/// The order of the function blocks, if the sources keep the limits. Fails for too many turns, blocks nested too deep, too many programs or
-/// an array of too many elements, or if allocation fails.
+/// The order of the function blocks, if the sources keep the limits. Fails for too many turns, blocks nested too deep, too many programs or an array
+/// of too many elements, or if memory is refused.
 fn check_limits(
     alloc: Global,
     units: &[Unit],
@@ -111,7 +112,8 @@ fn check_limits(
 ) -> Result<Vec<usize>, TypeFault>
     requires constant { AreConstant (map view_unit units.now) }
     requires nested { IsNested (map view_unit units.now) order }
-    ensures { MatchResult result (λ order. IsTyped (map view_unit units.now) order.items) (IsTypeFault (map view_unit units.now)) }
+    ensures { MatchResult result (λ order. IsTyped (map view_unit units.now) order.items)
+        (IsTypeFault (map view_unit units.now)) }
 {
     if some_long(alloc, units)? {
         return Err(TypeFault::Turns);
@@ -130,7 +132,8 @@ fn check_limits(
 
 /// The order of the function blocks of well-formed sources. Fails as `check` does.
 fn order_of(alloc: Global, units: &[Unit]) -> Result<Vec<usize>, TypeFault>
-    ensures { MatchResult result (λ order. IsTyped (map view_unit units.now) order.items) (IsTypeFault (map view_unit units.now)) }
+    ensures { MatchResult result (λ order. IsTyped (map view_unit units.now) order.items)
+        (IsTypeFault (map view_unit units.now)) }
 {
     let shared = SharedNames::new(alloc, units)?;
     if let Err(fault) = check_kinds(alloc, &shared) {
@@ -149,10 +152,11 @@ fn order_of(alloc: Global, units: &[Unit]) -> Result<Vec<usize>, TypeFault>
 /// Checks all sources of a plant: names (C6), kinds (C7), blocks that hold themselves (C8), constants (C9), then turns, depth of blocks,
 /// the number of programs and the elements of arrays (C10). What is well formed keeps the sources, and copies nothing of them.
 ///
-/// Fails for the first of these rules that is broken, at the first unit, in order of text, that breaks it, or if allocation fails; and gives the
+/// Fails for the first of these rules that is broken, at the first unit, in order of text, that breaks it, or if memory is refused; and gives the
 /// sources back.
 pub fn check(alloc: Global, units: Vec<Unit>) -> Result<Typed, Mistyped>
-    ensures judged { MatchResult result (λ typed. typed ≡ map view_unit units.items) (λ mistyped. IsTypeFault (map view_unit units.items) mistyped.fault) }
+    ensures judged { MatchResult result (λ typed. typed ≡ map view_unit units.items)
+        (λ mistyped. IsTypeFault (map view_unit units.items) mistyped.fault) }
     ensures given_back { IfErr result (λ mistyped. mistyped.units.items ≡ units.items) }
 {
     match order_of(alloc, units.as_slice()) {

@@ -41,8 +41,10 @@ fn apply_binary(op: Binary, x: Result<i64, Trap>, y: Result<i64, Trap>) -> Resul
 /// The outcome of a constant expression and its kind, each operator being that of its operands' kind; `None` for an expression that reads
 /// a variable, an output or an element.
 fn kinded_constant(expr: &Expr<Text>) -> Option<(Result<i64, Trap>, Kind)>
-    ensures outcome { (kinds : KindsOf (List ℕ)) → option_map (λ r. r.0) result ≡ constant_of (resolved_expr kinds (view_expr expr.now)) }
-    ensures kind { (kinds : KindsOf (List ℕ)) → IfSome result (λ r. r.1 ≡ kind_in kinds (view_expr expr.now)) }
+    ensures outcome { (kinds : KindsOf (List ℕ))
+        → option_map (λ r. r.0) result ≡ constant_of (resolved_expr kinds (view_expr expr.now)) }
+    ensures kind { (kinds : KindsOf (List ℕ))
+        → IfSome result (λ r. r.1 ≡ kind_in kinds (view_expr expr.now)) }
 {
     match expr {
         Expr::Literal(literal) => Some((Ok(literal.worth()), literal.kind())),
@@ -175,7 +177,7 @@ impl<'a> Rule for Unassigned<'a> {
     }
 }
 
-/// Whether no statement of a body assigns a variable. Fails if allocation fails.
+/// Whether no statement of a body assigns a variable.
 fn never_assigns(alloc: Global, variable: &Text, body: &[Stmt<Text>]) -> Result<bool, AllocError>
     ensures { IfOk result (λ kept. kept ≡ never_assigns variable.now (view_body body.now)) }
 {
@@ -262,7 +264,9 @@ fn sort_in_order(sort: &Sort) -> bool
 /// Whether the initial value of each name of a declaration, if one is written, is constant and doesn't trap, and the low bound of an array
 /// isn't above its high one.
 fn declaration_constant(declaration: &Declaration) -> bool
-    ensures { (section : SectionKind) → result ≡ list_all declared_constant (declared_together section (view_declaration declaration.now)) }
+    ensures { (section : SectionKind)
+        → result
+        ≡ list_all declared_constant (declared_together section (view_declaration declaration.now)) }
 {
     let constant = is_initial(&declaration.initial) && sort_in_order(&declaration.sort);
     for _name in &declaration.names {
@@ -304,8 +308,8 @@ pub fn globals_inconstant(sections: &[Section]) -> bool
     !sections_constant(sections)
 }
 
-/// Whether a block or program has an initial value that isn't constant or traps, an array whose low bound is above its high one, or a FOR
-/// that isn't allowed. Fails if allocation fails.
+/// Whether a block or program has an initial value that isn't constant or traps, an array whose low bound is above its high one, or a FOR that isn't
+/// allowed.
 pub fn pou_inconstant<S: Scope>(alloc: Global, scope: &S, pou: &Pou) -> Result<bool, AllocError>
     requires { S.own scope.now ≡ declared_in (view_pou pou.now).sections }
     ensures { IfOk result (λ wrong. wrong ≡ pou_inconstant (view_pou pou.now)) }
@@ -317,7 +321,7 @@ pub fn pou_inconstant<S: Scope>(alloc: Global, scope: &S, pou: &Pou) -> Result<b
     Ok(!allowed)
 }
 
-/// Whether a FOR of a block or program has more than 10,000 turns. Fails if allocation fails.
+/// Whether a FOR of a block or program has more than 10,000 turns.
 pub fn pou_long(alloc: Global, pou: &Pou) -> Result<bool, AllocError>
     ensures { IfOk result (λ long. long ≡ pou_long (view_pou pou.now)) }
 {

@@ -29,7 +29,9 @@ fn element_kind<S: Scope>(scope: &S, name: &Text) -> Option<Kind>
 
 /// The kind of an expression; `None` if an operator doesn't take its operands, an index isn't a DINT, or a name has no kind.
 fn kind_of_expr<S: Scope>(scope: &S, expr: &Expr<Text>) -> Option<Kind>
-    ensures { result ≡ kind_of_expr (sorts_of (context_of (S.units scope.now) (S.own scope.now))) (view_expr expr.now) }
+    ensures { result
+        ≡ kind_of_expr (sorts_of (context_of (S.units scope.now) (S.own scope.now)))
+        (view_expr expr.now) }
 {
     match expr {
         Expr::Literal(literal) => Some(literal.kind()),
@@ -68,14 +70,16 @@ fn is_kind(kind: Kind, found: Option<Kind>) -> bool
 
 /// Whether an expression is of a kind.
 fn is_of<S: Scope>(scope: &S, kind: Kind, expr: &Expr<Text>) -> bool
-    ensures { result ≡ is_of (context_of (S.units scope.now) (S.own scope.now)) kind (view_expr expr.now) }
+    ensures { result
+        ≡ is_of (context_of (S.units scope.now) (S.own scope.now)) kind (view_expr expr.now) }
 {
     is_kind(kind, kind_of_expr(scope, expr))
 }
 
 /// The same of an expression that may be left out.
 fn option_is_of<S: Scope>(scope: &S, kind: Kind, expr: &Option<Expr<Text>>) -> bool
-    ensures { result ≡ option_is_of (context_of (S.units scope.now) (S.own scope.now)) kind (view_option expr.now) }
+    ensures { result
+        ≡ option_is_of (context_of (S.units scope.now) (S.own scope.now)) kind (view_option expr.now) }
 {
     match expr {
         Some(expr) => is_of(scope, kind, expr),
@@ -85,7 +89,8 @@ fn option_is_of<S: Scope>(scope: &S, kind: Kind, expr: &Option<Expr<Text>>) -> b
 
 /// Whether an expression may be all that a variable of a kind is given: it is of the kind, or the integer 0 or 1 for a BOOL (this profile).
 fn fits_option<S: Scope>(scope: &S, kind: Option<Kind>, expr: &Expr<Text>) -> bool
-    ensures { result ≡ fits_option (context_of (S.units scope.now) (S.own scope.now)) kind (view_expr expr.now) }
+    ensures { result
+        ≡ fits_option (context_of (S.units scope.now) (S.own scope.now)) kind (view_expr expr.now) }
 {
     match kind {
         Some(kind) => {
@@ -97,7 +102,9 @@ fn fits_option<S: Scope>(scope: &S, kind: Option<Kind>, expr: &Expr<Text>) -> bo
 
 /// Whether an argument of a call fits the input or output that it names.
 fn argument_fits<S: Scope>(scope: &S, instance: &Text, argument: &Argument<Text>) -> bool
-    ensures { result ≡ argument_fits (context_of (S.units scope.now) (S.own scope.now)) instance.now (view_argument argument.now) }
+    ensures { result
+        ≡ argument_fits (context_of (S.units scope.now) (S.own scope.now)) instance.now
+        (view_argument argument.now) }
 {
     match argument {
         Argument::Input(name, expr) => fits_option(scope, scope.input_kind(instance, name), expr),
@@ -112,7 +119,9 @@ fn argument_fits<S: Scope>(scope: &S, instance: &Text, argument: &Argument<Text>
 
 /// Whether each argument of a call fits.
 fn arguments_fit<S: Scope>(scope: &S, instance: &Text, arguments: &[Argument<Text>]) -> bool
-    ensures { result ≡ list_all (argument_fits (context_of (S.units scope.now) (S.own scope.now)) instance.now) (map view_argument arguments.now) }
+    ensures { result
+        ≡ list_all (argument_fits (context_of (S.units scope.now) (S.own scope.now)) instance.now)
+        (map view_argument arguments.now) }
 {
     for argument in arguments {
         if !argument_fits(scope, instance, argument) {
@@ -124,7 +133,9 @@ fn arguments_fit<S: Scope>(scope: &S, instance: &Text, arguments: &[Argument<Tex
 
 /// Whether each test of an IF is BOOL.
 fn tests_fit<S: Scope>(scope: &S, branches: &[Branch<Text>]) -> bool
-    ensures { result ≡ list_all (is_of (context_of (S.units scope.now) (S.own scope.now)) Kind.Bool) (tests_of (view_branches branches.now)) }
+    ensures { result
+        ≡ list_all (is_of (context_of (S.units scope.now) (S.own scope.now)) Kind.Bool)
+        (tests_of (view_branches branches.now)) }
 {
     for branch in branches {
         if !is_of(scope, Kind::Bool, &branch.test) {
@@ -136,7 +147,8 @@ fn tests_fit<S: Scope>(scope: &S, branches: &[Branch<Text>]) -> bool
 
 /// Whether an expression may be assigned to a variable.
 fn takes<S: Scope>(scope: &S, name: &Text, expr: &Expr<Text>) -> bool
-    ensures { result ≡ takes (context_of (S.units scope.now) (S.own scope.now)) name.now (view_expr expr.now) }
+    ensures { result
+        ≡ takes (context_of (S.units scope.now) (S.own scope.now)) name.now (view_expr expr.now) }
 {
     scope.is_assignable(name) && fits_option(scope, scope.variable_kind(name), expr)
 }
@@ -182,7 +194,8 @@ impl<'a, S: Scope> Rule for PartsFit<'a, S> {
 
 /// Whether an initial value, if one is written, may be assigned to a variable of a kind.
 fn initial_fits<S: Scope>(scope: &S, kind: Option<Kind>, initial: &Option<Expr<Text>>) -> bool
-    ensures { result ≡ initial_fits (S.units scope.now) (S.own scope.now) kind (option_map view_expr initial.now) }
+    ensures { result
+        ≡ initial_fits (S.units scope.now) (S.own scope.now) kind (option_map view_expr initial.now) }
 {
     match initial {
         Some(expr) => fits_option(scope, kind, expr),
@@ -229,8 +242,12 @@ fn name_fits<S: Scope>(
     initial: bool,
     name: &Text,
 ) -> bool
-    requires { initial ≡ initial_fits (S.units scope.now) (S.own scope.now) (sort_kind declaration.now.sort) (option_map view_expr declaration.now.initial) }
-    ensures { result ≡ declared_fits (S.units scope.now) (S.own scope.now) (declared_as section (view_declaration declaration.now) name.now) }
+    requires { initial
+        ≡ initial_fits (S.units scope.now) (S.own scope.now) (sort_kind declaration.now.sort)
+        (option_map view_expr declaration.now.initial) }
+    ensures { result
+        ≡ declared_fits (S.units scope.now) (S.own scope.now)
+        (declared_as section (view_declaration declaration.now) name.now) }
 {
     match (&declaration.sort, section) {
         (Sort::Block(_), SectionKind::Local) => declaration.initial.is_none(),
@@ -247,7 +264,9 @@ fn name_fits<S: Scope>(
 
 /// Whether each name of a declaration fits.
 fn declaration_fits<S: Scope>(scope: &S, section: SectionKind, declaration: &Declaration) -> bool
-    ensures { result ≡ list_all (declared_fits (S.units scope.now) (S.own scope.now)) (declared_together section (view_declaration declaration.now)) }
+    ensures { result
+        ≡ list_all (declared_fits (S.units scope.now) (S.own scope.now))
+        (declared_together section (view_declaration declaration.now)) }
 {
     let kind = sort_kind(&declaration.sort);
     let initial = initial_fits(scope, kind, &declaration.initial);
@@ -261,7 +280,9 @@ fn declaration_fits<S: Scope>(scope: &S, section: SectionKind, declaration: &Dec
 
 /// Whether each declaration of a section fits.
 fn section_fits<S: Scope>(scope: &S, section: &Section) -> bool
-    ensures { result ≡ list_all (declared_fits (S.units scope.now) (S.own scope.now)) (declared_by (view_section section.now)) }
+    ensures { result
+        ≡ list_all (declared_fits (S.units scope.now) (S.own scope.now))
+        (declared_by (view_section section.now)) }
 {
     for declaration in &section.declarations {
         if !declaration_fits(scope, section.kind, declaration) {
@@ -273,7 +294,9 @@ fn section_fits<S: Scope>(scope: &S, section: &Section) -> bool
 
 /// Whether each declaration of sections fits.
 fn sections_fit<S: Scope>(scope: &S, sections: &[Section]) -> bool
-    ensures { result ≡ list_all (declared_fits (S.units scope.now) (S.own scope.now)) (declared_in (map view_section sections.now)) }
+    ensures { result
+        ≡ list_all (declared_fits (S.units scope.now) (S.own scope.now))
+        (declared_in (map view_section sections.now)) }
 {
     for section in sections {
         if !section_fits(scope, section) {
@@ -303,7 +326,7 @@ pub fn globals_misfit<S: Scope>(scope: &S, sections: &[Section]) -> bool
     !(are_global(sections) && sections_fit(scope, sections))
 }
 
-/// Whether a block or program has something of another kind than it must have. Fails if allocation fails.
+/// Whether a block or program has something of another kind than it must have.
 #[tactic(auto, using(crate::proofs::Parts::body_parts))]
 pub fn pou_misfit<S: Scope>(alloc: Global, scope: &S, pou: &Pou) -> Result<bool, AllocError>
     requires { S.own scope.now ≡ declared_in (view_pou pou.now).sections }

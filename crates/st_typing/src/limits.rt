@@ -12,7 +12,7 @@ use crate::constants::pou_long;
 use st_parser::{Declaration, Pou, PouKind, Section, Sort, Unit};
 use std::alloc::{AllocError, Global};
 
-/// Whether a FOR of some function block or program of a source has more than 10,000 turns. Fails if allocation fails.
+/// Whether a FOR of some function block or program of a source has more than 10,000 turns.
 fn some_pou_long(alloc: Global, pous: &[Pou]) -> Result<bool, AllocError>
     ensures { IfOk result (λ long. long ≡ list_any pou_long (map view_pou pous.now)) }
 {
@@ -24,7 +24,7 @@ fn some_pou_long(alloc: Global, pous: &[Pou]) -> Result<bool, AllocError>
     Ok(false)
 }
 
-/// Whether a FOR of the sources has more than 10,000 turns. Fails if allocation fails.
+/// Whether a FOR of the sources has more than 10,000 turns.
 pub fn some_long(alloc: Global, units: &[Unit]) -> Result<bool, AllocError>
     ensures { IfOk result (λ long. long ≡ some_long (map view_unit units.now)) }
 {
@@ -42,7 +42,8 @@ const PROGRAMS: usize = 512;
 /// Counts the programs among a source's function blocks and programs; `None` once there are more than 512.
 fn add_programs(count: usize, pous: &[Pou]) -> Option<usize>
     requires { count ≤ 512 }
-    ensures few { IfSome result (λ total. (total ≡ count + programs_among (map view_pou pous.now)) × (total ≤ 512)) }
+    ensures few { IfSome result (λ total. (total ≡ count + programs_among (map view_pou pous.now))
+        × (total ≤ 512)) }
     ensures many { IsNone result → 512 < count + programs_among (map view_pou pous.now) }
 {
     let mut total = count;
@@ -86,7 +87,8 @@ fn sort_wide(sort: &Sort) -> bool
 
 /// Whether a name of a declaration is an array of more than 4,096 elements.
 fn declaration_wide(declaration: &Declaration) -> bool
-    ensures { (section : SectionKind) → result ≡ list_any is_wide (declared_together section (view_declaration declaration.now)) }
+    ensures { (section : SectionKind)
+        → result ≡ list_any is_wide (declared_together section (view_declaration declaration.now)) }
 {
     let wide = sort_wide(&declaration.sort);
     for _name in &declaration.names {

@@ -33,7 +33,8 @@ impl Epoch {
     /// 23, minutes and seconds to 59. `None` for any other text.
     pub fn read(text: &str) -> Option<Epoch>
         ensures some { IfSome result (λ epoch. text.now ≡ epoch_text epoch) }
-        ensures none { IsNone result → (seconds : ℕ) → seconds < epoch_bound → text.now ≢ epoch_text seconds }
+        ensures none { IsNone result → (seconds : ℕ) → seconds < epoch_bound
+            → text.now ≢ epoch_text seconds }
     {
         let instant = instant_of(text)?;
         let seconds = seconds_of(instant)?;
@@ -48,7 +49,7 @@ impl Epoch {
         self.seconds
     }
 
-    /// The stamp of a moment in milliseconds after the epoch, as `2024-03-01T00:00:00.000Z` (ISO 8601). Fails if allocation fails.
+    /// The stamp of a moment in milliseconds after the epoch, as `2024-03-01T00:00:00.000Z` (ISO 8601).
     pub fn stamp(&self, alloc: Global, moment: u64) -> Result<String, AllocError>
         requires { moment ≤ 4_000_000_000_000 }
         ensures { IfOk result (λ text. string_bytes text ≡ stamp self.now moment) }

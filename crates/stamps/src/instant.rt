@@ -33,8 +33,10 @@ pub fn instant_of(text: &str) -> Option<Timestamp>
 
 /// The whole seconds since 1970 of an instant of the years 1970 to 2399; `None` for any other, and for one between two seconds.
 pub fn seconds_of(instant: Timestamp) -> Option<u64>
-    ensures some { IfSome result (λ s. (instant.nanosecond ≡ pos (s * 1_000_000_000)) × (s < epoch_bound)) }
-    ensures none { IsNone result → (s : ℕ) → s < epoch_bound → instant.nanosecond ≢ pos (s * 1_000_000_000) }
+    ensures some { IfSome result (λ s. (instant.nanosecond ≡ pos (s * 1_000_000_000))
+        × (s < epoch_bound)) }
+    ensures none { IsNone result → (s : ℕ) → s < epoch_bound
+        → instant.nanosecond ≢ pos (s * 1_000_000_000) }
 {
     let nanoseconds = instant.as_nanosecond();
     if nanoseconds < 0 || nanoseconds >= 13_569_465_600_000_000_000 {

@@ -7,7 +7,7 @@ use crate::Begun;
 use crew::{CrewFault, Work};
 use std::alloc::AllocError;
 
-/// A tick for each job that was handed out, all off, in the room of other ticks. Fails if memory was refused.
+/// A tick for each job that was handed out, all off, in the room of other ticks.
 #[tactic(auto, using(crate::proofs::Ticks::all_off))]
 pub(crate) fn begin_ticks<S>(starts: &[Begun<S>], ticks: &mut Vec<bool>) -> Result<(), AllocError>
     ensures { IfOk result (λ _. IsTicked starts.now ticks.new.items []) }
@@ -31,7 +31,8 @@ pub(crate) fn tick_off<J: Work<S, D>, S: Drop, D>(
     requires ticked { IsTicked starts.now ticks.old (map J.ended_from (take from got.now)) }
     requires distinct { IsDistinct starts.now }
     ensures ticked { IsTrue result → IsTicked starts.now ticks.new (map J.ended_from got.now) }
-    ensures misfit { IsFalse result → HasStranger starts.now (map J.ended_from got.now) ⊎ HasDouble (map J.ended_from got.now) }
+    ensures misfit { IsFalse result
+        → HasStranger starts.now (map J.ended_from got.now) ⊎ HasDouble (map J.ended_from got.now) }
 {
     let mut next = near;
     for at in from..got.len() {
@@ -52,7 +53,9 @@ pub(crate) fn tick_off<J: Work<S, D>, S: Drop, D>(
 
 /// The place of what a run started from. It is sought near a place first, since the runs of one message stand in their order.
 fn place_near<J: Work<S, D>, S, D>(starts: &[Begun<S>], ended: &D, near: usize) -> Option<usize>
-    ensures { MatchOption result (Contains starts.now (J.ended_from ended.now) → ⊥) (λ place. (place < length starts.now) × (slice_index_or starts.now place (J.ended_from ended.now) ≡ J.ended_from ended.now)) }
+    ensures { MatchOption result (Contains starts.now (J.ended_from ended.now) → ⊥)
+        (λ place. (place < length starts.now)
+        × (slice_index_or starts.now place (J.ended_from ended.now) ≡ J.ended_from ended.now)) }
 {
     if near < starts.len() && J::is_run_of(ended, starts[near].start()) {
         return Some(near);
@@ -62,7 +65,9 @@ fn place_near<J: Work<S, D>, S, D>(starts: &[Begun<S>], ended: &D, near: usize) 
 
 /// The first place of what a run started from.
 fn place_of<J: Work<S, D>, S, D>(starts: &[Begun<S>], ended: &D) -> Option<usize>
-    ensures { MatchOption result (Contains starts.now (J.ended_from ended.now) → ⊥) (λ place. (place < length starts.now) × (slice_index_or starts.now place (J.ended_from ended.now) ≡ J.ended_from ended.now)) }
+    ensures { MatchOption result (Contains starts.now (J.ended_from ended.now) → ⊥)
+        (λ place. (place < length starts.now)
+        × (slice_index_or starts.now place (J.ended_from ended.now) ≡ J.ended_from ended.now)) }
 {
     for (place, start) in starts.iter().enumerate() {
         if J::is_run_of(ended, start.start()) {
@@ -80,7 +85,8 @@ pub(crate) fn all_there<J: Work<S, D>, S, D>(
     ticks: &[bool],
 ) -> Result<(), CrewFault>
     requires { IsTicked starts.now ticks.now (map J.ended_from got.now) }
-    ensures { MatchResult result (λ _. IsEachOnce starts.now (map J.ended_from got.now)) (λ fault. IsCollectFault starts.now (map J.ended_from got.now) fault) }
+    ensures { MatchResult result (λ _. IsEachOnce starts.now (map J.ended_from got.now))
+        (λ fault. IsCollectFault starts.now (map J.ended_from got.now) fault) }
 {
     if !all_ticked(ticks) {
         return Err(CrewFault::Lost);
@@ -90,8 +96,10 @@ pub(crate) fn all_there<J: Work<S, D>, S, D>(
 
 /// Whether all are ticked.
 fn all_ticked(ticks: &[bool]) -> bool
-    ensures all { IsTrue result → (i : ℕ) → i < length ticks.now → slice_index_or ticks.now i false ≡ true }
-    ensures one { IsFalse result → (i : ℕ) × (i < length ticks.now) × (slice_index_or ticks.now i false ≡ false) }
+    ensures all { IsTrue result → (i : ℕ) → i < length ticks.now
+        → slice_index_or ticks.now i false ≡ true }
+    ensures one { IsFalse result
+        → (i : ℕ) × (i < length ticks.now) × (slice_index_or ticks.now i false ≡ false) }
 {
     for tick in ticks {
         if !*tick {

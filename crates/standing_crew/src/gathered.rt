@@ -27,7 +27,9 @@ pub fn assemble<J: Work<S, D>, S: Drop, D: Drop>(
     got: Vec<D>,
 ) -> Result<Vec<D>, CrewFault>
     requires { IsDistinct starts.now }
-    ensures { MatchResult result (λ runs. (runs ≡ got) × IsEachOnce starts.now (map J.ended_from got.items)) (λ fault. IsCollectFault starts.now (map J.ended_from got.items) fault) }
+    ensures { MatchResult result
+        (λ runs. (runs ≡ got) × IsEachOnce starts.now (map J.ended_from got.items))
+        (λ fault. IsCollectFault starts.now (map J.ended_from got.items) fault) }
 {
     let mut ticks = Vec::new(alloc);
     let Ok(()) = begin_ticks(starts, &mut ticks) else {
@@ -57,9 +59,11 @@ fn tick_rest<J: Work<S, D>, S: Drop, D>(
 )
     requires before { from ≤ length gathered.old.runs.items }
     requires fine { gathered.old.fault ≡ None }
-    requires ticked { IsTicked starts.now gathered.old.ticks.items (map J.ended_from (take from gathered.old.runs.items)) }
+    requires ticked { IsTicked starts.now gathered.old.ticks.items
+        (map J.ended_from (take from gathered.old.runs.items)) }
     requires distinct { IsDistinct starts.now }
-    ensures gathered { IsGathered starts.now gathered.new.fault gathered.new.ticks.items (map J.ended_from gathered.new.runs.items) }
+    ensures gathered { IsGathered starts.now gathered.new.fault gathered.new.ticks.items
+        (map J.ended_from gathered.new.runs.items) }
     ensures runs { gathered.new.runs ≡ gathered.old.runs }
 {
     let runs = gathered.runs.as_slice();
@@ -78,8 +82,10 @@ fn add_runs<J: Work<S, D>, S: Drop, D: Drop>(
 )
     requires distinct { IsDistinct starts.now }
     requires fine { gathered.old.fault ≡ None }
-    requires ticked { IsTicked starts.now gathered.old.ticks.items (map J.ended_from gathered.old.runs.items) }
-    ensures { IsGathered starts.now gathered.new.fault gathered.new.ticks.items (map J.ended_from gathered.new.runs.items) }
+    requires ticked { IsTicked starts.now gathered.old.ticks.items
+        (map J.ended_from gathered.old.runs.items) }
+    ensures { IsGathered starts.now gathered.new.fault gathered.new.ticks.items
+        (map J.ended_from gathered.new.runs.items) }
 {
     let from = gathered.runs.len();
     let mut more = lists;
@@ -101,8 +107,10 @@ fn run_more<J: Work<S, D>, S: Drop, D: Drop, G: Gate>(
 )
     requires distinct { IsDistinct starts.now }
     requires fine { gathered.old.fault ≡ None }
-    requires ticked { IsTicked starts.now gathered.old.ticks.items (map J.ended_from gathered.old.runs.items) }
-    ensures { IsGathered starts.now gathered.new.fault gathered.new.ticks.items (map J.ended_from gathered.new.runs.items) }
+    requires ticked { IsTicked starts.now gathered.old.ticks.items
+        (map J.ended_from gathered.old.runs.items) }
+    ensures { IsGathered starts.now gathered.new.fault gathered.new.ticks.items
+        (map J.ended_from gathered.new.runs.items) }
 {
     let from = gathered.runs.len();
     let mut more = lists;
@@ -123,8 +131,10 @@ pub(crate) fn take_in<J: Work<S, D>, S: Drop, D: Drop>(
     gathered: &mut Gathered<J, D>,
 )
     requires distinct { IsDistinct starts.now }
-    requires ticked { IsGathered starts.now gathered.old.fault gathered.old.ticks.items (map J.ended_from gathered.old.runs.items) }
-    ensures { IsGathered starts.now gathered.new.fault gathered.new.ticks.items (map J.ended_from gathered.new.runs.items) }
+    requires ticked { IsGathered starts.now gathered.old.fault gathered.old.ticks.items
+        (map J.ended_from gathered.old.runs.items) }
+    ensures { IsGathered starts.now gathered.new.fault gathered.new.ticks.items
+        (map J.ended_from gathered.new.runs.items) }
 {
     match gathered.fault {
         None => add_runs::<J, S, D>(starts, lists, near, gathered),
@@ -142,8 +152,10 @@ pub(crate) fn run_in<J: Work<S, D>, S: Drop, D: Drop, G: Gate>(
     gathered: &mut Gathered<J, D>,
 )
     requires distinct { IsDistinct starts.now }
-    requires ticked { IsGathered starts.now gathered.old.fault gathered.old.ticks.items (map J.ended_from gathered.old.runs.items) }
-    ensures { IsGathered starts.now gathered.new.fault gathered.new.ticks.items (map J.ended_from gathered.new.runs.items) }
+    requires ticked { IsGathered starts.now gathered.old.fault gathered.old.ticks.items
+        (map J.ended_from gathered.old.runs.items) }
+    ensures { IsGathered starts.now gathered.new.fault gathered.new.ticks.items
+        (map J.ended_from gathered.new.runs.items) }
 {
     match gathered.fault {
         None => run_more::<J, S, D, G>(gate, starts, lists, near, gathered),
@@ -157,8 +169,10 @@ pub(crate) fn gathered_all<J: Work<S, D>, S, D>(
     starts: &[Begun<S>],
     gathered: &Gathered<J, D>,
 ) -> Result<(), CrewFault>
-    requires { IsGathered starts.now gathered.now.fault gathered.now.ticks.items (map J.ended_from gathered.now.runs.items) }
-    ensures { MatchResult result (λ _. IsEachOnce starts.now (map J.ended_from gathered.now.runs.items)) (λ fault. IsCollectFault starts.now (map J.ended_from gathered.now.runs.items) fault) }
+    requires { IsGathered starts.now gathered.now.fault gathered.now.ticks.items
+        (map J.ended_from gathered.now.runs.items) }
+    ensures { MatchResult result (λ _. IsEachOnce starts.now (map J.ended_from gathered.now.runs.items))
+        (λ fault. IsCollectFault starts.now (map J.ended_from gathered.now.runs.items) fault) }
 {
     match gathered.fault {
         None => {

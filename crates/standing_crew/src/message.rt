@@ -52,7 +52,7 @@ pub(crate) fn keep_lists<J: Drop, D: Drop>(spare: &mut Vec<Lists<J, D>>, lists: 
     let _ = spare.push(empty);
 }
 
-/// Moves the jobs from a place on into another list, the last one first. Fails if memory was refused.
+/// Moves the jobs from a place on into another list, the last one first.
 pub(crate) fn move_last<J: Drop>(
     from: &mut Vec<J>,
     place: usize,
@@ -95,7 +95,9 @@ pub(crate) fn run_all<J: Work<S, D>, S, D: Drop, G: Gate>(
     jobs: Vec<J>,
     runs: &mut Vec<D>,
 ) -> bool
-    ensures { IsTrue result → map J.ended_from runs.new.items ≡ map J.ended_from runs.old.items ++ map J.start_of jobs.items }
+    ensures { IsTrue result
+        → map J.ended_from runs.new.items
+        ≡ map J.ended_from runs.old.items ++ map J.start_of jobs.items }
 {
     if runs.reserve(jobs.len()).is_err() {
         return false;

@@ -288,7 +288,8 @@ impl<J: Work<S, D>, S: Drop, D: Drop, G: Gate> Standing<J, S, D, G> {
     /// Runs all jobs in the caller's thread. Nothing is compared, since nothing comes back.
     fn run_alone(&self, alloc: Global, jobs: Vec<J>) -> Result<Vec<D>, CrewFault>
         requires { AreNumbered J.number_of (map J.start_of jobs.items) }
-        ensures each { IfOk result (λ runs. IsEachOnce (map J.start_of jobs.items) (map J.ended_from runs.items)) }
+        ensures each { IfOk result (λ runs. IsEachOnce (map J.start_of jobs.items)
+            (map J.ended_from runs.items)) }
         ensures memory { IfErr result (λ fault. fault ≡ Memory) }
     {
         let mut runs = Vec::new(alloc);
@@ -304,8 +305,10 @@ impl<J: Work<S, D>, S: Drop, D: Drop, G: Gate> Standing<J, S, D, G> {
     #[tactic(auto, using(crate::proofs::RunFaults::run_fault, crate::proofs::RunFaults::memory_fault, crate::proofs::RunFaults::memory_at_most))]
     fn round<H: Wait>(&mut self, rt: &H, alloc: Global, jobs: Vec<J>) -> Result<Vec<D>, CrewFault>
         requires { AreNumbered J.number_of (map J.start_of jobs.items) }
-        ensures each { IfOk result (λ runs. IsEachOnce (map J.start_of jobs.items) (map J.ended_from runs.items)) }
-        ensures why { IfErr result (λ fault. IsRunFault J.ended_from (map J.start_of jobs.items) self.old self.new fault) }
+        ensures each { IfOk result (λ runs. IsEachOnce (map J.start_of jobs.items)
+            (map J.ended_from runs.items)) }
+        ensures why { IfErr result (λ fault. IsRunFault J.ended_from (map J.start_of jobs.items) self.old
+            self.new fault) }
         ensures lost { self.old.lost ≡ true → IsLost result }
         ensures alone { IsByItself self.old → IsMemoryAtMost result }
         ensures stands { IsAsBefore self.old self.new }
@@ -330,14 +333,15 @@ impl<J: Work<S, D>, S: Drop, D: Drop, G: Gate> Standing<J, S, D, G> {
         self.run_shared(rt, alloc, own, Others { jobs, cost })
     }
 
-    /// What a round needs before any job is handed out: what the jobs start from, and a tick for each, all off. Fails if memory was refused.
+    /// What a round needs before any job is handed out: what the jobs start from, and a tick for each, all off.
     fn begin_round(
         &mut self,
         alloc: Global,
         jobs: &[J],
     ) -> Result<(Vec<Begun<S>>, Gathered<J, D>), AllocError>
         ensures starts { IfOk result (λ r. r.0.items ≡ map J.start_of jobs.now) }
-        ensures ticked { IfOk result (λ r. IsTicked r.0.items r.1.ticks.items (map J.ended_from r.1.runs.items)) }
+        ensures ticked { IfOk result (λ r. IsTicked r.0.items r.1.ticks.items
+            (map J.ended_from r.1.runs.items)) }
         ensures same { self.new ≡ self.old }
     {
         let room = replace(&mut self.starts, Vec::new(alloc));
@@ -386,8 +390,12 @@ impl<J: Work<S, D>, S: Drop, D: Drop, G: Gate> Standing<J, S, D, G> {
         others: Others<J>,
     ) -> Result<Vec<D>, CrewFault>
         requires { IsDistinct (map J.start_of own.items ++ map J.start_of others.jobs.items) }
-        ensures each { IfOk result (λ runs. IsEachOnce (map J.start_of own.items ++ map J.start_of others.jobs.items) (map J.ended_from runs.items)) }
-        ensures why { IfErr result (λ fault. IsRefused J.ended_from (map J.start_of own.items ++ map J.start_of others.jobs.items) self.new.out self.new.back fault ⊎ (fault ≡ Memory)) }
+        ensures each { IfOk result (λ runs. IsEachOnce
+            (map J.start_of own.items ++ map J.start_of others.jobs.items)
+            (map J.ended_from runs.items)) }
+        ensures why { IfErr result (λ fault. IsRefused J.ended_from
+            (map J.start_of own.items ++ map J.start_of others.jobs.items) self.new.out self.new.back
+            fault ⊎ (fault ≡ Memory)) }
         ensures same { IsAsBefore self.old self.new }
     {
         let Ok((starts, mut gathered)) = self.begin_round(alloc, others.jobs.as_slice()) else {
@@ -445,7 +453,7 @@ impl<J: Work<S, D>, S: Drop, D: Drop, G: Gate> Standing<J, S, D, G> {
         }
     }
 
-    /// Hands out some jobs in one message, the first from a place, and tells whether the way out is open. Fails if memory was refused.
+    /// Hands out some jobs in one message, the first from a place, and tells whether the way out is open.
     fn hand<H: Wait>(&self, rt: &H, place: usize, lists: Lists<J, D>) -> Result<bool, AllocError> {
         let Some(parcels) = &self.parcels else {
             return Ok(false);
@@ -466,8 +474,10 @@ impl<J: Work<S, D>, S: Drop, D: Drop, G: Gate> Standing<J, S, D, G> {
     /// what has come: so it compares while others run.
     fn gather<H: Wait>(&self, rt: &H, starts: &[Begun<S>], gathered: &mut Gathered<J, D>)
         requires distinct { IsDistinct starts.now }
-        requires ticked { IsGathered starts.now gathered.old.fault gathered.old.ticks.items (map J.ended_from gathered.old.runs.items) }
-        ensures { IsGathered starts.now gathered.new.fault gathered.new.ticks.items (map J.ended_from gathered.new.runs.items) }
+        requires ticked { IsGathered starts.now gathered.old.fault gathered.old.ticks.items
+            (map J.ended_from gathered.old.runs.items) }
+        ensures { IsGathered starts.now gathered.new.fault gathered.new.ticks.items
+            (map J.ended_from gathered.new.runs.items) }
     {
         for _ in rt.forever() {
             self.take_answers(rt, starts, gathered);
@@ -482,8 +492,10 @@ impl<J: Work<S, D>, S: Drop, D: Drop, G: Gate> Standing<J, S, D, G> {
     /// Takes in what has come back so far.
     fn take_answers<H: Wait>(&self, rt: &H, starts: &[Begun<S>], gathered: &mut Gathered<J, D>)
         requires distinct { IsDistinct starts.now }
-        requires ticked { IsGathered starts.now gathered.old.fault gathered.old.ticks.items (map J.ended_from gathered.old.runs.items) }
-        ensures { IsGathered starts.now gathered.new.fault gathered.new.ticks.items (map J.ended_from gathered.new.runs.items) }
+        requires ticked { IsGathered starts.now gathered.old.fault gathered.old.ticks.items
+            (map J.ended_from gathered.old.runs.items) }
+        ensures { IsGathered starts.now gathered.new.fault gathered.new.ticks.items
+            (map J.ended_from gathered.new.runs.items) }
     {
         for _ in 0..gathered.away {
             let Ok(answer) = self.answers.try_recv(rt) else {
@@ -496,8 +508,10 @@ impl<J: Work<S, D>, S: Drop, D: Drop, G: Gate> Standing<J, S, D, G> {
     /// Hears of each message of this round that is away, as long as one can come.
     fn hear<H: Wait>(&self, rt: &H, starts: &[Begun<S>], gathered: &mut Gathered<J, D>)
         requires distinct { IsDistinct starts.now }
-        requires ticked { IsGathered starts.now gathered.old.fault gathered.old.ticks.items (map J.ended_from gathered.old.runs.items) }
-        ensures { IsGathered starts.now gathered.new.fault gathered.new.ticks.items (map J.ended_from gathered.new.runs.items) }
+        requires ticked { IsGathered starts.now gathered.old.fault gathered.old.ticks.items
+            (map J.ended_from gathered.old.runs.items) }
+        ensures { IsGathered starts.now gathered.new.fault gathered.new.ticks.items
+            (map J.ended_from gathered.new.runs.items) }
     {
         for _ in rt.forever() {
             if gathered.away == 0 {
@@ -513,8 +527,10 @@ impl<J: Work<S, D>, S: Drop, D: Drop, G: Gate> Standing<J, S, D, G> {
     /// Runs the jobs of a message of this round that came back unopened. One of another round is dropped.
     fn run_parcel(&self, starts: &[Begun<S>], parcel: Parcel<J, D>, gathered: &mut Gathered<J, D>)
         requires distinct { IsDistinct starts.now }
-        requires ticked { IsGathered starts.now gathered.old.fault gathered.old.ticks.items (map J.ended_from gathered.old.runs.items) }
-        ensures { IsGathered starts.now gathered.new.fault gathered.new.ticks.items (map J.ended_from gathered.new.runs.items) }
+        requires ticked { IsGathered starts.now gathered.old.fault gathered.old.ticks.items
+            (map J.ended_from gathered.old.runs.items) }
+        ensures { IsGathered starts.now gathered.new.fault gathered.new.ticks.items
+            (map J.ended_from gathered.new.runs.items) }
     {
         let Parcel {
             round,
@@ -530,8 +546,10 @@ impl<J: Work<S, D>, S: Drop, D: Drop, G: Gate> Standing<J, S, D, G> {
     /// Takes in the runs of a message of this round. What comes of another round is dropped, and the first fault stays.
     fn take_answer(&self, starts: &[Begun<S>], answer: Answer<J, D>, gathered: &mut Gathered<J, D>)
         requires distinct { IsDistinct starts.now }
-        requires ticked { IsGathered starts.now gathered.old.fault gathered.old.ticks.items (map J.ended_from gathered.old.runs.items) }
-        ensures { IsGathered starts.now gathered.new.fault gathered.new.ticks.items (map J.ended_from gathered.new.runs.items) }
+        requires ticked { IsGathered starts.now gathered.old.fault gathered.old.ticks.items
+            (map J.ended_from gathered.old.runs.items) }
+        ensures { IsGathered starts.now gathered.new.fault gathered.new.ticks.items
+            (map J.ended_from gathered.new.runs.items) }
     {
         let Answer {
             round,
@@ -575,10 +593,12 @@ impl<J: Work<S, D>, S: Drop, D: Drop, G: Gate, H: Threads + Wait> Crew<J, S, D, 
     fn run(&mut self, rt: &H, alloc: Global, jobs: Vec<J>) -> Result<Vec<D>, CrewFault>
         requires asked { Unit {0} }
         requires numbered { AreNumbered J.number_of (map J.start_of jobs.items) }
-        ensures each { IfOk result (λ runs. IsEachOnce (map J.start_of jobs.items) (map J.ended_from runs.items)) }
+        ensures each { IfOk result (λ runs. IsEachOnce (map J.start_of jobs.items)
+            (map J.ended_from runs.items)) }
         ensures faults { self.new.faults ≡ faults_after self.old.faults result }
         ensures alone { IsByItself self.old → IsMemoryAtMost result × IsByItself self.new }
-        ensures why { IfErr result (λ fault. IsRunFault J.ended_from (map J.start_of jobs.items) self.old self.new fault) }
+        ensures why { IfErr result (λ fault. IsRunFault J.ended_from (map J.start_of jobs.items) self.old
+            self.new fault) }
         ensures lost { self.old.lost ≡ true → IsLost result × (self.new.lost ≡ true) }
         ensures gone { self.new.lost ≡ lost_after self.old.lost result }
     {

@@ -49,7 +49,7 @@ impl<S: Drop> Begun<S> {
     }
 }
 
-/// What jobs start from, in their order, in the room of another list. Fails if memory was refused.
+/// What jobs start from, in their order, in the room of another list.
 pub fn starts_of<J: Work<S, D>, S: Drop, D>(
     jobs: &[J],
     room: Vec<Begun<S>>,

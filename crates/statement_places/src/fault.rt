@@ -102,8 +102,8 @@ fn spot_of_fault(
     }))
 }
 
-/// What a person is told of a line `FAULT MOMENT PATH STATEMENT KIND` by the texts of a plant: the file, line and column of the statement, and the line that
-/// stands there. Nothing of another line, or where the texts have no such statement. Fails if allocation fails.
+/// What a person is told of a line `FAULT MOMENT PATH STATEMENT KIND` by the texts of a plant: the file, line and column of the statement, and the
+/// line that stands there. Nothing of another line, or where the texts have no such statement.
 pub fn told_of_fault(
     alloc: Global,
     texts: &PlantTexts<'_>,

@@ -202,7 +202,7 @@ fn longest_file(sources: &[Source<'_>], least: usize) -> usize {
 }
 
 /// The line of each statement of all blocks and programs, in a table: the unit, its file, and the numbers of its statements with their lines, as
-/// `1-3:12-14  4:17  5-6:18`. Nothing where there is no unit. Fails if allocation fails.
+/// `1-3:12-14  4:17  5-6:18`. Nothing where there is no unit.
 pub fn statement_table(alloc: Global, texts: &PlantTexts<'_>) -> Result<String, AllocError> {
     let sources = sources_of(alloc, texts.sources)?;
     let mut text = String::new(alloc);

@@ -15,7 +15,8 @@ use std::alloc::Global;
 
 /// Keeps an ended console; where memory is refused twice it is let go.
 fn keep(finished: &mut Vec<Finished>, end: Finished)
-    ensures { (lanes : List (Lane Order Reply)) → All (IsEndIn lanes) finished.old.items → IsEndIn lanes end → All (IsEndIn lanes) finished.new.items }
+    ensures { (lanes : List (Lane Order Reply)) → All (IsEndIn lanes) finished.old.items
+        → IsEndIn lanes end → All (IsEndIn lanes) finished.new.items }
 {
     if let Err(refused) = finished.push(end) {
         drop(finished.push(refused.value));

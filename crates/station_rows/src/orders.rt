@@ -14,7 +14,7 @@ fn target_of(plant: &Plant, verb: Verb, word: &[u8]) -> Option<u32> {
     }
 }
 
-/// The order of a line for the plant of an engine, and the number of its console; `None` where the line is no order. Fails if memory was refused.
+/// The order of a line for the plant of an engine, and the number of its console; `None` where the line is no order.
 pub fn order_of(
     alloc: Global,
     engine: &Engine,

@@ -53,7 +53,7 @@ fn files_of(alloc: Global, given: &str) -> Result<Vec<File<'_>>, AllocError> {
     Ok(files)
 }
 
-/// Reads the plant of these files: first its plant file, then its alarms, then its sources. `None` where it is refused. Fails if memory was refused.
+/// Reads the plant of these files: first its plant file, then its alarms, then its sources. `None` where it is refused.
 pub fn read_plant<R: Threads + Sync>(
     rt: &R,
     alloc: Global,

@@ -13,7 +13,7 @@ use std::sync::Wait;
 use std::sync::ledger::Ledger;
 use std::thread::Threads;
 
-/// Files of a plant with a text in the place of another one, where that stands in them first: by the words `OLD => NEW`. Fails if memory was refused.
+/// Files of a plant with a text in the place of another one, where that stands in them first: by the words `OLD => NEW`.
 fn changed(alloc: Global, files: &str, words: &str) -> Result<String, AllocError> {
     let (old, new) = words.split_once(" => ").unwrap_or((words, ""));
     match files.split_once(old) {

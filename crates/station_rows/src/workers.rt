@@ -34,7 +34,8 @@ impl<J: Work<S, D>, S, D: Drop, H> Crew<J, S, D, H> for Workers {
     fn run(&mut self, rt: &H, alloc: Global, jobs: Vec<J>) -> Result<Vec<D>, CrewFault>
         requires asked { Unit {0} }
         requires numbered { AreNumbered J.number_of (map J.start_of jobs.items) }
-        ensures each { IfOk result (λ runs. IsEachOnce (map J.start_of jobs.items) (map J.ended_from runs.items)) }
+        ensures each { IfOk result (λ runs. IsEachOnce (map J.start_of jobs.items)
+            (map J.ended_from runs.items)) }
         ensures faults { self.new.faults ≡ faults_after self.old.faults result }
         ensures alone { self.old.left ≡ None → IsMemoryAtMost result × (self.new.left ≡ None) }
     {

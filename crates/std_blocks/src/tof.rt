@@ -46,8 +46,10 @@ impl TofState {
     pub fn call(&mut self, input: bool, pt: i64, moment: u64) -> (bool, i64)
         ensures step { self.new ≡ tof_step (call input pt moment) self.old }
         ensures shown { (result.0, result.1) ≡ tof_shown (call input pt moment) self.old }
-        ensures outputs { (calls : List Call) → self.old ≡ tof_state calls → (result.0, result.1) ≡ tof (call input pt moment ∷ calls) }
-        ensures state { (calls : List Call) → self.old ≡ tof_state calls → self.new ≡ tof_state (call input pt moment ∷ calls) }
+        ensures outputs { (calls : List Call) → self.old ≡ tof_state calls
+            → (result.0, result.1) ≡ tof (call input pt moment ∷ calls) }
+        ensures state { (calls : List Call) → self.old ≡ tof_state calls
+            → self.new ≡ tof_state (call input pt moment ∷ calls) }
     {
         if input {
             self.fall = Fall::On;

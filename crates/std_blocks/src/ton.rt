@@ -35,8 +35,10 @@ impl TonState {
     pub fn call(&mut self, input: bool, pt: i64, moment: u64) -> (bool, i64)
         ensures step { self.new ≡ ton_step (call input pt moment) self.old }
         ensures shown { (result.0, result.1) ≡ ton_shown (call input pt moment) self.old }
-        ensures outputs { (calls : List Call) → self.old ≡ ton_state calls → (result.0, result.1) ≡ ton (call input pt moment ∷ calls) }
-        ensures state { (calls : List Call) → self.old ≡ ton_state calls → self.new ≡ ton_state (call input pt moment ∷ calls) }
+        ensures outputs { (calls : List Call) → self.old ≡ ton_state calls
+            → (result.0, result.1) ≡ ton (call input pt moment ∷ calls) }
+        ensures state { (calls : List Call) → self.old ≡ ton_state calls
+            → self.new ≡ ton_state (call input pt moment ∷ calls) }
     {
         if !input {
             self.start = None;

@@ -32,7 +32,8 @@ impl TrigState {
         ensures step { self.new ≡ trig_step clk self.old }
         ensures shown { result ≡ trig_shown clk self.old }
         ensures output { (clks : List Bool) → self.old ≡ trig_state clks → result ≡ r_trig (clk ∷ clks) }
-        ensures state { (clks : List Bool) → self.old ≡ trig_state clks → self.new ≡ trig_state (clk ∷ clks) }
+        ensures state { (clks : List Bool) → self.old ≡ trig_state clks
+            → self.new ≡ trig_state (clk ∷ clks) }
     {
         let rises = clk && !self.last;
         self.last = clk;

@@ -20,8 +20,10 @@ impl<H: Threads + Wait + Sync> Crew<Job, Start, Done, H> for Scoped<Ungated> {
 
     fn run(&mut self, rt: &H, alloc: Global, jobs: Vec<Job>) -> Result<Vec<Done>, CrewFault>
         requires asked { IsSync H.row }
-        requires numbered { AreNumbered (λ start. start.number) (map (λ job. arc_value job.start) jobs.items) }
-        ensures each { IfOk result (λ runs. IsEachOnce (map (λ job. arc_value job.start) jobs.items) (map (λ done. arc_value done.start) runs.items)) }
+        requires numbered { AreNumbered (λ start. start.number)
+            (map (λ job. arc_value job.start) jobs.items) }
+        ensures each { IfOk result (λ runs. IsEachOnce (map (λ job. arc_value job.start) jobs.items)
+            (map (λ done. arc_value done.start) runs.items)) }
         ensures faults { 0 ≡ faults_after 0 result }
         ensures alone { ⊥ → IsMemoryAtMost result × ⊥ }
     {
@@ -48,8 +50,10 @@ impl<H: Threads + Wait + Sync> Crew<Job, Start, Done, H> for Scoped<BoxedGate> {
 
     fn run(&mut self, rt: &H, alloc: Global, jobs: Vec<Job>) -> Result<Vec<Done>, CrewFault>
         requires asked { IsSync H.row }
-        requires numbered { AreNumbered (λ start. start.number) (map (λ job. arc_value job.start) jobs.items) }
-        ensures each { IfOk result (λ runs. IsEachOnce (map (λ job. arc_value job.start) jobs.items) (map (λ done. arc_value done.start) runs.items)) }
+        requires numbered { AreNumbered (λ start. start.number)
+            (map (λ job. arc_value job.start) jobs.items) }
+        ensures each { IfOk result (λ runs. IsEachOnce (map (λ job. arc_value job.start) jobs.items)
+            (map (λ done. arc_value done.start) runs.items)) }
         ensures faults { 0 ≡ faults_after 0 result }
         ensures alone { ⊥ → IsMemoryAtMost result × ⊥ }
     {

@@ -91,7 +91,8 @@ fn added(first: u64) -> u64 {
 
 /// Jobs with the numbers from 1 on, each of another cost.
 pub fn jobs_to(alloc: Global, last: u32) -> Result<Vec<Job>, AllocError>
-    ensures { IfOk result (λ jobs. AreNumbered (λ start. start.number) (map (λ job. arc_value job.start) jobs.items)) }
+    ensures { IfOk result (λ jobs. AreNumbered (λ start. start.number)
+        (map (λ job. arc_value job.start) jobs.items)) }
 {
     let mut jobs = Vec::new(alloc);
     for number in 1..=last {

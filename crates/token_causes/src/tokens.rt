@@ -5,7 +5,7 @@ use st_lexer::{LexFault, Token, TokenKind, lex};
 use std::alloc::{AllocError, Global};
 use std::str;
 
-/// The tokens of a text; none where it has a fault. Fails if allocation fails.
+/// The tokens of a text; none where it has a fault.
 pub fn tokens_of(alloc: Global, text: &[u8]) -> Result<Vec<Token>, AllocError> {
     match lex(alloc, text) {
         Ok(tokens) => Ok(tokens),

@@ -23,7 +23,7 @@ pub enum Fault {
     Misfit(Misfit),
 }
 
-/// A store of the cells and flags of the levels, of which each level can be split. Fails if memory was refused.
+/// A store of the cells and flags of the levels, of which each level can be split.
 pub fn new_store(
     alloc: Global,
     framed: &Framed,
@@ -35,7 +35,8 @@ pub fn new_store(
     requires cells { HasCells framed.now state.now.cells }
     requires flags { length state.now.faulted.items ≡ length framed.now.programs }
     ensures gathered { IfOk result (λ store. store.out ≡ []) }
-    ensures can { IfOk result (λ store. (level : ℕ) → CanSplit levelled.now.parts levelled.now.levels level store.cells (length store.faulted)) }
+    ensures can { IfOk result (λ store. (level : ℕ)
+        → CanSplit levelled.now.parts levelled.now.levels level store.cells (length store.faulted)) }
     ensures cells { IfOk result (λ store. store.cells ≡ state.now.cells) }
     ensures flags { IfOk result (λ store. store.faulted ≡ state.now.faulted.items) }
 {
@@ -46,7 +47,7 @@ pub fn new_store(
     Ok(store)
 }
 
-/// Splits a level of a store. Fails if memory was refused.
+/// Splits a level of a store.
 pub fn split(
     alloc: Global,
     levelled: &Levelled,
@@ -54,7 +55,8 @@ pub fn split(
     level: u32,
 ) -> Result<Vec<Job>, AllocError>
     requires gathered { store.old.out ≡ [] }
-    requires can { CanSplit levelled.now.parts levelled.now.levels level store.old.cells (length store.old.faulted) }
+    requires can { CanSplit levelled.now.parts levelled.now.levels level store.old.cells
+        (length store.old.faulted) }
     ensures cells { store.new.cells ≡ store.old.cells }
     ensures flags { store.new.faulted ≡ store.old.faulted }
 {
@@ -107,7 +109,9 @@ fn run_levels(
     store: &mut Store,
 ) -> Result<Vec<Ended>, Fault>
     requires gathered { store.old.out ≡ [] }
-    requires can { (level : ℕ) → CanSplit levelled.now.parts levelled.now.levels level store.old.cells (length store.old.faulted) }
+    requires can { (level : ℕ)
+        → CanSplit levelled.now.parts levelled.now.levels level store.old.cells
+        (length store.old.faulted) }
     ensures values { OnOk result (length store.new.cells.values ≡ length store.old.cells.values) }
     ensures clocks { OnOk result (length store.new.cells.clocks ≡ length store.old.cells.clocks) }
     ensures flags { OnOk result (length store.new.faulted ≡ length store.old.faulted) }

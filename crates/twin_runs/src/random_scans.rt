@@ -206,8 +206,8 @@ fn run_ready(alloc: Global, ready: Ready, dice: &mut Dice) -> Result<Outcome, Al
     outcome
 }
 
-/// Makes scans of a source, with moments, inputs and restarts from dice: its programs one after another by walk and by code, and level by level,
-/// the jobs of each level run and gathered in an order from dice. Fails if memory was refused.
+/// Makes scans of a source, with moments, inputs and restarts from dice: its programs one after another by walk and by code, and level by level, the
+/// jobs of each level run and gathered in an order from dice.
 pub fn run_source(alloc: Global, source: &[u8], dice: &mut Dice) -> Result<Outcome, AllocError> {
     match made_ready(alloc, source) {
         Ok(ready) => run_ready(alloc, ready, dice),

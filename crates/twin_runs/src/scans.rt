@@ -80,7 +80,7 @@ fn set_inputs(twin: &mut Twin, image: &[(usize, i64)])
     }
 }
 
-/// Runs a program in both ways, unless it is stopped. False if they end apart. Fails if allocation fails.
+/// Runs a program in both ways, unless it is stopped. False if they end apart.
 fn run_program(
     framed: &Framed,
     twin: &mut Twin,
@@ -108,7 +108,7 @@ fn run_program(
     }
 }
 
-/// Runs the programs that aren't stopped, in order. False if both ways of one end apart, or leave something else. Fails if allocation fails.
+/// Runs the programs that aren't stopped, in order. False if both ways of one end apart, or leave something else.
 fn run_programs(
     framed: &Framed,
     twin: &mut Twin,
@@ -128,7 +128,7 @@ fn run_programs(
     Ok(is_alike && twin.is_alike())
 }
 
-/// Cells for the runs of a logic, and that no program is stopped. Fails if allocation fails.
+/// Cells for the runs of a logic, and that no program is stopped.
 fn opened(alloc: Global, framed: &Framed, walker: Walker) -> Result<(Twin, Vec<bool>), AllocError>
     ensures { IfOk result (λ made. HasCells framed.now made.0.ran) }
 {
@@ -136,7 +136,7 @@ fn opened(alloc: Global, framed: &Framed, walker: Walker) -> Result<(Twin, Vec<b
     Ok((twin, vec![in alloc; false; framed.programs().len()]?))
 }
 
-/// Goes on with another logic in the place of the old one, of which no program is stopped. Fails if allocation fails.
+/// Goes on with another logic in the place of the old one, of which no program is stopped.
 fn go_on(
     alloc: Global,
     twin: &mut Twin,
@@ -153,7 +153,7 @@ fn go_on(
 }
 
 impl TwinScans {
-    /// The programs before the first scan. The walker is to be of the same source. Fails if allocation fails.
+    /// The programs before the first scan. The walker is to be of the same source.
     pub fn new(alloc: Global, framed: Framed, walker: Walker) -> Result<TwinScans, AllocError> {
         match opened(alloc, &framed, walker) {
             Ok((twin, stopped)) => Ok(TwinScans {
@@ -170,7 +170,7 @@ impl TwinScans {
         }
     }
 
-    /// Takes a scan, if a server takes it. The pairs give inputs their values, by name. Fails if allocation fails.
+    /// Takes a scan, if a server takes it. The pairs give inputs their values, by name.
     pub fn scan(
         &mut self,
         alloc: Global,
@@ -207,8 +207,7 @@ impl TwinScans {
         }
     }
 
-    /// Takes a reload that a server took, of the logic of another plant. No program is stopped then. The walker is to be of the same source. Fails if allocation
-    /// fails.
+    /// Takes a reload that a server took, of the logic of another plant. No program is stopped then. The walker is to be of the same source.
     pub fn reload(
         &mut self,
         alloc: Global,

@@ -28,7 +28,7 @@ pub struct State {
     pub moment: u64,
 }
 
-/// That no program is faulted. Fails if memory was refused.
+/// That no program is faulted.
 fn no_flags(alloc: Global, framed: &Framed) -> Result<Vec<bool>, AllocError>
     ensures { IfOk result (λ flags. length flags.items ≡ length framed.now.programs) }
 {
@@ -36,7 +36,7 @@ fn no_flags(alloc: Global, framed: &Framed) -> Result<Vec<bool>, AllocError>
     Ok(flags)
 }
 
-/// What there is before the first scan. Fails if memory was refused.
+/// What there is before the first scan.
 pub fn opened(alloc: Global, framed: &Framed, walker: Walker) -> Result<State, AllocError>
     ensures ran { IfOk result (λ state. HasCells framed.now state.twin.ran) }
     ensures cells { IfOk result (λ state. HasCells framed.now state.cells) }
@@ -79,7 +79,7 @@ pub enum End {
     Ended(Walked),
 }
 
-/// Runs a program by walk and by code, unless it is stopped, and stops it where it traps. Fails if allocation fails.
+/// Runs a program by walk and by code, unless it is stopped, and stops it where it traps.
 fn run_program(
     framed: &Framed,
     twin: &mut Twin,

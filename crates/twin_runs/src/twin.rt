@@ -43,8 +43,8 @@ fn show_alike(one: &[Clock], other: &[Clock]) -> bool {
     true
 }
 
-/// The cells of another source, by those of an old one: what is in both goes over. Where there aren't as many as before its first scan, those of that. Fails if
-/// allocation fails.
+/// The cells of another source, by those of an old one: what is in both goes over. Where there aren't as many as before its first scan, those of
+/// that.
 fn carried(alloc: Global, old: &Framed, cells: &Cells, new: &Framed) -> Result<Cells, AllocError>
     ensures { IfOk result (HasCells new.now) }
 {
@@ -61,7 +61,7 @@ fn carried(alloc: Global, old: &Framed, cells: &Cells, new: &Framed) -> Result<C
 }
 
 impl Twin {
-    /// Cells before the first scan. The walker is to be of the same source. Fails if allocation fails.
+    /// Cells before the first scan. The walker is to be of the same source.
     pub fn new(alloc: Global, framed: &Framed, walker: Walker) -> Result<Twin, AllocError>
         ensures { IfOk result (λ twin. HasCells framed.now twin.ran) }
     {
@@ -76,8 +76,8 @@ impl Twin {
         })
     }
 
-    /// Goes on with another source in the place of the old one, in both ways: what is in both goes over. The walker is to be of that source. Fails if allocation fails;
-    /// what the runs of the codes have left is then as before.
+    /// Goes on with another source in the place of the old one, in both ways: what is in both goes over. The walker is to be of that source. Fails if
+    /// memory is refused; what the runs of the codes have left is then as before.
     pub fn go_on(
         &mut self,
         alloc: Global,
@@ -105,8 +105,8 @@ impl Twin {
         set(&mut self.ran, global, value);
     }
 
-    /// Runs the program of a number, from 0, in both ways. Tells how it ended, if it ended alike: at the same place, with the same trap;
-    /// `None` otherwise, and where the walker has no such program. The moment is that of the scan, in milliseconds. Fails if allocation fails.
+    /// Runs the program of a number, from 0, in both ways. Tells how it ended, if it ended alike: at the same place, with the same trap; `None`
+    /// otherwise, and where the walker has no such program. The moment is that of the scan, in milliseconds.
     pub fn run(
         &mut self,
         framed: &Framed,

@@ -74,8 +74,8 @@ fn chain_of(hash: u32, chains: usize) -> usize
     hash as usize & (chains - 1)
 }
 
-/// The tops of this many chains of all numbers, by their hashes; each number is led to the one before it in its chain. Fails if allocation fails, and
-/// then nothing changes.
+/// The tops of this many chains of all numbers, by their hashes; each number is led to the one before it in its chain. Fails if memory is refused,
+/// and then nothing changes.
 fn tops_of(
     alloc: Global,
     hashes: &[u32],
@@ -108,7 +108,7 @@ fn tops_of(
     Ok(tops)
 }
 
-/// Makes more chains where there are no more than numbers. Fails if allocation fails, and then nothing changes.
+/// Makes more chains where there are no more than numbers. Fails if memory is refused, and then nothing changes.
 fn widen(
     alloc: Global,
     hashes: &[u32],
@@ -136,7 +136,8 @@ fn widen(
 #[inline(always)]
 fn put_top(tops: &mut Vec<Link>, link: Link) -> Link
     requires { 0 < length tops.old.items }
-    ensures tops { tops.new.items ≡ slice_set tops.old.items (chain_of link.hash (length tops.old.items)) link }
+    ensures tops { tops.new.items
+        ≡ slice_set tops.old.items (chain_of link.hash (length tops.old.items)) link }
     ensures top { result ≡ link_at tops.old.items (chain_of link.hash (length tops.old.items)) }
     ensures within { chain_of link.hash (length tops.old.items) < length tops.old.items }
 {
@@ -149,8 +150,11 @@ fn put_top(tops: &mut Vec<Link>, link: Link) -> Link
 fn follow(links: &[Link], from: Link, hash: u32) -> Option<Placed>
     requires from { from.count ≤ length links.now }
     requires down { (k : ℕ) → k < length links.now → (link_at links.now k).count ≤ k }
-    ensures last { (hashes : List ℕ) (chains end : ℕ) → GoBack hashes chains end links.now → IsLink hashes chains end (chain_of hash chains) from → IsLast hashes end hash (number_in result) }
-    ensures place { (places : List Place) → Know places (length links.now) links.now → Knows places from → IfSome result (λ found. place_at places found.number ≡ found.place) }
+    ensures last { (hashes : List ℕ) (chains end : ℕ) → GoBack hashes chains end links.now
+        → IsLink hashes chains end (chain_of hash chains) from
+        → IsLast hashes end hash (number_in result) }
+    ensures place { (places : List Place) → Know places (length links.now) links.now → Knows places from
+        → IfSome result (λ found. place_at places found.number ≡ found.place) }
 {
     let mut link = from;
     while link.count != 0 {
@@ -197,7 +201,8 @@ impl Chains {
     #[inline(always)]
     pub(crate) fn before(&self, number: usize) -> Option<Placed>
         requires { number < length self.now.hashes }
-        ensures last { IsLast self.now.hashes number (slice_index self.now.hashes number) (number_in result) }
+        ensures last { IsLast self.now.hashes number (slice_index self.now.hashes number)
+            (number_in result) }
         ensures place { IfSome result (λ found. place_at self.now.places found.number ≡ found.place) }
     {
         follow(
@@ -207,7 +212,7 @@ impl Chains {
         )
     }
 
-    /// Makes room for one more number. Fails if allocation fails, or if there are 4,294,967,295 numbers.
+    /// Makes room for one more number. Fails if memory is refused, or if there are 4,294,967,295 numbers.
     pub(crate) fn make_room(&mut self, alloc: Global) -> Result<(), AllocError>
         ensures ok { OnOk result (length self.new.hashes < self.new.room) }
         ensures kept { self.new.hashes ≡ self.old.hashes }
@@ -241,7 +246,7 @@ impl Chains {
         self.places.push_reserved(place);
     }
 
-    /// The same numbers. Fails if allocation fails.
+    /// The same numbers.
     pub(crate) fn copy(&self) -> Result<Chains, AllocError>
         ensures hashes { IfOk result (λ copy. copy.hashes ≡ self.now.hashes) }
         ensures places { IfOk result (λ copy. copy.places ≡ self.now.places) }

@@ -72,13 +72,14 @@ impl Names {
     /// Adds a name, and returns true; false if it is there already, in any letter case, and then nothing changes. Fails as `Table::add` does.
     pub fn add(&mut self, alloc: Global, name: &str) -> Result<bool, AllocError>
         ensures added { IfOk result (λ added. added ≡ not (is_among self.old name.now)) }
-        ensures names { IfOk result (λ added. self.new ≡ (if added then self.old ++ name.now ∷ [] else self.old)) }
+        ensures names { IfOk result (λ added. self.new
+            ≡ (if added then self.old ++ name.now ∷ [] else self.old)) }
         ensures err { OnErr result (self.new ≡ self.old) }
     {
         self.table.add(alloc, name)
     }
 
-    /// The same names, each with its number. Fails if allocation fails.
+    /// The same names, each with its number.
     pub fn copy(&self) -> Result<Names, AllocError>
         ensures { IfOk result (λ copy. copy ≡ self.now) }
     {

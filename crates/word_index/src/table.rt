@@ -132,11 +132,13 @@ impl Table {
         self.texts.len()
     }
 
-    /// Adds a name, and returns true; false if it is there already, and then nothing changes. Fails if allocation fails, if there are 4,294,967,295
+    /// Adds a name, and returns true; false if it is there already, and then nothing changes. Fails if memory is refused, if there are 4,294,967,295
     /// names, or if they have more bytes than that together.
     pub fn add(&mut self, alloc: Global, name: &str) -> Result<bool, AllocError>
         ensures added { IfOk result (λ added. added ≡ not (has_name self.old name.now)) }
-        ensures names { IfOk result (λ added. self.new ≡ record self.old { names = if added then self.old.names ++ name.now ∷ [] else self.old.names }) }
+        ensures names { IfOk result (λ added. self.new
+            ≡ record self.old
+            { names = if added then self.old.names ++ name.now ∷ [] else self.old.names }) }
         ensures err { OnErr result (self.new ≡ self.old) }
     {
         if find(self.letters, &self.texts, &self.chains, name).is_some() {
@@ -148,7 +150,7 @@ impl Table {
         Ok(true)
     }
 
-    /// The same names. Fails if allocation fails.
+    /// The same names.
     pub fn copy(&self) -> Result<Table, AllocError>
         ensures { IfOk result (λ copy. copy ≡ self.now) }
     {

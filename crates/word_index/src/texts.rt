@@ -118,10 +118,11 @@ impl Texts {
         Some(self.at(number))
     }
 
-    /// Adds a text, and returns its place. Fails if allocation fails, or if the texts have more than 4,294,967,295 bytes together.
+    /// Adds a text, and returns its place. Fails if memory is refused, or if the texts have more than 4,294,967,295 bytes together.
     pub(crate) fn push(&mut self, text: &str) -> Result<Place, AllocError>
         ensures ok { OnOk result (self.new ≡ self.old ++ text.now ∷ []) }
-        ensures place { IfOk result (λ place. places_of 0 self.new ≡ places_of 0 self.old ++ place ∷ []) }
+        ensures place { IfOk result (λ place. places_of 0 self.new
+            ≡ places_of 0 self.old ++ place ∷ []) }
         ensures err { OnErr result (self.new ≡ self.old) }
     {
         let start = self.text.len();
@@ -135,7 +136,7 @@ impl Texts {
         })
     }
 
-    /// The same texts. Fails if allocation fails.
+    /// The same texts.
     pub(crate) fn copy(&self) -> Result<Texts, AllocError>
         ensures { IfOk result (λ copy. copy ≡ self.now) }
     {

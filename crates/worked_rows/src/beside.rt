@@ -56,7 +56,7 @@ fn push_scanned(page: &mut Page, moment: u64, scanned: Result<Scanned, AllocErro
     }
 }
 
-/// The sources in the bytes behind a `reload` line of these sizes. Fails if allocation fails.
+/// The sources in the bytes behind a `reload` line of these sizes.
 fn sources_in<'a>(
     alloc: Global,
     sizes: &TextSizes,

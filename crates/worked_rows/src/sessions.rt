@@ -98,7 +98,7 @@ struct Ended {
     bytes: Vec<u8>,
 }
 
-/// Serves an input to an engine that is lent. Fails where memory was refused.
+/// Serves an input to an engine that is lent.
 fn served<H: Threads + Wait + Sync, C: Crew<Job, Start, Done, H>>(
     rt: &H,
     alloc: Global,

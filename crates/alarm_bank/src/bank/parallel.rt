@@ -45,14 +45,16 @@ fn scan_all<H: Threads + Sync>(
         alarms,
         |at: usize, alarm: &mut Alarm|
             requires { (at < length conds.now) × (at < length sups.now) }
-            ensures { alarm.new ≡ after_scan (slice_index_or conds.entry.now at false) (slice_index_or sups.entry.now at false) moment alarm.old }
+            ensures { alarm.new
+                ≡ after_scan (slice_index_or conds.entry.now at false)
+                (slice_index_or sups.entry.now at false) moment alarm.old }
         {
             let _ = alarm.scan(conds[at], sups[at], moment);
         },
     );
 }
 
-/// Alarms as a scan leaves them. Fails if memory was refused.
+/// Alarms as a scan leaves them.
 fn scanned<H: Threads + Sync>(
     rt: &H,
     alloc: Global,
@@ -61,7 +63,8 @@ fn scanned<H: Threads + Sync>(
 ) -> Result<Vec<Alarm>, AllocError>
     requires conds { length given.now.conds.now ≡ length alarms.now }
     requires sups { length given.now.sups.now ≡ length alarms.now }
-    ensures { IfOk result (λ next. next.items ≡ scan_each given.now.conds.now given.now.sups.now given.now.moment alarms.now) }
+    ensures { IfOk result (λ next. next.items
+        ≡ scan_each given.now.conds.now given.now.sups.now given.now.moment alarms.now) }
 {
     let mut next = Vec::from_slice(alloc, alarms)?;
     scan_all(
@@ -74,7 +77,7 @@ fn scanned<H: Threads + Sync>(
     Ok(next)
 }
 
-/// Adds the alarm of a number as a scan has left it, unless it rests, and the change of its code, if there is one. Fails if memory was refused.
+/// Adds the alarm of a number as a scan has left it, unless it rests, and the change of its code, if there is one.
 fn add_move(
     at: usize,
     alarms: &[Alarm],
@@ -86,8 +89,11 @@ fn add_move(
     requires few { length alarms.now < 2 ^ 32 }
     requires conds { length given.now.conds.now ≡ length alarms.now }
     requires sups { length given.now.sups.now ≡ length alarms.now }
-    requires next { next.now ≡ scan_each given.now.conds.now given.now.sups.now given.now.moment alarms.now }
-    ensures { OnOk result (AddsMove at given.now.conds.now given.now.sups.now given.now.moment alarms.now moves.old.moved.items moves.new.moved.items moves.old.changes.items moves.new.changes.items) }
+    requires next { next.now
+        ≡ scan_each given.now.conds.now given.now.sups.now given.now.moment alarms.now }
+    ensures { OnOk result
+        (AddsMove at given.now.conds.now given.now.sups.now given.now.moment alarms.now
+        moves.old.moved.items moves.new.moved.items moves.old.changes.items moves.new.changes.items) }
 {
     let old = &alarms[at];
     if old.rests(given.conds[at], given.sups[at], given.moment) {
@@ -103,7 +109,7 @@ fn add_move(
     Ok(())
 }
 
-/// The alarms that a scan has moved, and the changes of their codes, in order. Fails if memory was refused.
+/// The alarms that a scan has moved, and the changes of their codes, in order.
 fn moves_of(
     alloc: Global,
     alarms: &[Alarm],
@@ -113,8 +119,10 @@ fn moves_of(
     requires few { length alarms.now < 2 ^ 32 }
     requires conds { length given.now.conds.now ≡ length alarms.now }
     requires sups { length given.now.sups.now ≡ length alarms.now }
-    requires next { next.now ≡ scan_each given.now.conds.now given.now.sups.now given.now.moment alarms.now }
-    ensures { IfOk result (λ moves. AreMovesOf alarms.now next.now moves.moved.items moves.changes.items) }
+    requires next { next.now
+        ≡ scan_each given.now.conds.now given.now.sups.now given.now.moment alarms.now }
+    ensures { IfOk result (λ moves. AreMovesOf alarms.now next.now moves.moved.items
+        moves.changes.items) }
 {
     let mut moves = Moves {
         moved: Vec::new(alloc),
@@ -126,7 +134,7 @@ fn moves_of(
     Ok(moves)
 }
 
-/// The change that a reply to an order of an alarm tells, if it tells one. Fails if memory was refused.
+/// The change that a reply to an order of an alarm tells, if it tells one.
 fn told(
     alloc: Global,
     alarm: u32,
@@ -152,8 +160,13 @@ impl Bank {
         requires conds { length given.now.conds.now ≡ length self.old.alarms }
         requires sups { length given.now.sups.now ≡ length self.old.alarms }
         requires moment { given.now.moment ≤ LAST_MOMENT }
-        ensures bank { OnOk result (self.new ≡ record self.old { alarms = scan_each given.now.conds.now given.now.sups.now given.now.moment self.old.alarms; moment = given.now.moment }) }
-        ensures changes { IfOk result (λ changes. changes.items ≡ changes_from 0 self.old.alarms self.new.alarms) }
+        ensures bank { OnOk result
+            (self.new
+            ≡ record self.old
+            {alarms = scan_each given.now.conds.now given.now.sups.now given.now.moment self.old.alarms;
+            moment = given.now.moment}) }
+        ensures changes { IfOk result (λ changes. changes.items
+            ≡ changes_from 0 self.old.alarms self.new.alarms) }
         ensures err { OnErr result (self.new ≡ self.old) }
     {
         let _ = &self.sites;
@@ -172,7 +185,8 @@ impl Bank {
         event: &BankEvent,
     ) -> Result<Vec<(u32, Change)>, AllocError>
         ensures bank { OnOk result (self.new ≡ after_event event.now self.old) }
-        ensures changes { IfOk result (λ changes. changes.items ≡ changes_from 0 self.old.alarms self.new.alarms) }
+        ensures changes { IfOk result (λ changes. changes.items
+            ≡ changes_from 0 self.old.alarms self.new.alarms) }
         ensures err { OnErr result (self.new ≡ self.old) }
     {
         match event {

@@ -41,7 +41,8 @@ impl Board {
 
     /// Takes in an entry, if it may come next.
     fn take(&mut self, entry: &Entry)
-        ensures story { (self.new.opening.value, self.new.list) ≡ grown after allows (self.old.opening.value, self.old.list) entry.now }
+        ensures story { (self.new.opening.value, self.new.list)
+            ≡ grown after allows (self.old.opening.value, self.old.list) entry.now }
         ensures mark { self.new.mark ≡ self.old.mark }
     {
         if self.events < u64::MAX && take(&mut self.panel, entry) {

@@ -16,7 +16,9 @@ impl BoardReader {
     /// for nobody. The reader comes back where the writer is gone.
     #[tactic(auto, using(crate::proofs::Sights::since_opens, crate::proofs::Sights::opens_same))]
     pub fn enter(self) -> Result<BoardReading, BoardReader>
-        ensures since { MatchResult result (λ r. IsSince (seen self) (story_read r) × IsSince (told self) (story_read r) × (told_before r ≡ told self)) (λ r. (seen r ≡ seen self) × (told r ≡ told self)) }
+        ensures since { MatchResult result
+            (λ r. IsSince (seen self) (story_read r) × IsSince (told self) (story_read r)
+            × (told_before r ≡ told self)) (λ r. (seen r ≡ seen self) × (told r ≡ told self)) }
         ensures log { MatchResult result (λ r. log_read r ≡ log_of self) (λ r. log_of r ≡ log_of self) }
     {
         let BoardReader {

@@ -18,7 +18,7 @@ use std::sync::Wait;
 use trace::Remembered;
 
 impl BoardWriter {
-    /// A writer for so many readers, with two copies of a board before the first entry. Fails if memory was refused.
+    /// A writer for so many readers, with two copies of a board before the first entry.
     pub fn new<R: Wait>(
         rt: &R,
         alloc: Global,
@@ -66,8 +66,11 @@ impl BoardWriter {
     /// 2^64 - 1 entries, and where the log doesn't take the entry, which then takes no other: nothing was laid by.
     pub fn lay(&mut self, entry: Entry) -> Result<(), AllocError>
         requires may_come { allows (shown after (laid self.old).0 (laid self.old).1) entry ≡ true }
-        ensures same { (published self.new ≡ published self.old) × (log_kept self.new ≡ log_kept self.old) }
-        ensures laid { MatchResult result (λ _. laid self.new ≡ ((laid self.old).0, (laid self.old).1 ++ entry ∷ [])) (λ _. laid self.new ≡ laid self.old) }
+        ensures same { (published self.new ≡ published self.old)
+            × (log_kept self.new ≡ log_kept self.old) }
+        ensures laid { MatchResult result
+            (λ _. laid self.new ≡ ((laid self.old).0, (laid self.old).1 ++ entry ∷ []))
+            (λ _. laid self.new ≡ laid self.old) }
     {
         if self.stuck {
             return Err(AllocError);
@@ -86,7 +89,8 @@ impl BoardWriter {
     /// The writer once it has shown what was laid by, or has tried to.
     fn shown<R: Wait>(self, rt: &R) -> (BoardWriter, Result<(), AllocError>)
         ensures same { (laid result.0 ≡ laid self) × (log_kept result.0 ≡ log_kept self) }
-        ensures published { MatchResult result.1 (λ _. published result.0 ≡ laid self) (λ _. published result.0 ≡ published self) }
+        ensures published { MatchResult result.1 (λ _. published result.0 ≡ laid self)
+            (λ _. published result.0 ≡ published self) }
     {
         if self.stuck {
             return (self, Err(AllocError));
@@ -120,7 +124,8 @@ impl BoardWriter {
     /// log didn't take an entry: then readers see what they saw, and the next call shows what was laid by until then.
     pub fn publish<R: Wait>(&mut self, rt: &R) -> Result<(), AllocError>
         ensures same { (laid self.new ≡ laid self.old) × (log_kept self.new ≡ log_kept self.old) }
-        ensures published { MatchResult result (λ _. published self.new ≡ laid self.old) (λ _. published self.new ≡ published self.old) }
+        ensures published { MatchResult result (λ _. published self.new ≡ laid self.old)
+            (λ _. published self.new ≡ published self.old) }
     {
         replace_with(self, rt, BoardWriter::shown)
     }
@@ -128,8 +133,10 @@ impl BoardWriter {
     /// A reader that has seen nothing yet, and is told what is published now. Fails where no place is left for one, or if memory was refused.
     #[tactic(auto, using(crate::proofs::Sights::opens_unseen))]
     pub fn reader(&mut self) -> Result<BoardReader, AllocError>
-        ensures same { (published self.new ≡ published self.old) × (laid self.new ≡ laid self.old) × (log_kept self.new ≡ log_kept self.old) }
-        ensures reader { IfOk result (λ r. (seen r ≡ None) × (told r ≡ Some (published self.old)) × (log_of r ≡ log_kept self.old)) }
+        ensures same { (published self.new ≡ published self.old) × (laid self.new ≡ laid self.old)
+            × (log_kept self.new ≡ log_kept self.old) }
+        ensures reader { IfOk result (λ r. (seen r ≡ None) × (told r ≡ Some (published self.old))
+            × (log_of r ≡ log_kept self.old)) }
     {
         let mut reader = self.writer.factory().reader()?;
         reader.learn::<Informs>(self.writer.tell::<Notes>());

@@ -44,7 +44,8 @@ impl<O: Drop, R: Drop> Console<O, R> {
     pub fn submit(&mut self, order: O) -> Result<(), O>
         ensures rings { SameConsole self.old.link self.new.link }
         ensures ok { OnOk result (submitted self.new ≡ submitted self.old ++ order ∷ []) }
-        ensures full { IfErr result (λ e. (e ≡ order) × (submitted self.new ≡ submitted self.old) × (known_room self.new ≡ 0)) }
+        ensures full { IfErr result (λ e. (e ≡ order) × (submitted self.new ≡ submitted self.old)
+            × (known_room self.new ≡ 0)) }
         ensures room { OnOk result (known_room self.old ≤ known_room self.new + 1) }
         ensures taken { taken self.new ≡ taken self.old }
         ensures succeeds { 0 < known_room self.old → IsOk result }

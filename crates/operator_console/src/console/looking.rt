@@ -23,7 +23,8 @@ impl<O: Drop, R: Drop> Console<O, R> {
     /// it looks.
     fn look(&mut self) -> bool
         ensures looked { HasLooked self.old self.new }
-        ensures shows { MatchBool result (ShowsFrom self.old (looked_at self.new.sight)) (IsIdle self.new) }
+        ensures shows { MatchBool result (ShowsFrom self.old (looked_at self.new.sight))
+            (IsIdle self.new) }
     {
         self.sight.renew();
         if self
@@ -42,7 +43,9 @@ impl<O: Drop, R: Drop> Console<O, R> {
     ///
     /// While the view is held the owner can publish once, and then waits.
     pub fn board(&mut self) -> Option<BoardView<'_, O, R>>
-        ensures* none { sem 𝓛 (RestsIfNone (the_row O.row R.row) self.entry console_name result (λ n. HasTried self.old n)) }
+        ensures* none { sem 𝓛
+            (RestsIfNone (the_row O.row R.row) self.entry console_name result
+            (λ n. HasTried self.old n)) }
         ensures name { IfSome result (λ v. v.console.ghost_name ≡ self.entry.ghost_name) }
         ensures looked { IfSome result (λ v. HasLooked self.old v.console.now) }
         ensures shows { IfSome result (λ v. ShowsFrom self.old (looked_at v.console.now.sight)) }
