@@ -2,7 +2,7 @@
 """Makes a large house for the control room, and a day of it.
 
     python3 tools/bench/house.py FOLDER [--consoles N] [--alarms N] [--scans N] [--changes N] [--turns N]
-    cd FOLDER && time /path/to/crates/control_room/out/control_room < stdin
+    cd FOLDER && time /path/to/crates/try_room/out/try_room < stdin
 
 FOLDER gets the plant (house/) and the script (stdin). Each console has an area of its own, and each alarm a condition of its own; in each scan --changes alarms, chosen at
 random but the same each time, come up, and those of the scan before return. Each of its four programs has a FOR of so many --turns: a crew keeps rounds that cost less than

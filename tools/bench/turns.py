@@ -31,7 +31,7 @@ import house
 
 HERE = os.path.dirname(os.path.abspath(__file__))
 ALARMS = 20000
-CRATE = "turns: plant_types crew plant_config plant_folder plant_system engine operator_orders event_history command_text console_link operator_console station row_text\n"
+CRATE = "turns: plant_types crew plant_config plant_folder engine_system engine alarm_orders engine_history serve_lines console_link console_operator station try_text\n"
 KINDS = ["turns", "allocations", "looks", "parts", "room"]
 # name, consoles, of which so many send, orders of each, what comes of them, alarms that change, turns
 TURNS = [
@@ -70,7 +70,7 @@ def install(clone):
         for name in names:
             # no .rt or .antt file may stand outside the crates
             shutil.copy(os.path.join(folder, name), os.path.join(there, name.removesuffix(".txt")))
-    shutil.copy(f"{clone}/crates/control_room/src/house.rt", f"{crate}/src/house.rt")
+    shutil.copy(f"{clone}/crates/try_room/src/house.rt", f"{crate}/src/house.rt")
     listed = read(f"{clone}/crates.txt")
     if CRATE not in listed:
         house.write(clone, "crates.txt", listed + CRATE)
@@ -194,7 +194,7 @@ class Bench:
             for _ in range(self.options.repeat):
                 with open(f"{place}/stdin") as given:
                     began = time.monotonic()
-                    ran = subprocess.run([*self.ahead, self.programs["control_room"]], cwd=place, stdin=given, stdout=subprocess.PIPE, text=True)
+                    ran = subprocess.run([*self.ahead, self.programs["try_room"]], cwd=place, stdin=given, stdout=subprocess.PIPE, text=True)
                     took = time.monotonic() - began
                 orders = int(re.search(r"AND (\d+) ORDERS", ran.stdout)[1])
                 lost = re.findall(r".*(?:LEFT [1-9]|APART [1-9]|ANSWERED ORDER [1-9]|FALSE).*", ran.stdout)
@@ -220,9 +220,9 @@ def main():
     install(options.clone)
     names = ["turns"]
     if "room" in kinds:
-        names.append("control_room")
-        source = f"{options.clone}/crates/control_room/src/main.rt"
-        house.write(options.clone, "crates/control_room/src/main.rt", re.sub(r"const WORKERS: u32 = \d+;", f"const WORKERS: u32 = {options.workers};", read(source)))
+        names.append("try_room")
+        source = f"{options.clone}/crates/try_room/src/main.rt"
+        house.write(options.clone, "crates/try_room/src/main.rt", re.sub(r"const WORKERS: u32 = \d+;", f"const WORKERS: u32 = {options.workers};", read(source)))
     bench.programs = dict(zip(names, build(options.clone, names)))
     try:
         for kind in kinds:

@@ -25,10 +25,10 @@ HEAD = os.path.join(HERE, "head.txt")
 
 # The entry functions of the server, by crate.
 ROOTS = {
-    "plant_service": ["run", "run_from", "admit", "admit_from", "check_from"],
-    "serving": ["serve", "step"],
+    "serve_runs": ["run", "run_from", "admit", "admit_from", "check_from"],
+    "serve_session": ["serve", "step"],
     "plant_config": ["files", "read"],
-    "command_line": ["choose", "status"],
+    "serve_arguments": ["choose", "status"],
 }
 
 DEFINITION = re.compile(r"(?:abbrev pub|abbrev|pub record|record|unfoldable pub|unfoldable|pub data|data) (?!mutual)([^\s:]+)")

@@ -1,7 +1,7 @@
 #!/usr/bin/env python3
 """Refuses a built program each growth of its memory in turn, and looks at what comes of it.
 
-    python3 tools/refusals/refusals.py crates/station_rows/out/station_rows --crate crates/station_rows
+    python3 tools/refusals/refusals.py crates/try_stations/out/try_stations --crate crates/try_stations
     python3 tools/refusals/refusals.py crates/alarmd/out/alarmd --examples examples
 
 A program of rows is run on its stored input (`--crate`): each run has to write the same as without, or to end with status 1 and write nothing. The server is run on the

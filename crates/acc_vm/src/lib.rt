@@ -2,6 +2,8 @@
 //!
 //! What an instruction does is `act` of `specs/Machine.antt`; a run goes on until the end or a trap, or until its fuel is used up. What is kept
 //! of code, and when it is sound, is in `specs/Codes.antt`: sound code ends from any cells within the fuel of its cost, and is never stuck.
+//!
+//! Layer vm_: it must not know alarms, files or threads.
 #![tactic(auto)]
 
 mod arrays;

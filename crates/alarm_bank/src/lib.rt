@@ -2,6 +2,8 @@
 //!
 //! An event changes the alarms by the table of `alarm_machine` and takes no memory. An annunciator has places for the alarms of another plant too. A scan may also be made ready as the list of the
 //! alarms that it moves, while the bank stays; and its steps may be shared out among threads.
+//!
+//! Layer alarm_: it must not know programs, sources or files.
 #![tactic(auto)]
 
 mod annunciator;

@@ -2,6 +2,8 @@
 //!
 //! `read` returns exactly the rows of a text, or its first fault. The records of the text are those of the crate `csv`; the columns and their forms are this profile's. `examine` says all
 //! that is wrong in a text's rows, with the place of each, for a person.
+//!
+//! Layer plant_: it must not know events or commands.
 #![tactic(auto)]
 
 mod column;

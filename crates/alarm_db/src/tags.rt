@@ -6,7 +6,7 @@ ghost use Rattle.alarm_db.specs.Databases.{is_among};
 
 use std::alloc::{AllocError, Global};
 use std::marker::Model;
-use word_index::{Case, Table};
+use base_words::{Case, Table};
 
 /// Tags, numbered from 0 in order; letter case counts. Contracts see a list of tags.
 pub struct Tags {
@@ -21,7 +21,7 @@ impl Drop for Tags {
 
 impl Model for Tags {
     ghost use Rattle.std.specs.Prelude.{◌≡◌, List, ℕ};
-    ghost use Rattle.word_index.specs.declared.table.Case.TheVariants.{Counts};
+    ghost use Rattle.base_words.specs.declared.table.Case.TheVariants.{Counts};
 
     ghost Value = { List (List ℕ) };
 

@@ -2,6 +2,8 @@
 //!
 //! A condition counts once it has been met for as long as the alarm's delay, without a break: it is the Q of a TON (IEC 61131-3) that each scan calls. Of all
 //! scans so far only a moment is kept for each alarm.
+//!
+//! Layer alarm_: it must not know programs, sources or files.
 #![tactic(auto)]
 
 mod delays;

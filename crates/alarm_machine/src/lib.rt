@@ -2,6 +2,8 @@
 //!
 //! The states are those of ANSI/ISA-18.2 and IEC 62682; the table with its codes, and every choice that the standards leave open, are this profile's.
 //! Nothing here allocates memory, and an alarm knows neither clock nor console: each scan passes its condition, its suppression and the moment.
+//!
+//! Layer alarm_: it must not know programs, sources or files.
 #![tactic(auto)]
 
 mod alarm;

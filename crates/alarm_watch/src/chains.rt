@@ -1,12 +1,12 @@
 //! For each global the alarms that watch it, in chains: the last one first, and from each one to the one before it.
 
 ghost use Rattle.std.specs.Prelude.{◌≡◌, ℕ, ◌+◌, ◌<◌, ◌≤◌, ◌^◌, ◌==◌, Bool, true, false, if◌then◌else◌, Option, Some, None, List, pos, length, slice_get, slice_index, slice_index_or, IfOk, OnOk};
-ghost use Rattle.plant_cells.specs.Cells.{value_at};
+ghost use Rattle.logic_cells.specs.Cells.{value_at};
 ghost use Rattle.alarm_watch.specs.Chains.{AreChains, GoesDown, HaveTops, HasKey, AreRanges, StandsIn, HaveRanges, IsLonger, ChangesAreMarked, ChangesOfAreMarked};
 
 use crate::watched::number_at;
 use alarm_bank::Marks;
-use plant_cells::Cells;
+use logic_cells::Cells;
 use std::alloc::{AllocError, Global};
 use std::mem::replace;
 

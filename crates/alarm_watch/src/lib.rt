@@ -2,6 +2,8 @@
 //!
 //! Contracts see `Watches` as the list of what each alarm watches. Beside it stand, for each global, the alarms that watch it, so that a
 //! scan looks only at the alarms one of whose globals changed.
+//!
+//! Layer alarm_: it must not know programs, sources or files.
 #![tactic(auto)]
 
 mod chains;

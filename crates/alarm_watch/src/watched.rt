@@ -2,11 +2,11 @@
 
 ghost use Rattle.std.specs.Prelude.{◌≡◌};
 ghost use Rattle.plant_types.specs.Values.{is_true};
-ghost use Rattle.plant_cells.specs.Cells.{value_at};
+ghost use Rattle.logic_cells.specs.Cells.{value_at};
 ghost use Rattle.alarm_watch.specs.Watched.{suppression};
 
 use alarm_bank::Signals;
-use plant_cells::Cells;
+use logic_cells::Cells;
 
 /// The globals that an alarm watches: its condition, and what suppresses it.
 #[derive(Clone, Copy, Drop)]
@@ -60,7 +60,7 @@ fn is_suppressed(cells: &Cells, watch: &Watch) -> bool
 }
 
 impl<'a> Signals for Watched<'a> {
-    ghost use Rattle.plant_cells.specs.Cells.{value_at};
+    ghost use Rattle.logic_cells.specs.Cells.{value_at};
     ghost use Rattle.alarm_watch.specs.Watched.{watched_conditions, watched_suppressions};
 
     ghost conditions = { λ w. watched_conditions (value_at w.cells.now) w.watches.now };

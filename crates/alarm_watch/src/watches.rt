@@ -2,7 +2,7 @@
 
 ghost use Rattle.std.specs.Prelude.{◌≡◌, ◌<◌, ◌≤◌, ◌^◌, ℕ, true, false, Some, length, map, slice_get, IfOk, OnOk};
 ghost use Rattle.alarm_bank.specs.Moves.{AreMovesOf};
-ghost use Rattle.plant_cells.specs.Cells.{value_at};
+ghost use Rattle.logic_cells.specs.Cells.{value_at};
 ghost use Rattle.alarm_watch.specs.Chains.{condition_keys, suppress_keys, ChangesAreMarked};
 ghost use Rattle.alarm_watch.specs.Watched.{alarms_watched, watched_conditions, Follow};
 ghost use Rattle.alarm_delays.specs.Delays.{after_conditions, after_met};
@@ -12,7 +12,7 @@ use crate::watched::{Watch, Watched};
 use alarm_bank::{Bank, Marks};
 use alarm_delays::Delays;
 use alarm_machine::{Alarm, Change};
-use plant_cells::Cells;
+use logic_cells::Cells;
 use std::alloc::{AllocError, Global};
 use std::marker::Model;
 

@@ -1,7 +1,7 @@
 //! The sources of a plant that is served, kept for whoever looks on.
 
-use plant_service::PlantTexts;
-use statement_places::told_of_fault;
+use serve_runs::PlantTexts;
+use explain_statements::told_of_fault;
 use std::alloc::{AllocError, Global};
 use std::cell::Cell;
 

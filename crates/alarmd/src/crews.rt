@@ -4,7 +4,7 @@ ghost use Rattle.std.specs.Prelude.{◌<◌, ◌≤◌};
 
 use crew::{CrewFault, Ungated};
 use engine::{Done, Job, Start};
-use plant_service::ServeFault;
+use serve_runs::ServeFault;
 use standing_crew::Standing;
 use std::alloc::Global;
 use std::sync::{Arc, Wait};

@@ -2,10 +2,12 @@
 //!
 //! Without words it serves its example plant: commands from standard input, one on each line, and answers on standard output. `check PLANT` tells
 //! whether a plant is accepted, and `run PLANT` serves it, with `--workers N` by N workers. What is chosen, accepted, refused and answered is proved in the libraries
-//! `command_line` and `plant_service`.
+//! `serve_arguments` and `serve_runs`.
+//!
+//! Layer serve_: it must not know consoles in threads, nor, but for `main`, what people are told.
 #![tactic(auto)]
 
-ghost use Rattle.command_line.specs.Choices.{HasWorkers};
+ghost use Rattle.serve_arguments.specs.Choices.{HasWorkers};
 
 mod copies;
 mod crews;
@@ -21,8 +23,8 @@ mod words;
 use crate::plants::{check, serve_example, serve_files};
 use crate::prints::{asked, stopped, usage};
 use crate::words::choice;
-use command_line::{Choice, Ended, UsageFault, status};
-use plant_service::ServeFault;
+use serve_arguments::{Choice, Ended, UsageFault, status};
+use serve_runs::ServeFault;
 use std::io::IsTerminal;
 use std::process::ExitCode;
 use std::rt::Runtime;

@@ -1,10 +1,10 @@
 //! What the program prints that is no answer, and how it ends by that.
 
 ghost use Rattle.std.specs.Prelude.{◌≡◌, ◌⊎◌};
-ghost use Rattle.command_line.specs.declared.ended.Ended.TheVariants as ended;
+ghost use Rattle.serve_arguments.specs.declared.ended.Ended.TheVariants as ended;
 
-use command_line::Ended;
-use plant_service::{ServeFault, Writing, put_all};
+use serve_arguments::Ended;
+use serve_runs::{ServeFault, Writing, put_all};
 use std::io;
 
 /// Prints on standard error why the program stopped.

@@ -4,9 +4,9 @@ use crate::copies::KeptSources;
 use crate::greeting::greet;
 use crate::missing::why_missing;
 use plant_config::{ConfigFault, Observer, Plant, Unit};
-use plant_explain::{Warner, explain_all, warn};
-use plant_service::{Folder, Listener, PlantTexts, listing};
-use statement_places::statement_table;
+use explain_plant::{Warner, explain_all, warn};
+use serve_runs::{Folder, Listener, PlantTexts, listing};
+use explain_statements::statement_table;
 use std::alloc::{AllocError, Global};
 use std::rt::Files;
 

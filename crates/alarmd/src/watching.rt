@@ -4,7 +4,7 @@ ghost use Rattle.std.specs.Prelude.{◌≡◌};
 
 use crate::copies::KeptSources;
 use memchr::memchr_iter;
-use plant_service::{Failed, Sink};
+use serve_runs::{Failed, Sink};
 use std::alloc::Global;
 use std::str;
 

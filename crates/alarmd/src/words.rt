@@ -1,9 +1,9 @@
 //! The words of the command line.
 
 ghost use Rattle.std.specs.Prelude.{IfOk};
-ghost use Rattle.command_line.specs.Choices.{HasWorkers};
+ghost use Rattle.serve_arguments.specs.Choices.{HasWorkers};
 
-use command_line::{Choice, UsageFault, choose};
+use serve_arguments::{Choice, UsageFault, choose};
 use plant_types::Text;
 use std::alloc::{AllocError, Global};
 use std::rt::Env;

@@ -19,17 +19,17 @@ use Rattle.st_tree.specs.declared.tree.Stmt.TheVariants.{rolls-Assign}
 use Rattle.st_tree.specs.Plain.{PlainExpr, PlainStmt, assign, PlainBody, done, next, Branches, no_branch, branch, Choices, no_choice, choice}
 use Rattle.st_tree.specs.Controls.{control_values}
 use Rattle.st_tree.specs.View.{view_step, view_branch_step, view_choice_step, view_expr, view_stmt, view_body, view_branch, view_branches, view_choice, view_choices}
-use Rattle.plant_cells.specs.declared.clock.Standard.{Standard}
-use Rattle.block_walk.specs.declared.frame.Seat.{Seat}
-use Rattle.block_walk.specs.declared.frame.Base.{Base}
-use Rattle.block_walk.specs.declared.frame.Frame.{Frame}
-use Rattle.block_walk.specs.declared.frame.SeatOf.{SeatOf}
-use Rattle.block_walk.specs.declared.frame.SeatOf.TheVariants as seat_of
-use Rattle.block_walk.specs.Walks.{base_of, member_slot}
+use Rattle.logic_cells.specs.declared.clock.Standard.{Standard}
+use Rattle.logic_walk.specs.declared.frame.Seat.{Seat}
+use Rattle.logic_walk.specs.declared.frame.Base.{Base}
+use Rattle.logic_walk.specs.declared.frame.Frame.{Frame}
+use Rattle.logic_walk.specs.declared.frame.SeatOf.{SeatOf}
+use Rattle.logic_walk.specs.declared.frame.SeatOf.TheVariants as seat_of
+use Rattle.logic_walk.specs.Walks.{base_of, member_slot}
 use Rattle.acc_vm.specs.declared.instr.Instr.TheVariants as instr
-use Rattle.code_sizes.specs.declared.counts.Count.{Count}
-use Rattle.code_sizes.specs.Sizes.{expr_lines, body_lines, frame_lines}
-use Rattle.code_sizes.specs.Counts.{lines_at}
+use Rattle.vm_sizes.specs.declared.counts.Count.{Count}
+use Rattle.vm_sizes.specs.Sizes.{expr_lines, body_lines, frame_lines}
+use Rattle.vm_sizes.specs.Counts.{lines_at}
 use Rattle.codegen.specs.declared.scope.Scope.{Scope}
 use Rattle.codegen.specs.Codes as codes
 use Rattle.codegen.specs.Codes.{Line, Coder, Part, frame_part, routine_part, labels_code, loop_code, for_code, pt_instr}

@@ -6,10 +6,10 @@ use Rattle.st_tree.specs.declared.tree.Binary.TheVariants.{Less, Add, Multiply}
 use Rattle.st_tree.specs.declared.tree.Label.{Label}
 use Rattle.st_tree.specs.Plain.{PlainExpr, literal, read, element, binary}
 use Rattle.st_tree.specs.Plain.{PlainBody, assign, store, if_else, case_of, for_to, done, next, branch, no_branch, choice, no_choice}
-use Rattle.block_walk.specs.declared.frame.Base.{Base}
+use Rattle.logic_walk.specs.declared.frame.Base.{Base}
 use Rattle.acc_vm.specs.declared.instr.Instr.{Instr}
 use Rattle.acc_vm.specs.declared.instr.Instr.TheVariants as instr
-use Rattle.code_sizes.specs.Sizes.{body_lines, body_words}
+use Rattle.vm_sizes.specs.Sizes.{body_lines, body_words}
 use Rattle.codegen.specs.Codes.{body_code, instrs_of}
 use Rattle.codegen.specs.Pairs.{joined_of}
 

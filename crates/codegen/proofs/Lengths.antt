@@ -7,12 +7,12 @@ use Rattle.st_tree.specs.declared.tree.Label.{Label}
 use Rattle.st_tree.specs.declared.controls.Span.{Span}
 use Rattle.st_tree.specs.Plain.{PlainExpr, literal, read, output_of, element, unary, binary, PlainArgument, input, output, PlainStmt, empty, assign, store, call, if_else, case_of, for_to, PlainBody, done, next, Branches, no_branch, branch, Choices, no_choice, choice}
 use Rattle.st_tree.specs.Controls.{control_values}
-use Rattle.block_walk.specs.declared.frame.SeatOf.{SeatOf}
-use Rattle.block_walk.specs.declared.frame.SeatOf.TheVariants as seat_of
-use Rattle.block_walk.specs.declared.frame.Seat.{Seat}
-use Rattle.block_walk.specs.declared.frame.Base.{Base}
+use Rattle.logic_walk.specs.declared.frame.SeatOf.{SeatOf}
+use Rattle.logic_walk.specs.declared.frame.SeatOf.TheVariants as seat_of
+use Rattle.logic_walk.specs.declared.frame.Seat.{Seat}
+use Rattle.logic_walk.specs.declared.frame.Base.{Base}
 use Rattle.acc_vm.specs.declared.instr.Instr.TheVariants as instr
-use Rattle.code_sizes.specs.Sizes.{constant_span, turns_of, for_lines, choice_lines, expr_lines, binary_lines, put_lines, inputs_lines, outputs_lines, entered, entered_by, stmt_lines, body_lines, branches_lines, choices_lines}
+use Rattle.vm_sizes.specs.Sizes.{constant_span, turns_of, for_lines, choice_lines, expr_lines, binary_lines, put_lines, inputs_lines, outputs_lines, entered, entered_by, stmt_lines, body_lines, branches_lines, choices_lines}
 use Rattle.codegen.specs.Codes.{Line, Coder, place_of, binary_code, put_code, branch_code, labels_code, choice_code, loop_code, for_code, expr_code, inputs_code, outputs_code, enter_by, enter_code, call_code, stmt_code, body_code, branches_code, choices_code}
 
 one_more : (c : List Line) (l : Line) (m : ℕ) → length c ≡ m → length (c ++ l ∷ []) ≡ m + 1

@@ -5,14 +5,14 @@ use Rattle.st_tree.specs.declared.tree.Branch.{Branch}
 use Rattle.st_tree.specs.declared.tree.Choice.{Choice}
 use Rattle.st_tree.specs.View.{view_expr, view_body, view_branches, view_choices}
 use Rattle.st_tree.proofs.Views.{view_branch_is, view_choice_is}
-use Rattle.block_walk.specs.declared.frame.Seat.{Seat}
-use Rattle.block_walk.specs.declared.frame.SeatOf.TheVariants as seat_of
-use Rattle.block_walk.specs.declared.frame.Frame.{Frame}
-use Rattle.code_sizes.specs.declared.counts.Count.{Count}
-use Rattle.code_sizes.specs.Sizes.{expr_lines, choice_lines, entered_by, body_lines, frame_lines}
-use Rattle.code_sizes.specs.Counts.{lines_at}
+use Rattle.logic_walk.specs.declared.frame.Seat.{Seat}
+use Rattle.logic_walk.specs.declared.frame.SeatOf.TheVariants as seat_of
+use Rattle.logic_walk.specs.declared.frame.Frame.{Frame}
+use Rattle.vm_sizes.specs.declared.counts.Count.{Count}
+use Rattle.vm_sizes.specs.Sizes.{expr_lines, choice_lines, entered_by, body_lines, frame_lines}
+use Rattle.vm_sizes.specs.Counts.{lines_at}
 use Rattle.codegen.specs.declared.scope.Scope.{Scope}
-use Rattle.code_sizes.proofs.Few.{branch_at, choice_at, labelled}
+use Rattle.vm_sizes.proofs.Few.{branch_at, choice_at, labelled}
 use Rattle.codegen.specs.Emission.{enter_long, body_long, branches_long, choices_long}
 use Rattle.codegen.proofs.Parts.{lines_is}
 

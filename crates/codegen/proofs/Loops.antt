@@ -13,9 +13,9 @@ use Rattle.st_tree.specs.Operators.{Outcome, eval_unary, eval_binary}
 use Rattle.st_tree.specs.Meaning.{Space, then_one, then_two, outcome, step_of}
 use Rattle.st_tree.specs.Controls.{values_from, control_values, count_in, span_of}
 use Rattle.st_tree.specs.Constants.{constant_of}
-use Rattle.plant_cells.specs.Cells.{PlainCells, assigned}
+use Rattle.logic_cells.specs.Cells.{PlainCells, assigned}
 use Rattle.acc_vm.specs.Machine.{Stuck, Next, turn}
-use Rattle.code_sizes.specs.Sizes.{number_of, constant_number, step_number, span_from, constant_span}
+use Rattle.vm_sizes.specs.Sizes.{number_of, constant_number, step_number, span_from, constant_span}
 
 -- the end of a turn that isn't the last
 pub next_turn : (on : Next) (pc slot : ℕ) (stride : ℤ) (to : ℕ) (acc x : ℤ) (left rest : ℕ) (stack : List ℤ) (w : PlainCells) → left ≡ suc rest → is_in_range kind.Time (x +ℤ stride) ≡ true

@@ -14,12 +14,12 @@ use Rattle.st_tree.specs.declared.tree.Stmt.{Stmt, Assign, Store, Call, If, Case
 use Rattle.st_tree.specs.Mapping.{Known, expr_known, option_known, argument_known, stmt_known, body_known, branches_known, choices_known}
 use Rattle.st_tree.specs.View.{view_expr, view_option, view_argument, view_stmt, view_body, view_branch, view_branches, view_choice, view_choices}
 use Rattle.st_tree.proofs.Views.{view_stmt-Store, view_stmt-Call, view_stmt-If, view_stmt-Case, view_stmt-For}
-use Rattle.plant_cells.specs.declared.clock.Standard.{Standard}
-use Rattle.block_walk.specs.declared.frame.Seat.{Seat}
-use Rattle.block_walk.specs.declared.frame.Base.{Base}
-use Rattle.block_walk.specs.declared.frame.SeatOf.{SeatOf}
-use Rattle.block_walk.specs.declared.frame.SeatOf.TheVariants as seat_of
-use Rattle.block_walk.specs.Walks.{member_slot, base_of}
+use Rattle.logic_cells.specs.declared.clock.Standard.{Standard}
+use Rattle.logic_walk.specs.declared.frame.Seat.{Seat}
+use Rattle.logic_walk.specs.declared.frame.Base.{Base}
+use Rattle.logic_walk.specs.declared.frame.SeatOf.{SeatOf}
+use Rattle.logic_walk.specs.declared.frame.SeatOf.TheVariants as seat_of
+use Rattle.logic_walk.specs.Walks.{member_slot, base_of}
 use Rattle.codegen.specs.declared.scope.Scope.{Scope}
 use Rattle.codegen.specs.Within.{fits, has_pt, has_called, has_instance, frame_there}
 use Rattle.codegen.specs.Emission.{named}

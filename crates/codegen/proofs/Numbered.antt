@@ -2,13 +2,13 @@
 use Rattle.std.proofs.Common.{◌≡◌, ℕ, ◌+◌, ◌-◌, ◌<◌, ◌≤◌, List, length, Some, ap, true, arith, inl, inr}
 use Rattle.std.specs.Prelude.{slice_get}
 use Rattle.std.proofs.lemmas.Option.{slice_get_cases}
-use Rattle.plant_cells.specs.Runs.{Path}
-use Rattle.block_walk.specs.declared.frame.SeatOf.TheVariants as seat_of
-use Rattle.block_walk.specs.declared.frame.Seat.{Seat}
-use Rattle.block_walk.specs.declared.frame.Frame.{Frame}
-use Rattle.block_walk.specs.Frames.{InTurn, frame_paths, routine_paths}
-use Rattle.block_walk.proofs.Firsts.{paths_is}
-use Rattle.block_walk.proofs.Numbers.{number_below}
+use Rattle.logic_cells.specs.Runs.{Path}
+use Rattle.logic_walk.specs.declared.frame.SeatOf.TheVariants as seat_of
+use Rattle.logic_walk.specs.declared.frame.Seat.{Seat}
+use Rattle.logic_walk.specs.declared.frame.Frame.{Frame}
+use Rattle.logic_walk.specs.Frames.{InTurn, frame_paths, routine_paths}
+use Rattle.logic_walk.proofs.Firsts.{paths_is}
+use Rattle.logic_walk.proofs.Numbers.{number_below}
 
 -- a frame of the table has a path
 has_path : (frames : List Frame) (limit k : ℕ) → k < limit → limit ≤ length frames → 0 < length (frame_paths frames limit k)

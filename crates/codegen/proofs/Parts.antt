@@ -1,10 +1,10 @@
 -- What a frame is, by what the frames before it are.
 use Rattle.std.proofs.Common.{◌≡◌, ap, refl, ℕ, zero, suc, ◌<◌, ◌≤◌, List, [], Option, Some, None, true, false, Bool, if◌then◌else◌}
 use Rattle.std.specs.Prelude.{slice_get, nat_eq}
-use Rattle.block_walk.specs.declared.frame.Frame.{Frame}
-use Rattle.block_walk.specs.Frames.{of_frame}
-use Rattle.block_walk.proofs.Firsts.{first_is, first_past}
-use Rattle.code_sizes.specs.Sizes.{routine_lines, routine_words, routine_cost, routine_size, frame_lines, frame_words, frame_cost, frame_size}
+use Rattle.logic_walk.specs.declared.frame.Frame.{Frame}
+use Rattle.logic_walk.specs.Frames.{of_frame}
+use Rattle.logic_walk.proofs.Firsts.{first_is, first_past}
+use Rattle.vm_sizes.specs.Sizes.{routine_lines, routine_words, routine_cost, routine_size, frame_lines, frame_words, frame_cost, frame_size}
 use Rattle.codegen.specs.Codes.{Part, routine_part, frame_part}
 
 abbrev pub none : Part

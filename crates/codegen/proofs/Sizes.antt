@@ -8,12 +8,12 @@ use Rattle.st_tree.specs.Plain.{PlainExpr, literal, read, output_of, element, un
 use Rattle.st_tree.specs.Plain.{PlainStmt, empty, assign, store, call, if_else, case_of, for_to, PlainBody, done, next, Branches, no_branch, branch, Choices, no_choice, choice}
 use Rattle.st_tree.specs.View.{view_body}
 use Rattle.st_tree.specs.Costs.{expr_cost, tests_cost, labels_cost, arguments_cost, weight, weight_all, branches_weight, choices_weight}
-use Rattle.block_walk.specs.declared.frame.SeatOf.{SeatOf}
-use Rattle.block_walk.specs.declared.frame.SeatOf.TheVariants as seat_of
-use Rattle.block_walk.specs.declared.frame.Seat.{Seat}
-use Rattle.block_walk.specs.declared.frame.Frame.{Frame}
-use Rattle.block_walk.proofs.Firsts.{first_past}
-use Rattle.code_sizes.specs.Sizes.{expr_lines, binary_lines, put_lines, inputs_lines, outputs_lines, for_lines, choice_lines, entered, entered_by, seat_cost, called_cost, frame_turns, stmt_lines, body_lines, branches_lines, choices_lines, frame_lines, frame_size, routine_lines}
+use Rattle.logic_walk.specs.declared.frame.SeatOf.{SeatOf}
+use Rattle.logic_walk.specs.declared.frame.SeatOf.TheVariants as seat_of
+use Rattle.logic_walk.specs.declared.frame.Seat.{Seat}
+use Rattle.logic_walk.specs.declared.frame.Frame.{Frame}
+use Rattle.logic_walk.proofs.Firsts.{first_past}
+use Rattle.vm_sizes.specs.Sizes.{expr_lines, binary_lines, put_lines, inputs_lines, outputs_lines, for_lines, choice_lines, entered, entered_by, seat_cost, called_cost, frame_turns, stmt_lines, body_lines, branches_lines, choices_lines, frame_lines, frame_size, routine_lines}
 use Rattle.codegen.proofs.Parts.{lines_is, size_is}
 use Rattle.codegen.proofs.Frames.{first_none}
 

@@ -12,7 +12,7 @@ use Rattle.st_tree.specs.declared.tree.Stmt.{Stmt, If, Case, For}
 use Rattle.st_tree.specs.Controls.{values_from, control_values, count_in}
 use Rattle.st_tree.specs.View.{view_expr, view_option, view_stmt, view_body, view_branch, view_branches, view_choice, view_choices}
 use Rattle.st_tree.proofs.Views.{view_stmt-If, view_stmt-Case, view_stmt-For}
-use Rattle.code_sizes.specs.Sizes.{constant_span}
+use Rattle.vm_sizes.specs.Sizes.{constant_span}
 use Rattle.codegen.specs.Codes.{IsSteady, SteadyStmt, SteadyBody, SteadyBranches, SteadyChoices}
 use Rattle.codegen.proofs.Loops.{from_range, length_from}
 

@@ -11,14 +11,14 @@ use Rattle.st_tree.specs.Operators.{Outcome}
 use Rattle.st_tree.specs.Meaning.{Space, then_one, index_of, Spot, Ran, Done, Trapped, with_value, outcome}
 use Rattle.st_tree.specs.Costs.{expr_cost}
 use Rattle.st_tree.proofs.FittedLaws.{index_within}
-use Rattle.plant_cells.specs.Cells.{PlainCells, assigned}
-use Rattle.plant_cells.specs.Runs.{Path}
-use Rattle.block_walk.specs.declared.frame.Seat.{Seat}
-use Rattle.block_walk.specs.declared.frame.Base.{Base}
-use Rattle.block_walk.specs.Walks.{slot_of, frame_space}
+use Rattle.logic_cells.specs.Cells.{PlainCells, assigned}
+use Rattle.logic_cells.specs.Runs.{Path}
+use Rattle.logic_walk.specs.declared.frame.Seat.{Seat}
+use Rattle.logic_walk.specs.declared.frame.Base.{Base}
+use Rattle.logic_walk.specs.Walks.{slot_of, frame_space}
 use Rattle.acc_vm.specs.declared.instr.Instr.TheVariants as instr
 use Rattle.acc_vm.specs.Machine.{Over, Stuck, with_outcome, put_on}
-use Rattle.code_sizes.specs.Sizes.{expr_words}
+use Rattle.vm_sizes.specs.Sizes.{expr_words}
 use Rattle.codegen.specs.Codes.{Line, Coder, expr_code, store_code}
 use Rattle.codegen.proofs.Steps.{Machine, Has, spot_of, has_front, has_back, Leads, Traps, Runs, leads_on, traps_on, later_traps, one_step, one_trap}
 use Rattle.codegen.proofs.Exprs.{Gives, expr_runs}

@@ -14,22 +14,22 @@ use Rattle.st_tree.specs.Plain.{PlainExpr, literal, read, output_of, element, un
 use Rattle.st_tree.specs.Mapping.{Known, expr_known, option_known, argument_known, stmt_known, body_known, branches_known, choices_known}
 use Rattle.st_tree.specs.View.{view_body}
 use Rattle.st_tree.specs.Controls.{control_values}
-use Rattle.plant_cells.specs.declared.clock.Standard.{Standard}
-use Rattle.plant_cells.specs.declared.clock.Standard.TheVariants as standard
-use Rattle.block_walk.specs.declared.frame.SeatOf.{SeatOf}
-use Rattle.block_walk.specs.declared.frame.SeatOf.TheVariants as seat_of
-use Rattle.block_walk.specs.declared.frame.Seat.{Seat}
-use Rattle.block_walk.specs.declared.frame.Base.{Base}
-use Rattle.block_walk.specs.declared.frame.Frame.{Frame}
-use Rattle.block_walk.specs.Walks.{slot_of, member_slot, base_of}
-use Rattle.block_walk.proofs.Firsts.{first_is}
+use Rattle.logic_cells.specs.declared.clock.Standard.{Standard}
+use Rattle.logic_cells.specs.declared.clock.Standard.TheVariants as standard
+use Rattle.logic_walk.specs.declared.frame.SeatOf.{SeatOf}
+use Rattle.logic_walk.specs.declared.frame.SeatOf.TheVariants as seat_of
+use Rattle.logic_walk.specs.declared.frame.Seat.{Seat}
+use Rattle.logic_walk.specs.declared.frame.Base.{Base}
+use Rattle.logic_walk.specs.declared.frame.Frame.{Frame}
+use Rattle.logic_walk.specs.Walks.{slot_of, member_slot, base_of}
+use Rattle.logic_walk.proofs.Firsts.{first_is}
 use Rattle.acc_vm.specs.declared.instr.Instr.{Instr}
 use Rattle.acc_vm.specs.declared.instr.Instr.TheVariants as instr
 use Rattle.acc_vm.specs.Operands.{row_slots}
 use Rattle.acc_vm.specs.Codes.{values_past, clocks_past, values_named, clocks_named}
 use Rattle.acc_vm.proofs.Table.{past_below, past_append}
-use Rattle.code_slices.specs.Slots.{slots_read, slots_written, clocks_of, SomeHas, Names, NamesClock}
-use Rattle.code_sizes.specs.Sizes.{constant_span, expr_lines, inputs_lines, stmt_lines, body_lines, branches_lines, choices_lines}
+use Rattle.vm_slices.specs.Slots.{slots_read, slots_written, clocks_of, SomeHas, Names, NamesClock}
+use Rattle.vm_sizes.specs.Sizes.{constant_span, expr_lines, inputs_lines, stmt_lines, body_lines, branches_lines, choices_lines}
 use Rattle.codegen.specs.Pairs.{both as both_in_one, paired, is_same_place, joined, joined_of}
 use Rattle.std.specs.Option.{option_or, unwrap_or}
 use Rattle.codegen.specs.Codes.{Line, Coder, Part, place_of, output_by, output_instr, binary_code, put_code, pt_instr, branch_code, labels_code, choice_code, loop_code, for_code, expr_code, inputs_code, outputs_code, enter_by, enter_code, stmt_code, body_code, branches_code, choices_code, frame_part, program_lines, code_of}

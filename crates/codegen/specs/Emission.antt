@@ -6,15 +6,15 @@ use Rattle.st_tree.specs.declared.tree.Binary.{Binary}
 use Rattle.st_tree.specs.Plain.{PlainExpr, literal, read, output_of, element, unary, binary, PlainArgument, PlainStmt, PlainBody, Branches, Choices}
 use Rattle.st_tree.specs.Meaning.{literal_worth}
 use Rattle.st_tree.specs.Mapping.{Known}
-use Rattle.block_walk.specs.declared.frame.Seat.{Seat}
-use Rattle.block_walk.specs.declared.frame.Base.{Base}
-use Rattle.block_walk.specs.declared.frame.Frame.{Frame}
-use Rattle.block_walk.specs.Frames.{InTurn, AreInTurn, frame_paths}
-use Rattle.block_walk.specs.Walks.{HasRoom, slot_of, paths_within}
+use Rattle.logic_walk.specs.declared.frame.Seat.{Seat}
+use Rattle.logic_walk.specs.declared.frame.Base.{Base}
+use Rattle.logic_walk.specs.declared.frame.Frame.{Frame}
+use Rattle.logic_walk.specs.Frames.{InTurn, AreInTurn, frame_paths}
+use Rattle.logic_walk.specs.Walks.{HasRoom, slot_of, paths_within}
 use Rattle.acc_vm.specs.declared.instr.Instr.TheVariants as instr
-use Rattle.code_sizes.specs.declared.counts.Count.{Count}
-use Rattle.code_sizes.specs.Sizes.{inputs_lines, outputs_lines, entered, stmt_lines, body_lines, frame_lines, branches_lines, choices_lines}
-use Rattle.code_sizes.specs.Counts.{lines_at}
+use Rattle.vm_sizes.specs.declared.counts.Count.{Count}
+use Rattle.vm_sizes.specs.Sizes.{inputs_lines, outputs_lines, entered, stmt_lines, body_lines, frame_lines, branches_lines, choices_lines}
+use Rattle.vm_sizes.specs.Counts.{lines_at}
 use Rattle.codegen.specs.declared.scope.Scope.{Scope}
 use Rattle.codegen.specs.Codes as codes
 use Rattle.codegen.specs.Codes.{Line, Coder, frame_part, AreSteady}

@@ -4,18 +4,18 @@ use Rattle.std.specs.List.{list_all}
 use Rattle.plant_types.specs.declared.values.Bounds.{Bounds}
 use Rattle.st_tree.specs.View.{view_body}
 use Rattle.st_tree.specs.Mapping.{Known, body_known}
-use Rattle.plant_cells.specs.declared.clock.Standard.{Standard}
-use Rattle.plant_cells.specs.declared.clock.Standard.TheVariants as standard
-use Rattle.block_walk.specs.declared.frame.SeatOf.{SeatOf}
-use Rattle.block_walk.specs.declared.frame.SeatOf.TheVariants as seat_of
-use Rattle.block_walk.specs.declared.frame.Seat.{Seat}
-use Rattle.block_walk.specs.declared.frame.Base.{Base}
-use Rattle.block_walk.specs.declared.frame.Frame.{Frame}
-use Rattle.block_walk.specs.Frames.{of_first}
-use Rattle.block_walk.specs.Walks.{slot_of, member_slot, base_of}
+use Rattle.logic_cells.specs.declared.clock.Standard.{Standard}
+use Rattle.logic_cells.specs.declared.clock.Standard.TheVariants as standard
+use Rattle.logic_walk.specs.declared.frame.SeatOf.{SeatOf}
+use Rattle.logic_walk.specs.declared.frame.SeatOf.TheVariants as seat_of
+use Rattle.logic_walk.specs.declared.frame.Seat.{Seat}
+use Rattle.logic_walk.specs.declared.frame.Base.{Base}
+use Rattle.logic_walk.specs.declared.frame.Frame.{Frame}
+use Rattle.logic_walk.specs.Frames.{of_first}
+use Rattle.logic_walk.specs.Walks.{slot_of, member_slot, base_of}
 use Rattle.acc_vm.specs.Operands.{row_slots}
 use Rattle.acc_vm.specs.Codes.{PlainCode}
-use Rattle.code_slices.specs.Slots.{Names, NamesClock}
+use Rattle.vm_slices.specs.Slots.{Names, NamesClock}
 
 -- each element of an array is there, by a test of values and the slot of the first one
 abbrev pub has_row : (has_value : ℕ → Bool) → ℕ → Bounds → Bool

@@ -5,10 +5,10 @@ ghost use Rattle.std.specs.List.{list_all};
 ghost use Rattle.st_tree.specs.View.{view_argument, view_stmt, view_body, view_branch, view_branches, view_choice, view_choices};
 ghost use Rattle.st_tree.specs.Mapping.{argument_known, stmt_known, body_known, expr_known, branches_known, choices_known};
 ghost use Rattle.st_tree.specs.Controls.{control_values};
-ghost use Rattle.block_walk.specs.Frames.{AreInTurn, frame_paths};
-ghost use Rattle.block_walk.specs.Walks.{HasRoom};
+ghost use Rattle.logic_walk.specs.Frames.{AreInTurn, frame_paths};
+ghost use Rattle.logic_walk.specs.Walks.{HasRoom};
 ghost use Rattle.acc_vm.specs.declared.instr.Instr.TheVariants.{Jump, JumpUnless};
-ghost use Rattle.code_sizes.specs.Sizes.{for_lines, frame_lines};
+ghost use Rattle.vm_sizes.specs.Sizes.{for_lines, frame_lines};
 ghost use Rattle.codegen.specs.Codes.{Line, labels_code, for_code, IsSteady, SteadyStmt, SteadyBody, SteadyBranches, SteadyChoices, AreSteady};
 ghost use Rattle.codegen.specs.Emission as code;
 ghost use Rattle.codegen.specs.Emission.{AreLines, IsLaid, named, coders, body_long, stmt_long, call_long, enter_long, branches_long, choices_long};
@@ -20,8 +20,8 @@ use crate::lines::{emit, emit_labels};
 use crate::numbers::{base_of, left_of, slot_of};
 use crate::scope::Scope;
 use acc_vm::Instr;
-use block_walk::{Base, Frame, SeatOf};
-use code_sizes::{
+use logic_walk::{Base, Frame, SeatOf};
+use vm_sizes::{
     Count, body_lines, branches_lines, choices_lines, constant_span, expr_lines, inputs_lines,
     stmt_lines,
 };

@@ -6,7 +6,7 @@ ghost use Rattle.st_tree.specs.Mapping.{expr_known};
 ghost use Rattle.codegen.specs.Emission as code;
 ghost use Rattle.codegen.specs.Emission.{operator_code, named};
 ghost use Rattle.codegen.specs.Within.{fits, has_row};
-ghost use Rattle.block_walk.specs.Walks.{slot_of};
+ghost use Rattle.logic_walk.specs.Walks.{slot_of};
 
 use crate::lines::emit;
 use crate::numbers::{output_instr, row_of, slot_of};

@@ -1,9 +1,9 @@
 //! A law of the definitions. The function does nothing: it has the law as its contract, for the crates above.
 
 ghost use Rattle.std.specs.Prelude.{◌≡◌, ◌≤◌, ◌*◌, ℕ, List, length};
-ghost use Rattle.block_walk.specs.declared.frame.Base.{Base};
-ghost use Rattle.block_walk.specs.declared.frame.Frame.{Frame};
-ghost use Rattle.code_sizes.specs.Sizes.{frame_lines, frame_size};
+ghost use Rattle.logic_walk.specs.declared.frame.Base.{Base};
+ghost use Rattle.logic_walk.specs.declared.frame.Frame.{Frame};
+ghost use Rattle.vm_sizes.specs.Sizes.{frame_lines, frame_size};
 ghost use Rattle.codegen.specs.Codes.{frame_part};
 
 /// The code of a frame is as long as its size foretells, and no longer than three instructions a unit of the frame's size.

@@ -4,9 +4,11 @@
 //! that is called. The law of the compiler is `RunsFrame` there: the machine runs the code to the end that the frame comes to.
 //!
 //! Code is emitted in order, line by line: each line is an instruction and its place. Where a jump leads is known beforehand by the counts of
-//! code_sizes, so that no line is written twice. The counts of the frames are found once for all programs of a table. Lines, slots and
+//! vm_sizes, so that no line is written twice. The counts of the frames are found once for all programs of a table. Lines, slots and
 //! clocks, where the values and clocks of an instance begin, its paths, and the turns of a FOR always have room: what the whole has room for, each part is
 //! known to have room for. What is told as the cost of a code is given: it may be more than the frames cost of which the code is made.
+//!
+//! Layer vm_: it must not know alarms, files or threads.
 #![tactic(auto)]
 
 mod arguments;

@@ -1,13 +1,13 @@
 //! Numbers of slots and clocks, and the bases of instances.
 
 ghost use Rattle.std.specs.Prelude.{◌≡◌, ◌<◌, ℕ, ◌+◌, ◌^◌, pos, true, slice_get};
-ghost use Rattle.block_walk.specs.Walks.{HasRoom, slot_of, member_slot, base_of};
+ghost use Rattle.logic_walk.specs.Walks.{HasRoom, slot_of, member_slot, base_of};
 ghost use Rattle.codegen.specs.Codes.{output_instr, pt_instr};
 ghost use Rattle.codegen.specs.Within.{fits, has_row, has_output, has_pt};
 
 use acc_vm::Instr;
-use block_walk::{Base, Seat, SeatOf};
-use plant_cells::Standard;
+use logic_walk::{Base, Seat, SeatOf};
+use logic_cells::Standard;
 use plant_types::Bounds;
 
 /// The turns that are left after the first one, as a word.

@@ -1,7 +1,7 @@
 //! Where the code of a routine is laid out.
 
-use block_walk::{Base, Frame, Seat};
-use code_sizes::Count;
+use logic_walk::{Base, Frame, Seat};
+use vm_sizes::Count;
 
 /// A routine at a base: the frames, the counts of those before the routine's own, and how many these are; its instances; the number of
 /// globals; where its values and clocks begin; and the number of its path.

@@ -3,7 +3,7 @@ ghost use Rattle.std.specs.Prelude.{◌≡◌, length};
 ghost use Rattle.rtrb.specs.Ring.{producer_capacity, received};
 
 use crate::answer::Answer;
-use marked_log::LogName;
+use console_log::LogName;
 use rtrb::{Consumer, Producer, PushError};
 
 /// A console: it submits orders and takes their answers. It may go to a thread of its own.

@@ -4,7 +4,7 @@ ghost use Rattle.console_link.specs.Seats.{submitted, taken, known_room, orders_
 
 use crate::answer::Answer;
 use crate::console::{Console, Finished};
-use marked_log::{LogName, Mark};
+use console_log::{LogName, Mark};
 use rtrb::{Consumer, Producer, RingBuffer};
 use std::alloc::{AllocError, Global};
 

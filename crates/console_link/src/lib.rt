@@ -5,6 +5,8 @@
 //! thread again, in `Lane::end`; before that each end knows its own list alone.
 //!
 //! The crate is generic in the order `O` and in the reply `R`, so that it stands on neither the engine nor the history.
+//!
+//! Layer console_: it must not know the bytes of commands.
 #![tactic(auto)]
 
 mod answer;

@@ -3,6 +3,8 @@
 //! Folding goes from the inside out, and changes expressions alone: statements keep their numbers, the choices of a CASE their labels, and
 //! each name its place. An operator that traps, as `1 / 0` does, stays as it is. So does one that reads a variable anywhere in its
 //! operands, be its result known without it: the variable's side may trap, as in `0 * (1 / x)`.
+//!
+//! Layer vm_: it must not know alarms, files or threads.
 #![tactic(auto)]
 
 mod fold;

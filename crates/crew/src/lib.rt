@@ -2,6 +2,8 @@
 //!
 //! A crew is generic in what it runs (`Work`), and its answer has one run of each job that was handed in, in any order. Nobody is told
 //! which thread ran what, so what follows from the runs is the same for every crew.
+//!
+//! Layer base_: it must not know sources, alarms or files.
 #![tactic(auto)]
 
 ghost use Rattle.std.specs.Prelude.{◌≡◌, ℕ, IfOk, IsTrue, map};

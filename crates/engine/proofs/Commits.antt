@@ -9,25 +9,25 @@ use Rattle.journal_core.specs.Rows.{PlainLog, after_entry, after_entries, last_m
 use Rattle.journal_core.specs.declared.row.Entry.TheVariants as entry
 use Rattle.plant_config.specs.Plants.{PlainPlant}
 use Rattle.plant_config.specs.Names.{globals_of}
-use Rattle.event_history.specs.declared.event.Event.{Event}
-use Rattle.event_history.specs.declared.event.Event.TheVariants as event
-use Rattle.operator_orders.specs.declared.order.Order.{Order}
-use Rattle.plant_system.specs.declared.state.Effect.{Effect}
+use Rattle.engine_history.specs.declared.event.Event.{Event}
+use Rattle.engine_history.specs.declared.event.Event.TheVariants as event
+use Rattle.alarm_orders.specs.declared.order.Order.{Order}
+use Rattle.engine_system.specs.declared.state.Effect.{Effect}
 use Rattle.alarm_bank.specs.Moves.{changes_from}
 use Rattle.journal_core.specs.Rows.{change_entry}
-use Rattle.plant_system.specs.System.{System, system, after_event, ordered}
+use Rattle.engine_system.specs.System.{System, system, after_event, ordered}
 use Rattle.engine.specs.Lawful.{IsTaken}
-use Rattle.plant_system.specs.Reports.{PlainReport}
+use Rattle.engine_system.specs.Reports.{PlainReport}
 use Rattle.engine.specs.Journal.{IsJournal, named_change, named_order, refusal_of, one_or_none, change_entries, added_entries, row_plants, scan_entries, order_entries}
 use Rattle.engine.specs.RowNames.{HaveNames}
 use Rattle.engine.proofs.Names.{event_names, names_reload}
-use Rattle.plant_system.specs.Orders.{alarms_by, changed_by}
+use Rattle.engine_system.specs.Orders.{alarms_by, changed_by}
 use Rattle.engine.proofs.OrderRows.{order_changes}
 use Rattle.engine.specs.Engines.{PlainEngine, PlainPreparedReload, Fits, FitsOrder, FitsReload, state_of}
-use Rattle.plant_system.specs.States.{PlainState, PlainPrepared, PlainPreparedOrder, after_effect, IsState, IsReport}
+use Rattle.engine_system.specs.States.{PlainState, PlainPrepared, PlainPreparedOrder, after_effect, IsState, IsReport}
 use Rattle.alarm_delays.specs.Delays.{PlainDelays}
-use Rattle.plant_system.proofs.Images.{taken_when}
-use Rattle.plant_system.proofs.Systems.{system_next}
+use Rattle.engine_system.proofs.Images.{taken_when}
+use Rattle.engine_system.proofs.Systems.{system_next}
 use Rattle.engine.proofs.Journals.{as_many_rows, reload_journal, scan_journal, order_journal, until_after, last_below, room_after, length-scan_entries, few_order_entries}
 
 -- a scan leaves the state of the history with it

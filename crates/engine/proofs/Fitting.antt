@@ -5,19 +5,19 @@ use Rattle.plant_types.specs.Pairs.{PlainPair}
 use Rattle.journal_core.specs.declared.row.Row.{Row}
 use Rattle.plant_config.specs.Plants.{PlainPlant, IsPlant}
 use Rattle.plant_config.specs.Names.{globals_of}
-use Rattle.event_history.specs.declared.event.Event.{Event}
-use Rattle.event_history.specs.declared.event.Event.TheVariants as event
-use Rattle.operator_orders.specs.declared.order.Order.{Order}
-use Rattle.plant_system.specs.declared.event.TheConstants.{MOST_EVENTS}
-use Rattle.plant_system.specs.Orders.{order_outcome, unless_old, alarms_by, faulted_by, reply_by}
-use Rattle.plant_system.specs.System.{System, opening_system, after_event, after_scan_event, scan_event, reload_event, ordered, system}
-use Rattle.plant_system.specs.States.{PlainState, PlainPrepared, PlainPreparedOrder, IsState, IsReport, after_effect}
-use Rattle.plant_system.specs.Steps.{ScanRan, IsPreparedScan, IsPreparedOrder, IsReadyReload}
-use Rattle.plant_system.specs.declared.reloading.ReadyReload.{ReadyReload}
-use Rattle.plant_system.specs.Reloads.{fresh_count, kept_count, kept_numbers}
-use Rattle.plant_system.proofs.Images.{taken_within}
-use Rattle.plant_system.proofs.FoundReload.{reload_found}
-use Rattle.plant_system.proofs.Systems.{system_events, system_next, system_reloads, system_none, system_scans, kept_alarms, scan_agrees, scan_reports, scan_event_is, effect_anywhere, order_steps, order_event_room}
+use Rattle.engine_history.specs.declared.event.Event.{Event}
+use Rattle.engine_history.specs.declared.event.Event.TheVariants as event
+use Rattle.alarm_orders.specs.declared.order.Order.{Order}
+use Rattle.engine_system.specs.declared.event.TheConstants.{MOST_EVENTS}
+use Rattle.engine_system.specs.Orders.{order_outcome, unless_old, alarms_by, faulted_by, reply_by}
+use Rattle.engine_system.specs.System.{System, opening_system, after_event, after_scan_event, scan_event, reload_event, ordered, system}
+use Rattle.engine_system.specs.States.{PlainState, PlainPrepared, PlainPreparedOrder, IsState, IsReport, after_effect}
+use Rattle.engine_system.specs.Steps.{ScanRan, IsPreparedScan, IsPreparedOrder, IsReadyReload}
+use Rattle.engine_system.specs.declared.reloading.ReadyReload.{ReadyReload}
+use Rattle.engine_system.specs.Reloads.{fresh_count, kept_count, kept_numbers}
+use Rattle.engine_system.proofs.Images.{taken_within}
+use Rattle.engine_system.proofs.FoundReload.{reload_found}
+use Rattle.engine_system.proofs.Systems.{system_events, system_next, system_reloads, system_none, system_scans, kept_alarms, scan_agrees, scan_reports, scan_event_is, effect_anywhere, order_steps, order_event_room}
 use Rattle.engine.specs.Lawful.{IsTaken}
 use Rattle.engine.specs.Engines.{PlainEngine, Fits, FitsOrder, FitsReload, IsEngine, state_of}
 use Rattle.engine.specs.Journal.{IsJournal, journal_of, row_plants}

@@ -1,13 +1,13 @@
 -- Each event that is taken keeps each value in the range of its variable's kind.
 use Rattle.std.proofs.Common.{List}
-use Rattle.plant_walk.specs.Sound.{IsSound}
-use Rattle.plant_walk.proofs.Ranges.{opening_in_range}
+use Rattle.vm_logic.specs.Sound.{IsSound}
+use Rattle.vm_logic.proofs.Ranges.{opening_in_range}
 use Rattle.plant_config.specs.Plants.{PlainPlant}
 use Rattle.plant_config.specs.Names.{globals_of}
-use Rattle.event_history.specs.declared.event.Event.{Event}
-use Rattle.event_history.specs.declared.event.Event.TheVariants as event
-use Rattle.plant_system.specs.System.{System, system, after_event}
-use Rattle.plant_system.proofs.InRange.{taken_fits, scan_in, reload_in}
+use Rattle.engine_history.specs.declared.event.Event.{Event}
+use Rattle.engine_history.specs.declared.event.Event.TheVariants as event
+use Rattle.engine_system.specs.System.{System, system, after_event}
+use Rattle.engine_system.proofs.InRange.{taken_fits, scan_in, reload_in}
 use Rattle.engine.specs.Lawful.{IsTaken, IsLawfulHistory, HasValuesInRange}
 use Rattle.engine.proofs.Lawful.{lawful_keeps}
 

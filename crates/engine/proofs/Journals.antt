@@ -10,23 +10,23 @@ use Rattle.plant_types.specs.declared.values.Trap.{Trap}
 use Rattle.plant_types.specs.declared.values.Value.{Value}
 use Rattle.alarm_machine.specs.declared.states.OrderFault.{OrderFault}
 use Rattle.alarm_machine.specs.Alarms.{PlainAlarm}
-use Rattle.plant_system.specs.declared.state.Effect.{Effect}
+use Rattle.engine_system.specs.declared.state.Effect.{Effect}
 use Rattle.alarm_machine.specs.Codes.{PlainChange}
-use Rattle.plant_walk.specs.Runs.{place_spot}
+use Rattle.vm_logic.specs.Runs.{place_spot}
 use Rattle.journal_core.specs.declared.row.Entry.{Entry}
 use Rattle.journal_core.specs.declared.row.Entry.TheVariants as entry
 use Rattle.journal_core.specs.declared.row.Row.{Row}
 use Rattle.journal_core.specs.Rows.{PlainLog, after_entry, after_entries, fault_entry, change_entry, last_moment}
 use Rattle.plant_config.specs.Plants.{PlainPlant}
-use Rattle.event_history.specs.declared.event.Event.{Event}
-use Rattle.event_history.specs.declared.event.Event.TheVariants as event
-use Rattle.operator_orders.specs.declared.order.Order.{Order}
-use Rattle.plant_system.specs.Orders.{changed_by}
-use Rattle.plant_system.specs.Reports.{PlainReport}
-use Rattle.plant_system.specs.States.{IsReport}
+use Rattle.engine_history.specs.declared.event.Event.{Event}
+use Rattle.engine_history.specs.declared.event.Event.TheVariants as event
+use Rattle.alarm_orders.specs.declared.order.Order.{Order}
+use Rattle.engine_system.specs.Orders.{changed_by}
+use Rattle.engine_system.specs.Reports.{PlainReport}
+use Rattle.engine_system.specs.States.{IsReport}
 use Rattle.alarm_bank.specs.Moves.{changes_from}
-use Rattle.plant_system.specs.System.{System, system, opening_system, after_event, ordered}
-use Rattle.plant_system.proofs.Systems.{system_alarms, system_faulted, changes_within, numbers_more}
+use Rattle.engine_system.specs.System.{System, system, opening_system, after_event, ordered}
+use Rattle.engine_system.proofs.Systems.{system_alarms, system_faulted, changes_within, numbers_more}
 use Rattle.engine.proofs.OrderRows.{order_changes, order_named}
 use Rattle.engine.specs.Journal.{NamedEntry, FaultAt, ReloadOf, named_change, named_order, named_entry, named_row, fault_entries, change_entries, added_entries, refusal_of, one_or_none, scan_entries, order_entries, rows_from, added_rows, journal_from, journal_of, plants_from, row_plants, named_rows, AreNamed, IsNamed, IsJournal}
 use Rattle.engine.specs.Engines.{TellsReload}

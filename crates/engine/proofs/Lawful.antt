@@ -5,18 +5,18 @@ use Rattle.std.proofs.lemmas.Bool.Decides.{nat_tests}
 use Rattle.alarm_machine.specs.declared.limits.TheConstants.{LAST_MOMENT}
 use Rattle.plant_config.specs.Plants.{PlainPlant, IsPlant}
 use Rattle.plant_config.specs.Names.{globals_of}
-use Rattle.plant_system.specs.declared.event.TheConstants.{MOST_EVENTS}
-use Rattle.plant_system.specs.Reloads.{numbers_of}
-use Rattle.event_history.specs.declared.event.Event.{Event}
-use Rattle.event_history.specs.declared.event.Event.TheVariants as event
-use Rattle.operator_orders.specs.declared.order.Order.{Order}
-use Rattle.plant_system.specs.declared.event.EngineFault.{EngineFault}
-use Rattle.plant_system.specs.declared.event.EngineFault.TheVariants as refusal
-use Rattle.plant_system.specs.System.{System, system, opening_system, after_event, order_event}
+use Rattle.engine_system.specs.declared.event.TheConstants.{MOST_EVENTS}
+use Rattle.engine_system.specs.Reloads.{numbers_of}
+use Rattle.engine_history.specs.declared.event.Event.{Event}
+use Rattle.engine_history.specs.declared.event.Event.TheVariants as event
+use Rattle.alarm_orders.specs.declared.order.Order.{Order}
+use Rattle.engine_system.specs.declared.event.EngineFault.{EngineFault}
+use Rattle.engine_system.specs.declared.event.EngineFault.TheVariants as refusal
+use Rattle.engine_system.specs.System.{System, system, opening_system, after_event, order_event}
 use Rattle.engine.specs.Lawful.{IsTaken, AreTaken, IsLawfulHistory}
-use Rattle.plant_system.proofs.Images.{taken_when}
-use Rattle.plant_system.proofs.FoundReload.{reload_found}
-use Rattle.plant_system.proofs.Systems.{system_events}
+use Rattle.engine_system.proofs.Images.{taken_when}
+use Rattle.engine_system.proofs.FoundReload.{reload_found}
+use Rattle.engine_system.proofs.Systems.{system_events}
 
 taken_next : (s : System) (history : List Event) (e : Event) → AreTaken s history → IsTaken (fold after_event s history) e → AreTaken s (history ++ e ∷ [])
 taken_next s [] e lawful taken = (taken, tt)

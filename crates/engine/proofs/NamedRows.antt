@@ -2,11 +2,11 @@
 use Rattle.std.proofs.Common.{◌≡◌, ℕ, zero, suc, ◌++◌, List, [], ◌∷◌, map, codes, ap, refl}
 use Rattle.std.specs.Prelude.{slice_index_or}
 use Rattle.std.specs.Fmt.{decimal}
-use Rattle.stamps.specs.Stamps.{stamp}
+use Rattle.base_stamps.specs.Stamps.{stamp}
 use Rattle.plant_types.specs.declared.values.Place.{Place}
-use Rattle.plant_logic.specs.Worlds.{Path}
-use Rattle.plant_logic.specs.Paths.{paths_of, path_text}
-use Rattle.plant_walk.specs.Runs.{place_spot}
+use Rattle.logic_source.specs.Worlds.{Path}
+use Rattle.logic_source.specs.Paths.{paths_of, path_text}
+use Rattle.vm_logic.specs.Runs.{place_spot}
 use Rattle.plant_config.specs.Plants.{PlainPlant}
 use Rattle.plant_config.specs.Names.{body_path}
 use Rattle.journal_core.specs.Bodies.{fault_body, body_text, row_text}

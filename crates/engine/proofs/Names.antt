@@ -8,8 +8,8 @@ use Rattle.journal_core.specs.declared.row.Entry.{Entry}
 use Rattle.journal_core.specs.declared.row.Entry.TheVariants as entry
 use Rattle.journal_core.specs.declared.row.Row.{Row}
 use Rattle.journal_core.specs.Rows.{PlainLog, after_entry, after_entries}
-use Rattle.event_history.specs.declared.event.Event.{Event}
-use Rattle.plant_system.specs.System.{system}
+use Rattle.engine_history.specs.declared.event.Event.{Event}
+use Rattle.engine_system.specs.System.{system}
 use Rattle.journal_core.specs.Bodies.{row_text}
 use Rattle.engine.specs.Journal.{AreNamed, IsJournal, IsLine, IsNamed, added_entries, journal_of, name_of, named_row, row_plants}
 use Rattle.engine.specs.RowNames.{HaveNames}

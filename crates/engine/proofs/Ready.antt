@@ -4,13 +4,13 @@ use Rattle.std.proofs.lemmas.List.{length-map}
 use Rattle.alarm_delays.specs.Delays.{PlainDelays, since_of}
 use Rattle.journal_core.specs.declared.row.Row.{Row}
 use Rattle.plant_config.specs.Plants.{PlainPlant}
-use Rattle.event_history.specs.declared.event.Event.{Event}
-use Rattle.plant_system.specs.System.{system}
+use Rattle.engine_history.specs.declared.event.Event.{Event}
+use Rattle.engine_system.specs.System.{system}
 use Rattle.engine.specs.Engines.{IsEngine}
-use Rattle.plant_system.specs.States.{PlainState}
-use Rattle.plant_system.specs.Steps.{IsReady}
+use Rattle.engine_system.specs.States.{PlainState}
+use Rattle.engine_system.specs.Steps.{IsReady}
 use Rattle.engine.proofs.InRange.{lawful_in_range}
-use Rattle.plant_system.proofs.Systems.{system_scans, kept_alarms, kept_faulted, kept_outputs}
+use Rattle.engine_system.proofs.Systems.{system_scans, kept_alarms, kept_faulted, kept_outputs}
 
 -- an engine has what the parts of an event ask
 pub ready : (began plant : PlainPlant) (history : List Event) (rows : List Row) (k : PlainState) (names : List (List ℕ)) → IsEngine began history rows k plant names → IsReady plant k

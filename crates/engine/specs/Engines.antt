@@ -7,16 +7,16 @@ use Rattle.journal_core.specs.declared.row.Row.{Row}
 use Rattle.plant_config.specs.Plants.{PlainPlant, IsPlant}
 use Rattle.plant_config.specs.Code.{plant_code}
 use Rattle.alarm_machine.specs.declared.limits.TheConstants.{LAST_MOMENT}
-use Rattle.event_history.specs.declared.event.Event.{Event}
-use Rattle.event_history.specs.declared.event.Event.TheVariants as event
-use Rattle.event_history.specs.contracts.event.Event as event_row
-use Rattle.plant_system.specs.Reports.{PlainReport}
-use Rattle.plant_system.specs.States.{PlainState, PlainPrepared, PlainPreparedOrder, IsState, IsReport, after_effect}
-use Rattle.plant_system.specs.System.{System, system, after_event, scan_event, reload_event, ordered, reply_to}
-use Rattle.plant_system.specs.declared.event.EngineFault.{EngineFault}
-use Rattle.plant_system.specs.declared.event.EngineFault.TheVariants as refusal
+use Rattle.engine_history.specs.declared.event.Event.{Event}
+use Rattle.engine_history.specs.declared.event.Event.TheVariants as event
+use Rattle.engine_history.specs.contracts.event.Event as event_row
+use Rattle.engine_system.specs.Reports.{PlainReport}
+use Rattle.engine_system.specs.States.{PlainState, PlainPrepared, PlainPreparedOrder, IsState, IsReport, after_effect}
+use Rattle.engine_system.specs.System.{System, system, after_event, scan_event, reload_event, ordered, reply_to}
+use Rattle.engine_system.specs.declared.event.EngineFault.{EngineFault}
+use Rattle.engine_system.specs.declared.event.EngineFault.TheVariants as refusal
 use Rattle.engine.specs.Lawful.{IsTaken, IsLawfulHistory}
-use Rattle.plant_system.specs.Reloads.{fresh_count, kept_count, kept_numbers}
+use Rattle.engine_system.specs.Reloads.{fresh_count, kept_count, kept_numbers}
 use Rattle.engine.specs.RowNames.{HaveNames}
 use Rattle.engine.specs.Journal.{IsJournal, journal_of, row_plants}
 

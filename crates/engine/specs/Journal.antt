@@ -2,7 +2,7 @@
 use Rattle.std.specs.Prelude.{◌≡◌, ℕ, ◌+◌, ◌-◌, ◌<◌, slice_get, List, [], ◌∷◌, ◌++◌, length, map, replicate, if◌then◌else◌, Option, Some, None, Result, Ok, Err, codes}
 use Rattle.std.specs.Option.{option_map}
 use Rattle.std.specs.Fmt.{decimal}
-use Rattle.stamps.specs.Stamps.{stamp}
+use Rattle.base_stamps.specs.Stamps.{stamp}
 use Rattle.plant_types.specs.declared.values.Trap.{Trap}
 use Rattle.alarm_machine.specs.declared.states.Verb.{Verb}
 use Rattle.alarm_machine.specs.declared.states.OrderFault.{OrderFault}
@@ -10,8 +10,8 @@ use Rattle.alarm_machine.specs.declared.states.OrderFault.TheVariants as fault
 use Rattle.alarm_machine.specs.Codes.{PlainChange}
 use Rattle.alarm_machine.specs.Alarms.{PlainAlarm}
 use Rattle.st_tree.specs.Meaning.{Spot}
-use Rattle.plant_logic.specs.Paths.{path_text}
-use Rattle.plant_walk.specs.Runs.{place_spot}
+use Rattle.logic_source.specs.Paths.{path_text}
+use Rattle.vm_logic.specs.Runs.{place_spot}
 use Rattle.journal_core.specs.declared.row.Entry.{Entry}
 use Rattle.journal_core.specs.declared.row.Entry.TheVariants as entry
 use Rattle.journal_core.specs.declared.row.Row.{Row}
@@ -19,14 +19,14 @@ use Rattle.journal_core.specs.Rows.{fault_entry, change_entry}
 use Rattle.journal_core.specs.Bodies.{fault_body, alarm_body, order_body, reload_body}
 use Rattle.plant_config.specs.Plants.{PlainPlant}
 use Rattle.plant_config.specs.Names.{programs_of, body_paths, tag_of, program_at, body_path}
-use Rattle.event_history.specs.declared.event.Event.{Event}
-use Rattle.event_history.specs.declared.event.Event.TheVariants as event
-use Rattle.operator_orders.specs.declared.order.Order.{Order}
-use Rattle.plant_system.specs.declared.state.Effect.{Effect}
-use Rattle.plant_system.specs.Reports.{PlainReport}
-use Rattle.plant_system.specs.Orders.{is_restart, changed_by}
-use Rattle.plant_system.specs.Reloads.{kept_numbers, kept_count, fresh_count}
-use Rattle.plant_system.specs.System.{System, opening_system, after_event, ordered, faults_of, changes_of}
+use Rattle.engine_history.specs.declared.event.Event.{Event}
+use Rattle.engine_history.specs.declared.event.Event.TheVariants as event
+use Rattle.alarm_orders.specs.declared.order.Order.{Order}
+use Rattle.engine_system.specs.declared.state.Effect.{Effect}
+use Rattle.engine_system.specs.Reports.{PlainReport}
+use Rattle.engine_system.specs.Orders.{is_restart, changed_by}
+use Rattle.engine_system.specs.Reloads.{kept_numbers, kept_count, fresh_count}
+use Rattle.engine_system.specs.System.{System, opening_system, after_event, ordered, faults_of, changes_of}
 
 -- what a row tells, by names alone: a program's fault at a spot, the change of the code of the alarm with a tag, an order of a console, the name of its target if there is one, and why it was refused, if it was, or a reload: how many alarms kept their states and how many are new
 pub data NamedEntry : Type 0 where

@@ -3,14 +3,14 @@
 ghost use Rattle.std.specs.Prelude.{◌≡◌, ◌+◌, ◌<◌, ◌≤◌, ◌++◌, [], ◌∷◌, length, slice_get, string_bytes, Some, Ok, Err, IfOk, OnOk, OnErr, IfErr};
 ghost use Rattle.std.specs.Option.{option_map};
 ghost use Rattle.alarm_machine.specs.declared.limits.TheConstants.{LAST_MOMENT};
-ghost use Rattle.plant_system.specs.Faults.{faults_by, IsNoCrews};
-ghost use Rattle.plant_system.specs.Image.{IsDue};
-ghost use Rattle.plant_system.specs.Orders.{restart_of};
-ghost use Rattle.plant_system.specs.System.{scan_event, order_event, reload_event, reply_to, outputs_of, summary_of};
+ghost use Rattle.engine_system.specs.Faults.{faults_by, IsNoCrews};
+ghost use Rattle.engine_system.specs.Image.{IsDue};
+ghost use Rattle.engine_system.specs.Orders.{restart_of};
+ghost use Rattle.engine_system.specs.System.{scan_event, order_event, reload_event, reply_to, outputs_of, summary_of};
 ghost use Rattle.engine.specs.Lawful.{IsLawfulHistory};
 ghost use Rattle.engine.specs.Journal.{IsJournal, IsLine, added_entries, journal_of};
 ghost use Rattle.engine.specs.Engines.{state_of, Fits, FitsOrder, FitsReload, IsEngine, IsReloadRefusal, LeavesState, TakesScan, TellsReload};
-ghost use Rattle.plant_system.specs.States.{IsReport, delays_in};
+ghost use Rattle.engine_system.specs.States.{IsReport, delays_in};
 
 use crate::journal::{keep_names, line_text, push_order, push_scan, row_count};
 use crate::reload::{PreparedReload, ReloadRefused, Reloaded};
@@ -18,23 +18,23 @@ use alarm_bank::{Marks, Summary};
 use alarm_delays::Delays;
 use alarm_machine::{AlarmState, Verb};
 use crew::Crew;
-use event_history::{Event, History};
+use engine_history::{Event, History};
 use journal_core::{Entry, Log, row_text};
-use name_list::NameList;
-use operator_orders::Order;
+use base_names::NameList;
+use alarm_orders::Order;
 use plant_config::Plant;
-use plant_system::{
+use engine_system::{
     Before, EngineFault, MOST_EVENTS, Prepared, PreparedOrder, ReadyReload, ReadyScan, Reply,
     Report, Room, RunRoom, State, alarm_state, apply, apply_scan, empty_report, may_reload,
     opening_state, prepared_order, prepared_scan, ready_reload,
 };
 use plant_types::{Items, Pair, Value};
-use scan_logic::{Levelled, Workspace, plan_levels};
+use level_scans::{Levelled, Workspace, plan_levels};
 use slice_store::{Done, Job, Start};
 use std::alloc::{AllocError, Global};
 use std::marker::Model;
 use std::mem::replace;
-use trace::Shown;
+use base_trace::Shown;
 
 /// A plant, and what the events so far made of it.
 pub struct Engine {
@@ -71,7 +71,7 @@ impl Drop for Engine {
 
 impl Model for Engine {
     ghost use Rattle.std.specs.Prelude.{IfSome, length};
-    ghost use Rattle.scan_logic.specs.Levels.{AreLevelsOf};
+    ghost use Rattle.level_scans.specs.Levels.{AreLevelsOf};
     ghost use Rattle.engine.specs.Engines.{PlainEngine, IsEngine, engine_code};
 
     ghost Value = { PlainEngine };

@@ -6,17 +6,17 @@ ghost use Rattle.alarm_machine.specs.declared.limits.TheConstants.{LAST_MOMENT};
 ghost use Rattle.journal_core.specs.Bodies.{row_text};
 ghost use Rattle.journal_core.specs.declared.row.Entry.TheVariants as entry;
 ghost use Rattle.journal_core.specs.Rows.{after_entries, last_moment};
-ghost use Rattle.plant_system.specs.Orders.{changed_by};
+ghost use Rattle.engine_system.specs.Orders.{changed_by};
 ghost use Rattle.engine.specs.Journal.{refusal_of, scan_entries, order_entries, IsNamed, HasTarget, target_name, order_target, target_text, name_of};
 ghost use Rattle.engine.specs.RowNames.{HaveNames, HaveOtherNames};
 
 use alarm_machine::{Alarm, Change, OrderFault, Verb};
 use journal_core::{Entry, Log, Row, row_text};
-use name_list::NameList;
-use operator_orders::Order;
+use base_names::NameList;
+use alarm_orders::Order;
 use plant_config::Plant;
-use plant_system::{Effect, Report, State};
-use stamps::Epoch;
+use engine_system::{Effect, Report, State};
+use base_stamps::Epoch;
 use std::alloc::{AllocError, Global};
 
 /// Why an order is refused, if it is.

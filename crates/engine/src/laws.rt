@@ -2,10 +2,10 @@
 
 ghost use Rattle.std.specs.Prelude.{◌≡◌, ◌≤◌, List, [], ◌∷◌, length, All};
 ghost use Rattle.plant_config.specs.Plants.{PlainPlant, IsPlant};
-ghost use Rattle.event_history.specs.declared.event.Event.{Event};
-ghost use Rattle.event_history.specs.Reloads.{NoReload};
-ghost use Rattle.plant_system.specs.Reloads.{numbers_of};
-ghost use Rattle.plant_system.specs.System.{System, after_event, system, outputs_of};
+ghost use Rattle.engine_history.specs.declared.event.Event.{Event};
+ghost use Rattle.engine_history.specs.Reloads.{NoReload};
+ghost use Rattle.engine_system.specs.Reloads.{numbers_of};
+ghost use Rattle.engine_system.specs.System.{System, after_event, system, outputs_of};
 ghost use Rattle.engine.specs.Lawful.{IsLawfulHistory, HasValuesInRange, IsOutputValue};
 
 /// The system holds its plant, and only a reload changes it: after each history without one it is the plant with which the system began.

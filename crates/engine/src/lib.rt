@@ -5,6 +5,8 @@
 //! first made ready, which may be refused and changes nothing but the room, and then committed, which allocates nothing and can't fail.
 //!
 //! The programs of a scan are run by any crew: what follows from a scan is the same for each.
+//!
+//! Layer engine_: it must not know the bytes of commands, or what people are told.
 #![tactic(auto)]
 
 mod engine;
@@ -16,17 +18,17 @@ pub use alarm_bank::Summary;
 pub use alarm_machine::{AlarmState, Change, Code, OrderFault, Verb};
 pub use crew::{Alone, Crew, CrewFault};
 pub use engine::Engine;
-pub use event_history::Event;
+pub use engine_history::Event;
 pub use journal_core::{Entry, Log, Row};
 pub use laws::{
     event_keeps_plant, lawful_history_is_short, lawful_history_keeps_consoles_and_epoch,
     lawful_history_stays_in_range, outputs_are_worth_their_numbers, system_keeps_its_plant,
 };
-pub use operator_orders::Order;
+pub use alarm_orders::Order;
 pub use plant_config::{AlarmRow, ConfigFault, Files, Limit, Plant, Variable};
 pub use plant_file::Console;
-pub use plant_system::{EngineFault, Prepared, PreparedOrder, Reply, Report};
+pub use engine_system::{EngineFault, Prepared, PreparedOrder, Reply, Report};
 pub use plant_types::{Given, Items, Kind, Pair, Place, Region, Text, Trap, Value};
 pub use reload::{PreparedReload, ReloadRefused, Reloaded};
 pub use slice_store::{Done, Job, Start};
-pub use stamps::Epoch;
+pub use base_stamps::Epoch;

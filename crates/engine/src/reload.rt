@@ -3,7 +3,7 @@
 ghost use Rattle.std.specs.Prelude.{◌≡◌};
 
 use plant_config::Plant;
-use plant_system::{EngineFault, ReadyReload};
+use engine_system::{EngineFault, ReadyReload};
 use std::marker::Model;
 
 /// A reload that was made ready to be committed.

@@ -3,7 +3,7 @@
 use crate::part::Part;
 use crate::teller::{ARRAYS, BOUNDS, Teller, alone};
 use plant_types::{Bounds, Kind, Text};
-use source_trees::{Sought, Wanted, kind_text};
+use explain_trees::{Sought, Wanted, kind_text};
 use st_names::Scope;
 use st_parser::{SectionKind, Sort};
 use st_tree::Expr;

@@ -2,7 +2,7 @@
 
 use crate::teller::{CIRCLES, KINDS, NAMES, Teller, VARIABLES, alone};
 use plant_types::{Text, same_word};
-use source_trees::{Cursor, Rule, kind_text, leads_back, nearest_global, type_hint};
+use explain_trees::{Cursor, Rule, kind_text, leads_back, nearest_global, type_hint};
 use st_names::{Scope, sort_kind};
 use st_parser::{Declaration, Section, SectionKind, Sort};
 

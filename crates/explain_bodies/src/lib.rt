@@ -5,6 +5,8 @@
 //! name isn't there, or may mean one thing or another, the kind of what it is part of isn't known, and nothing is told of that: so a mistake that is told
 //! is there for itself. A walk doesn't fail: where memory is refused it tells no more, and `mistakes` fails at its end. No clause says that what is told is
 //! right; that is tried on examples.
+//!
+//! Layer explain_: it must not know events or commands.
 #![tactic(auto)]
 
 mod arrays;
@@ -16,5 +18,5 @@ mod statements;
 mod teller;
 mod walk;
 
-pub use source_trees::{Mistake, Rule};
+pub use explain_trees::{Mistake, Rule};
 pub use walk::mistakes;

@@ -3,11 +3,11 @@
 use crate::part::{Part, Worth};
 use crate::teller::{Breach, KINDS, MEMBERS, STATEMENTS, Teller, alone};
 use plant_types::{Kind, Text, Trap, same_word};
-use source_trees::{Member, Step, Wanted, kind_text};
+use explain_trees::{Member, Step, Wanted, kind_text};
 use st_names::Scope;
 use st_parser::SectionKind;
 use st_tree::{Argument, Expr};
-use word_index::Names;
+use base_words::Names;
 
 /// Why a constant has no value.
 fn why_none(trap: Trap) -> &'static str {

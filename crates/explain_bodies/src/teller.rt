@@ -1,10 +1,10 @@
 //! A walk over the trees of a plant's units, and what it tells.
 
 use plant_types::Text;
-use source_trees::{Body, Cursor, Mistake, Rule, Told, Trees, filled};
+use explain_trees::{Body, Cursor, Mistake, Rule, Told, Trees, filled};
 use std::alloc::{AllocError, Global};
-use token_causes::cause_at;
-use word_index::Names;
+use explain_tokens::cause_at;
+use base_words::Names;
 
 /// A rule that is broken, and where to read on.
 pub type Breach = (Rule, &'static str);

@@ -1,11 +1,11 @@
 //! All units of a plant are walked.
 
 use crate::teller::Teller;
-use source_trees::{Body, Cursor, Mistake, Rule, Source, Told, Trees, steps_of};
+use explain_trees::{Body, Cursor, Mistake, Rule, Source, Told, Trees, steps_of};
 use st_names::SharedNames;
 use st_parser::{Pou, Section, Unit};
 use std::alloc::{AllocError, Global};
-use word_index::Names;
+use base_words::Names;
 
 impl<'t> Teller<'t> {
     /// Begins a unit of a name that declares these sections itself.

@@ -5,7 +5,7 @@ use Rattle.plant_types.specs.declared.values.Trap.TheVariants as trap
 use Rattle.alarm_machine.specs.declared.states.Code.TheVariants as code
 use Rattle.alarm_machine.specs.declared.states.Verb.TheVariants as verb
 use Rattle.alarm_machine.specs.declared.states.OrderFault.TheVariants as fault
-use Rattle.stamps.specs.Civil.{date_of}
+use Rattle.base_stamps.specs.Civil.{date_of}
 use Rattle.journal_core.specs.declared.row.Entry.TheVariants as entry
 use Rattle.journal_core.specs.Rows.{after_entries}
 use Rattle.journal_core.specs.declared.packing.KeptRow.TheVariants as kept

@@ -8,7 +8,7 @@ use Rattle.alarm_machine.specs.Orders.{verb_text, order_fault_text}
 use Rattle.alarm_machine.specs.declared.states.Verb.{Verb}
 use Rattle.alarm_machine.specs.declared.states.Verb.TheVariants as verb
 use Rattle.alarm_machine.specs.declared.states.OrderFault.{OrderFault}
-use Rattle.stamps.specs.Stamps.{stamp}
+use Rattle.base_stamps.specs.Stamps.{stamp}
 use Rattle.journal_core.specs.declared.row.Entry.{Entry}
 use Rattle.journal_core.specs.declared.row.Entry.TheVariants as entry
 use Rattle.journal_core.specs.declared.row.Row.{Row}

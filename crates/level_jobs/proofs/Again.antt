@@ -2,9 +2,9 @@
 use Rattle.std.proofs.Common.{◌≡◌, ℕ, List, length, refl, ◌∙◌, arith}
 use Rattle.plant_types.specs.declared.values.Trap.{Trap}
 use Rattle.st_tree.specs.Meaning.{Spot}
-use Rattle.plant_cells.specs.Runs.{Path}
+use Rattle.logic_cells.specs.Runs.{Path}
 use Rattle.acc_vm.specs.Codes.{SameShape}
-use Rattle.code_slices.specs.Parts.{PlainPart}
+use Rattle.vm_slices.specs.Parts.{PlainPart}
 use Rattle.slice_store.specs.Level.{Stored}
 use Rattle.slice_store.specs.Splits.{CanSplit}
 use Rattle.level_jobs.specs.Gathers.{GathersLevels, no_level, next_level}

@@ -5,7 +5,7 @@ use Rattle.std.proofs.lemmas.List.Elements.{All-weaker}
 use Rattle.std.proofs.lemmas.Option.{slice_get_within, get_or_from_slice_get}
 use Rattle.crew.specs.Runs.{IsEachOnce}
 use Rattle.acc_vm.specs.Codes.{PlainCode}
-use Rattle.code_slices.specs.Parts.{PlainPart}
+use Rattle.vm_slices.specs.Parts.{PlainPart}
 use Rattle.level_runs.specs.Programs.{no_code, code_at}
 use Rattle.slice_store.specs.Starts.{Begun}
 use Rattle.slice_store.specs.Level.{Stored}

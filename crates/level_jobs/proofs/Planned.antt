@@ -3,10 +3,10 @@ use Rattle.std.proofs.Common.{◌≡◌, ◌<◌, ◌^◌, ℕ, List, [], length
 use Rattle.std.specs.Prelude.{slice_get, slice_index}
 use Rattle.std.proofs.lemmas.Bool.{cases_lt}
 use Rattle.std.proofs.lemmas.Option.{slice_get-get_or, slice_get_within, get_or_from_slice_get}
-use Rattle.plant_cells.specs.Cells.{PlainCells}
+use Rattle.logic_cells.specs.Cells.{PlainCells}
 use Rattle.acc_vm.specs.Codes.{PlainCode}
-use Rattle.code_slices.specs.Slots.{Names, Writes, NamesClock}
-use Rattle.code_slices.specs.Parts.{PlainPart, IsPartOf}
+use Rattle.vm_slices.specs.Slots.{Names, Writes, NamesClock}
+use Rattle.vm_slices.specs.Parts.{PlainPart, IsPartOf}
 use Rattle.level_runs.specs.Accesses as accesses
 use Rattle.level_runs.specs.Accesses.{HaveOwnCells}
 use Rattle.level_runs.specs.Plans.{IsPlanOf}

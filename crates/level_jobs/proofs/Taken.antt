@@ -7,17 +7,17 @@ use Rattle.std.proofs.lemmas.Bool.{both_ways}
 use Rattle.std.proofs.lemmas.Option.{slice_get-get_or, slice_get_within, get_or_from_slice_get, slice_get_cases}
 use Rattle.plant_types.specs.declared.values.Trap.{Trap}
 use Rattle.st_tree.specs.Meaning.{Spot}
-use Rattle.plant_cells.specs.declared.stop.Stop.{Stop}
-use Rattle.plant_cells.specs.Cells.{PlainCells}
-use Rattle.plant_cells.specs.Runs.{Path, ended}
+use Rattle.logic_cells.specs.declared.stop.Stop.{Stop}
+use Rattle.logic_cells.specs.Cells.{PlainCells}
+use Rattle.logic_cells.specs.Runs.{Path, ended}
 use Rattle.acc_vm.specs.Machine.{Run, Over}
 use Rattle.acc_vm.specs.Codes.{PlainCode, run_of}
-use Rattle.code_slices.specs.Parts.{PlainPart, IsPartOf}
-use Rattle.level_order.specs.Programs.{with_fault}
-use Rattle.level_order.specs.Levels.{IsRun, TakesLevel}
-use Rattle.level_order.specs.Runs as order
-use Rattle.level_order.specs.Runs.{AreRunsOf, traps_of}
-use Rattle.level_order.proofs.Runs.{runs_make_a_level}
+use Rattle.vm_slices.specs.Parts.{PlainPart, IsPartOf}
+use Rattle.level_laws.specs.Programs.{with_fault}
+use Rattle.level_laws.specs.Levels.{IsRun, TakesLevel}
+use Rattle.level_laws.specs.Runs as order
+use Rattle.level_laws.specs.Runs.{AreRunsOf, traps_of}
+use Rattle.level_laws.proofs.Runs.{runs_make_a_level}
 use Rattle.level_runs.specs.Programs.{Slot, Value, Clocked, cell_at, writes_slot, no_code, code_at, as_ran, programs_at}
 use Rattle.level_runs.proofs.Named.{value_written, writes_value, clock_named, names_clock}
 use Rattle.slice_store.specs.Starts.{Begun, Gives}

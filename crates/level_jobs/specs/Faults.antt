@@ -2,10 +2,10 @@
 use Rattle.std.specs.Prelude.{ℕ, zero, suc, List, [], ◌∷◌, Option, Some, None, Result, Ok, Err}
 use Rattle.plant_types.specs.declared.values.Trap.{Trap}
 use Rattle.st_tree.specs.Meaning.{Spot}
-use Rattle.plant_cells.specs.declared.stop.Stop.{Stop}
-use Rattle.plant_cells.specs.Cells.{PlainCells}
-use Rattle.plant_cells.specs.Runs.{Path, spot_of}
-use Rattle.level_order.specs.Programs.{with_fault}
+use Rattle.logic_cells.specs.declared.stop.Stop.{Stop}
+use Rattle.logic_cells.specs.Cells.{PlainCells}
+use Rattle.logic_cells.specs.Runs.{Path, spot_of}
+use Rattle.level_laws.specs.Programs.{with_fault}
 use Rattle.slice_store.specs.Starts.{Begun, Gives}
 
 -- the number of a job's program: the job's own is 1 more

@@ -4,13 +4,13 @@ use Rattle.std.specs.List.Sorted.{IsNonDecreasingBy}
 use Rattle.plant_types.specs.declared.values.Trap.{Trap}
 use Rattle.st_tree.specs.Meaning.{Spot}
 use Rattle.crew.specs.Runs.{IsEachOnce}
-use Rattle.plant_cells.specs.declared.stop.Stop.{Stop}
-use Rattle.plant_cells.specs.Cells.{PlainCells}
-use Rattle.plant_cells.specs.Runs.{Path}
+use Rattle.logic_cells.specs.declared.stop.Stop.{Stop}
+use Rattle.logic_cells.specs.Cells.{PlainCells}
+use Rattle.logic_cells.specs.Runs.{Path}
 use Rattle.acc_vm.specs.Codes.{PlainCode, IsSound}
-use Rattle.code_slices.specs.Parts.{PlainPart}
-use Rattle.level_order.specs.Levels.{Midway}
-use Rattle.level_order.specs.Programs.{Outcome}
+use Rattle.vm_slices.specs.Parts.{PlainPart}
+use Rattle.level_laws.specs.Levels.{Midway}
+use Rattle.level_laws.specs.Programs.{Outcome}
 use Rattle.level_plan.specs.Plans.{last_of}
 use Rattle.slice_store.specs.Starts.{Begun}
 use Rattle.slice_store.specs.Level.{Stored, TakesRuns}

@@ -2,8 +2,8 @@
 use Rattle.std.specs.Prelude.{◌≡◌, ◌<◌, ℕ, All, Contains, List, length, map, Result}
 use Rattle.plant_types.specs.declared.values.Trap.{Trap}
 use Rattle.st_tree.specs.Meaning.{Spot}
-use Rattle.plant_cells.specs.declared.stop.Stop.{Stop}
-use Rattle.plant_cells.specs.Runs.{Path, spot_of}
+use Rattle.logic_cells.specs.declared.stop.Stop.{Stop}
+use Rattle.logic_cells.specs.Runs.{Path, spot_of}
 use Rattle.acc_vm.specs.Codes.{PlainCode}
 use Rattle.level_runs.specs.Programs.{code_at}
 use Rattle.slice_store.specs.Starts.{Begun}

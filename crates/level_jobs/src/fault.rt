@@ -1,6 +1,6 @@
 //! Where a program trapped.
 
-use plant_cells::Stop;
+use logic_cells::Stop;
 
 /// A program's run trapped: the program's number, from 0 on, and where with which trap.
 #[derive(Clone, Copy, Drop)]

@@ -4,6 +4,8 @@
 //! (`specs/Gathers.antt`). The faults are those that the runs tell (`specs/Faults.antt`).
 //!
 //! `run_levels` runs all levels so, the jobs of each by a crew. The laws are for those who run the jobs in any other way.
+//!
+//! Layer level_: it must not know alarms, files or events.
 #![tactic(auto)]
 
 mod fault;

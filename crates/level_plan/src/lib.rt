@@ -3,6 +3,8 @@
 //! Programs run in order. Two conflict if one of them writes a global that the other reads or writes. A program stands one level above the
 //! highest earlier program with which it conflicts, and in level 1 if it conflicts with none. Programs of one level may run at the same
 //! time.
+//!
+//! Layer level_: it must not know alarms, files or events.
 #![tactic(auto)]
 
 mod access;

@@ -6,10 +6,10 @@ use Rattle.std.proofs.lemmas.List.{length_push, get_or_append_left, get_or_push,
 use Rattle.std.proofs.lemmas.List.Elements.{All-push, Contains-append_left, Contains-push, Contains-push_cases}
 use Rattle.std.proofs.lemmas.Option.{slice_get_read, slice_get_within, slice_get-get_or, slice_get-map, get_or_from_slice_get}
 use Rattle.acc_vm.specs.Codes.{PlainCode}
-use Rattle.code_slices.specs.Slots as slots
-use Rattle.code_slices.specs.Slots.{Names}
-use Rattle.code_slices.specs.Parts.{PlainPart, IsPartOf}
-use Rattle.code_slices.proofs.Sound.{was}
+use Rattle.vm_slices.specs.Slots as slots
+use Rattle.vm_slices.specs.Slots.{Names}
+use Rattle.vm_slices.specs.Parts.{PlainPart, IsPartOf}
+use Rattle.vm_slices.proofs.Sound.{was}
 use Rattle.level_plan.specs.declared.access.Extent.{Extent}
 use Rattle.level_plan.specs.Accesses.{PlainAccess, Covers, EndsWithin, HaveGlobal, StaysWithin, StayWithin, access_at, no_access}
 use Rattle.level_plan.proofs.Extents.{have_none, have_left, have_last, have_cases}

@@ -6,7 +6,7 @@ use Rattle.std.proofs.lemmas.Bool.{eq-eqb, eqb-true, or_cases, or_left, or_right
 use Rattle.std.proofs.lemmas.List.Folds.{Any-from_list_any, list_any-from_Any}
 use Rattle.std.proofs.lemmas.Option.{slice_get_read, slice_get_within, get_or_from_slice_get}
 use Rattle.acc_vm.specs.declared.instr.Instr.{Instr}
-use Rattle.code_slices.specs.Slots.{slots_read, slots_written, clocks_of, SomeHas, Names, Writes, NamesClock}
+use Rattle.vm_slices.specs.Slots.{slots_read, slots_written, clocks_of, SomeHas, Names, Writes, NamesClock}
 use Rattle.level_runs.specs.Programs.{Value, Clocked, some_has, names_slot, writes_slot}
 
 some_from : (numbers : Instr → List ℕ) (code : List Instr) (n : ℕ) → some_has numbers code n ≡ true → SomeHas numbers code n

@@ -4,12 +4,12 @@ use Rattle.std.specs.Prelude.{slice_index}
 use Rattle.std.proofs.lemmas.Bool.{cases_lt}
 use Rattle.st_tree.specs.Meaning.{Spot}
 use Rattle.plant_types.specs.declared.values.Trap.{Trap}
-use Rattle.plant_cells.specs.Cells.{PlainCells}
-use Rattle.plant_cells.specs.Runs.{Path}
+use Rattle.logic_cells.specs.Cells.{PlainCells}
+use Rattle.logic_cells.specs.Runs.{Path}
 use Rattle.acc_vm.specs.Codes.{PlainCode}
-use Rattle.level_order.specs.Levels.{AreLevels, Midway, RunsLevels, IsAsInOrder}
-use Rattle.level_order.specs.Programs.{in_order}
-use Rattle.level_order.proofs.Levels.{levels_are_as_in_order}
+use Rattle.level_laws.specs.Levels.{AreLevels, Midway, RunsLevels, IsAsInOrder}
+use Rattle.level_laws.specs.Programs.{in_order}
+use Rattle.level_laws.proofs.Levels.{levels_are_as_in_order}
 use Rattle.level_plan.specs.Accesses.{PlainAccess}
 use Rattle.level_plan.specs.Plans.{IsPlan, last_of}
 use Rattle.level_plan.proofs.PlanLaws as laws

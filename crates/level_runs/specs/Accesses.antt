@@ -2,9 +2,9 @@
 use Rattle.std.specs.Prelude.{◌≡◌, ◌↔◌, ℕ, ◌<◌, ◌≤◌, List, length, All, Contains, slice_index_or}
 use Rattle.acc_vm.specs.declared.instr.Instr.{Instr}
 use Rattle.acc_vm.specs.Codes.{PlainCode}
-use Rattle.code_slices.specs.Slots as slots
-use Rattle.code_slices.specs.Slots.{Names, NamesClock}
-use Rattle.code_slices.specs.Parts.{PlainPart, IsPartOf}
+use Rattle.vm_slices.specs.Slots as slots
+use Rattle.vm_slices.specs.Slots.{Names, NamesClock}
+use Rattle.vm_slices.specs.Parts.{PlainPart, IsPartOf}
 use Rattle.level_plan.specs.declared.access.Extent.{Extent}
 use Rattle.level_plan.specs.Accesses.{PlainAccess, EndsWithin, HaveGlobal, Touches, Writes, access_at}
 use Rattle.level_runs.specs.Programs.{code_at}

@@ -1,7 +1,7 @@
 -- Which programs of compiled code conflict, and what may be said of any levels of them.
 use Rattle.std.specs.Prelude.{◌≡◌, ◌⊎◌, ℕ, ◌+◌, ◌<◌, ◌≤◌, List, length}
 use Rattle.acc_vm.specs.Codes.{PlainCode}
-use Rattle.code_slices.specs.Slots.{Names, Writes}
+use Rattle.vm_slices.specs.Slots.{Names, Writes}
 use Rattle.level_runs.specs.Programs.{code_at}
 
 -- one of two codes writes a global, of so many, that the other reads or writes

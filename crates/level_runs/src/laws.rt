@@ -3,11 +3,11 @@
 ghost use Rattle.std.specs.Prelude.{◌≡◌, ℕ, ◌≤◌, List, length, slice_index};
 ghost use Rattle.plant_types.specs.declared.values.Trap.{Trap};
 ghost use Rattle.st_tree.specs.Meaning.{Spot};
-ghost use Rattle.plant_cells.specs.Cells.{PlainCells};
-ghost use Rattle.plant_cells.specs.Runs.{Path};
+ghost use Rattle.logic_cells.specs.Cells.{PlainCells};
+ghost use Rattle.logic_cells.specs.Runs.{Path};
 ghost use Rattle.acc_vm.specs.Codes.{PlainCode};
-ghost use Rattle.level_order.specs.Programs.{AreKnownBySlots, AreLocal, in_order};
-ghost use Rattle.level_order.specs.Levels.{AreLevels, IsAsInOrder, Midway, RunsLevels};
+ghost use Rattle.level_laws.specs.Programs.{AreKnownBySlots, AreLocal, in_order};
+ghost use Rattle.level_laws.specs.Levels.{AreLevels, IsAsInOrder, Midway, RunsLevels};
 ghost use Rattle.level_plan.specs.Plans.{last_of};
 ghost use Rattle.level_runs.specs.Accesses.{HaveOwnCells};
 ghost use Rattle.level_runs.specs.Conflicts.{AreTightFor, IsLevellingOf, AreAsLowFor, EndBy};

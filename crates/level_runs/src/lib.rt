@@ -2,6 +2,8 @@
 //!
 //! A program's code names slots of the cells, and writes some of them (`specs/Programs.antt`). Its level is that of the plan of what the codes
 //! do to the globals; beside the globals each program has values and clocks of its own (`specs/Accesses.antt`).
+//!
+//! Layer level_: it must not know alarms, files or events.
 #![tactic(auto)]
 
 mod laws;

@@ -2,12 +2,12 @@
 
 ghost use Rattle.std.specs.Prelude.{◌≡◌, ◌<◌, ◌^◌, ℕ, List, Some, length, map, get_or, slice_get, IfOk};
 ghost use Rattle.acc_vm.specs.Codes.{PlainCode};
-ghost use Rattle.code_slices.specs.Parts.{IsPartOf};
+ghost use Rattle.vm_slices.specs.Parts.{IsPartOf};
 ghost use Rattle.level_plan.specs.Accesses.{StaysWithin};
 ghost use Rattle.level_runs.specs.Accesses.{AreGlobalsOf, ArePartsOf, IsAccessOf};
 ghost use Rattle.level_runs.specs.Plans.{IsPlanOf};
 
-use code_slices::Part;
+use vm_slices::Part;
 use level_plan::{Access, Extent, Levels, plan};
 use std::alloc::{AllocError, Global};
 

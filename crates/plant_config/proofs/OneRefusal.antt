@@ -5,12 +5,12 @@ use Rattle.st_typing.specs.Faults.{IsTypeFault}
 use Rattle.st_typing.proofs.OneFault as typing
 use Rattle.st_typing.proofs.Settled.{settled}
 use Rattle.plant_file.specs.Read.{document_in, plant_file_in}
-use Rattle.plant_sources.specs.Sources.{SameFault}
-use Rattle.plant_sources.specs.declared.fault.SourceFault.{SourceFault}
-use Rattle.plant_sources.specs.declared.fault.SourceFault.TheVariants as source_fault
-use Rattle.plant_sources.proofs.Answers.{same_fault}
-use Rattle.plant_logic.specs.Units.{source_in}
-use Rattle.plant_limits.specs.Limits.{IsLimitFault}
+use Rattle.st_sources.specs.Sources.{SameFault}
+use Rattle.st_sources.specs.declared.fault.SourceFault.{SourceFault}
+use Rattle.st_sources.specs.declared.fault.SourceFault.TheVariants as source_fault
+use Rattle.st_sources.proofs.Answers.{same_fault}
+use Rattle.logic_source.specs.Units.{source_in}
+use Rattle.logic_limits.specs.Limits.{IsLimitFault}
 use Rattle.alarm_db.specs.Databases.{rows_of}
 use Rattle.alarm_db.specs.declared.column.Column.{Column}
 use Rattle.plant_config.specs.declared.fault.ConfigFault.{ConfigFault}

@@ -4,9 +4,9 @@ use Rattle.std.specs.Prelude.{not, position, slice_index_or}
 use Rattle.std.specs.List.{prefix_len}
 use Rattle.std.proofs.lemmas.List.{length-map}
 use Rattle.plant_types.specs.Words.{same_word}
-use Rattle.plant_logic.specs.Source.{PlainRoutine}
-use Rattle.plant_walk.specs.declared.headings.Heading.{Heading}
-use Rattle.plant_walk.specs.Headings.{PlainHeading, heading_of, view_heading}
+use Rattle.logic_source.specs.Source.{PlainRoutine}
+use Rattle.vm_logic.specs.declared.headings.Heading.{Heading}
+use Rattle.vm_logic.specs.Headings.{PlainHeading, heading_of, view_heading}
 
 prefix-map : {X Y : Type 0} (p : Y → Bool) (f : X → Y) (xs : List X) → prefix_len (λ x. p (f x)) xs ≡ prefix_len p (map f xs)
 prefix-map p f [] = refl

@@ -2,9 +2,9 @@
 use Rattle.std.specs.Prelude.{◌≡◌, ℕ, List, None}
 use Rattle.st_parser.specs.Units.{PlainUnit}
 use Rattle.plant_file.specs.PlantFiles.{PlainPlantFile}
-use Rattle.plant_logic.specs.Source.{Source}
-use Rattle.plant_logic.specs.Units.{source_in}
-use Rattle.plant_walk.specs.Sound.{IsSound}
+use Rattle.logic_source.specs.Source.{Source}
+use Rattle.logic_source.specs.Units.{source_in}
+use Rattle.vm_logic.specs.Sound.{IsSound}
 use Rattle.alarm_db.specs.Databases.{rows_of}
 use Rattle.plant_config.specs.declared.rows.AlarmRow.{AlarmRow}
 use Rattle.plant_config.specs.Alarms.{first_unknown, alarms_of}

@@ -2,13 +2,13 @@
 use Rattle.std.specs.Prelude.{◌≡◌, ◌≢◌, ℕ, false, ◌<◌, ◌≤◌, ◌^◌, List, length, map, slice_get, IfSome, All, AllPairs}
 use Rattle.plant_types.specs.declared.values.Kind.TheVariants as kind
 use Rattle.std.specs.Str.{bytes_eq}
-use Rattle.stamps.specs.Stamps.{epoch_bound}
+use Rattle.base_stamps.specs.Stamps.{epoch_bound}
 use Rattle.plant_file.specs.Lists.{repeats}
 use Rattle.plant_file.specs.PlantFiles.{PlainPlantFile, IsConsole, numbers_clash}
 use Rattle.plant_file.specs.declared.console.Console.{Console}
-use Rattle.plant_logic.specs.declared.logic.Variable.{Variable}
-use Rattle.plant_logic.specs.Source.{Source}
-use Rattle.plant_walk.specs.Sound.{IsSound}
+use Rattle.logic_source.specs.declared.logic.Variable.{Variable}
+use Rattle.logic_source.specs.Source.{Source}
+use Rattle.vm_logic.specs.Sound.{IsSound}
 use Rattle.plant_config.specs.declared.rows.AlarmRow.{AlarmRow}
 
 -- its logic, the names of its areas, its consoles and its alarms, in order, and its epoch in seconds after 1970-01-01T00:00:00Z; areas and globals are numbered from 0

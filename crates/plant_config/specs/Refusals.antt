@@ -1,7 +1,7 @@
 -- Why the texts of a plant are refused: the first rule, in their order, that isn't kept.
 use Rattle.std.specs.Prelude.{◌≡◌, ◌≢◌, ◌⊎◌, ⊤, ℕ, ◌<◌, false, List, [], Some, None, slice_index_or}
 use Rattle.toml.specs.Data.{Members}
-use Rattle.stamps.specs.Stamps.{epoch_bound, epoch_text}
+use Rattle.base_stamps.specs.Stamps.{epoch_bound, epoch_text}
 use Rattle.st_parser.specs.Units.{PlainUnit}
 use Rattle.st_names.specs.declared.place.UnitPlace.{UnitPlace}
 use Rattle.st_typing.specs.Faults.{IsTypeFault}
@@ -9,14 +9,14 @@ use Rattle.st_typing.specs.declared.fault.TypeFault.{TypeFault}
 use Rattle.st_typing.specs.declared.fault.TypeFault.TheVariants as type_fault
 use Rattle.plant_file.specs.PlantFiles.{PlainPlantFile, plant_file}
 use Rattle.plant_file.specs.Read.{document_in, plant_file_in}
-use Rattle.plant_sources.specs.Sources.{IsSourceFault}
-use Rattle.plant_sources.specs.UnitNames.{unit_name}
-use Rattle.plant_sources.specs.declared.fault.SourceFault.{SourceFault}
-use Rattle.plant_sources.specs.declared.fault.SourceFault.TheVariants as source_fault
-use Rattle.plant_logic.specs.Units.{source_in}
-use Rattle.plant_limits.specs.Limits.{IsLimitFault}
-use Rattle.plant_limits.specs.declared.fault.LimitFault.{LimitFault}
-use Rattle.plant_limits.specs.declared.fault.LimitFault.TheVariants as limit_fault
+use Rattle.st_sources.specs.Sources.{IsSourceFault}
+use Rattle.st_sources.specs.UnitNames.{unit_name}
+use Rattle.st_sources.specs.declared.fault.SourceFault.{SourceFault}
+use Rattle.st_sources.specs.declared.fault.SourceFault.TheVariants as source_fault
+use Rattle.logic_source.specs.Units.{source_in}
+use Rattle.logic_limits.specs.Limits.{IsLimitFault}
+use Rattle.logic_limits.specs.declared.fault.LimitFault.{LimitFault}
+use Rattle.logic_limits.specs.declared.fault.LimitFault.TheVariants as limit_fault
 use Rattle.alarm_db.specs.Databases.{first_fault, rows_of}
 use Rattle.alarm_db.specs.declared.column.Column.{Column}
 use Rattle.alarm_db.specs.declared.fault.DbFault.{DbFault}

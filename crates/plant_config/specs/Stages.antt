@@ -1,18 +1,18 @@
 -- How far the texts of a plant are right: each record says what the one before it says, and one rule more.
 use Rattle.std.specs.Prelude.{◌≡◌, ℕ, ◌<◌, true, List, Some, None}
-use Rattle.stamps.specs.Stamps.{epoch_bound, epoch_text}
+use Rattle.base_stamps.specs.Stamps.{epoch_bound, epoch_text}
 use Rattle.st_parser.specs.Units.{PlainUnit}
 use Rattle.st_typing.specs.Faults.{AreTyped}
 use Rattle.plant_file.specs.PlantFiles.{PlainPlantFile}
 use Rattle.plant_file.specs.Read.{plant_file_in}
-use Rattle.plant_sources.specs.Sources.{HaveUnits}
-use Rattle.plant_logic.specs.Units.{source_in}
-use Rattle.plant_limits.specs.Limits.{KeepsLimits}
+use Rattle.st_sources.specs.Sources.{HaveUnits}
+use Rattle.logic_source.specs.Units.{source_in}
+use Rattle.logic_limits.specs.Limits.{KeepsLimits}
 use Rattle.alarm_db.specs.Databases.{first_fault, rows_of}
 use Rattle.plant_config.specs.Alarms.{first_unknown, alarms_of}
 use Rattle.plant_config.specs.Files.{Texts, same_texts}
 use Rattle.plant_config.specs.Limits.{first_limit}
-use Rattle.plant_logic.specs.Source.{Source}
+use Rattle.logic_source.specs.Source.{Source}
 use Rattle.plant_config.specs.declared.rows.AlarmRow.{AlarmRow}
 use Rattle.plant_config.specs.Plants.{PlainPlant, IsPlant, plant_with, tags_of}
 

@@ -1,4 +1,6 @@
 //! A plant as it is configured: its plant file, its sources and its alarm database, read and judged.
+//!
+//! Layer plant_: it must not know events or commands.
 #![tactic(auto)]
 
 mod alarms;
@@ -20,7 +22,7 @@ pub use files::Files;
 pub use laws::{accepted_or_refused, one_plant, one_refusal};
 pub use observer::{Nobody, Observer};
 pub use plant::Plant;
-pub use plant_logic::Variable;
+pub use logic_source::Variable;
 pub use rows::AlarmRow;
 pub use st_parser::Unit;
 pub use told::RowMistakes;

@@ -2,7 +2,7 @@
 
 ghost use Rattle.std.specs.Prelude.{map};
 ghost use Rattle.st_parser.specs.Units.{view_unit};
-ghost use Rattle.plant_sources.specs.Sources.{HaveUnits};
+ghost use Rattle.st_sources.specs.Sources.{HaveUnits};
 ghost use Rattle.st_typing.specs.Faults.{AreTyped};
 
 use st_parser::Unit;

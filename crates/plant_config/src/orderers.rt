@@ -11,7 +11,7 @@ use crate::files::Handed;
 use crate::limits::check_limits;
 use plant_file::{Console, PlantFile};
 use plant_types::Items;
-use stamps::Epoch;
+use base_stamps::Epoch;
 use std::alloc::{AllocError, Global};
 
 /// Whether an area is among these.

@@ -14,10 +14,10 @@ use crate::rows::AlarmRow;
 use crate::told::told;
 use alarm_db::{AlarmDatabase, DatabaseRow, DbFault};
 use plant_file::PlantFile;
-use plant_limits::LimitFault;
-use plant_walk::Framed;
+use logic_limits::LimitFault;
+use vm_logic::Framed;
 use st_typing::Typed;
-use stamps::Epoch;
+use base_stamps::Epoch;
 use std::alloc::Global;
 
 /// The logic of well-formed sources, made ready to run, or the first limit on slots, size and cost that it is past: C10. The sources are let go.

@@ -3,8 +3,8 @@
 ghost use Rattle.std.specs.Prelude.{◌≡◌, ℕ, [], IfOk, MatchResult, map, slice_index_or};
 ghost use Rattle.st_parser.specs.Units.{view_unit};
 ghost use Rattle.plant_file.specs.PlantFiles.{PlainPlantFile};
-ghost use Rattle.plant_sources.specs.Sources.{IsSourceFault};
-ghost use Rattle.plant_sources.specs.UnitNames.{unit_name};
+ghost use Rattle.st_sources.specs.Sources.{IsSourceFault};
+ghost use Rattle.st_sources.specs.UnitNames.{unit_name};
 ghost use Rattle.st_typing.specs.Faults.{IsTypeFault};
 ghost use Rattle.plant_config.specs.Stages.{IsLimited, HasUnits};
 ghost use Rattle.plant_config.specs.Refusals.{IsRefused};
@@ -12,12 +12,12 @@ ghost use Rattle.plant_config.specs.Refusals.{IsRefused};
 use crate::fault::{ConfigFault, Limit};
 use crate::files::Handed;
 use plant_file::PlantFile;
-use plant_sources::{SourceFault, unit_name};
+use st_sources::{SourceFault, unit_name};
 use plant_types::Text;
 use st_names::UnitPlace;
 use st_parser::Unit;
 use st_typing::{Mistyped, TypeFault};
-use stamps::Epoch;
+use base_stamps::Epoch;
 use std::alloc::{AllocError, Global};
 use std::thread::Threads;
 
@@ -72,7 +72,7 @@ pub fn units_of<H: Threads + Sync>(
         (λ units. HasUnits handed.now file.now epoch (map view_unit units.items))
         (IsRefused handed.now) }
 {
-    match plant_sources::units_in_threads(rt, alloc, handed.sources) {
+    match st_sources::units_in_threads(rt, alloc, handed.sources) {
         Ok(units) => Ok(units),
         Err(fault) => Err(misspelled(alloc, handed, fault)),
     }

@@ -4,7 +4,7 @@ use crate::alarms::{area_number, bool_number};
 use crate::files::Handed;
 use alarm_db::{Column, DatabaseRow, Examined, RowFault, RowMistake, Version, examine};
 use plant_file::{PlantFile, TextSet};
-use plant_walk::Framed;
+use vm_logic::Framed;
 use std::alloc::{AllocError, Global};
 use std::marker::Model;
 

@@ -5,6 +5,8 @@
 //!
 //! A refusal carries what was found wrong, for a person: where bytes are no document, and each key, console and item of a list that isn't right. Contracts see
 //! that it is refused, and not these.
+//!
+//! Layer plant_: it must not know events or commands.
 #![tactic(auto)]
 
 mod console;

@@ -5,7 +5,7 @@ ghost use Rattle.std.specs.Io.KnownBytes.{Consumes, IsAtEnd};
 ghost use Rattle.std.specs.IoError.{error_kind};
 ghost use Rattle.plant_folder.specs.Fetches.{HasMore};
 
-use byte_streams::{Feed, Reading, empty_piece, fill};
+use base_streams::{Feed, Reading, empty_piece, fill};
 use std::alloc::{AllocError, Global};
 use std::fs;
 use std::io::{self, ErrorKind};

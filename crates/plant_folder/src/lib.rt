@@ -2,6 +2,8 @@
 //!
 //! Files are found in a `Folder`; `Disk` is that of the system. `fetch` reads the texts of a plant, `verdict` judges texts, and
 //! `files_verdict` does both. A `Listener` hears why a plant is refused, or that it is accepted, with the very texts that were judged.
+//!
+//! Layer plant_: it must not know events or commands.
 #![tactic(auto)]
 
 mod folder;

@@ -1,6 +1,8 @@
 //! The values, places, names and lists of a plant that all other crates use.
 //!
 //! Contracts see each of these types as plain data: a text as its bytes, a list as its items, a pair as a name and the value given for it.
+//!
+//! Layer base_: it must not know sources, alarms or files.
 #![tactic(auto)]
 
 mod items;

@@ -5,7 +5,7 @@ ghost use Rattle.std.specs.Io.KnownBytes.{Appends};
 ghost use Rattle.serve_faults.specs.Faults.{is_crew, is_read, is_write};
 
 use crate::fault::ServeFault;
-use byte_streams::Sink;
+use base_streams::Sink;
 
 /// Writes all of a text. Fails only if a write fails.
 pub fn put_all<S: Sink>(sink: &mut S, text: &[u8]) -> Result<(), ServeFault>

@@ -3,12 +3,12 @@ use Rattle.std.proofs.Common.{◌≡◌, ◌<◌, ◌^◌, ℕ, List, length, So
 use Rattle.std.specs.Prelude.{slice_get}
 use Rattle.std.specs.List.{AllByRecursion}
 use Rattle.std.proofs.lemmas.List.Elements.{All-from_recursion, All-contains}
-use Rattle.plant_cells.specs.Cells.{PlainCells}
+use Rattle.logic_cells.specs.Cells.{PlainCells}
 use Rattle.acc_vm.specs.declared.instr.Instr.{Instr}
 use Rattle.acc_vm.specs.Codes.{PlainCode, IsSound}
-use Rattle.code_slices.specs.Slots.{SomeHas, slots_read, slots_written, clocks_of, Names, NamesClock}
-use Rattle.code_slices.specs.Parts.{PlainPart}
-use Rattle.code_slices.proofs.Sound.{read_past, written_past, clock_past}
+use Rattle.vm_slices.specs.Slots.{SomeHas, slots_read, slots_written, clocks_of, Names, NamesClock}
+use Rattle.vm_slices.specs.Parts.{PlainPart}
+use Rattle.vm_slices.proofs.Sound.{read_past, written_past, clock_past}
 use Rattle.slice_store.specs.Splits.{CanSplit, AreApartCodes, ArePartsOf}
 
 some_below : (numbers : Instr → List ℕ) (n : ℕ) (code : List Instr) → ((pc : ℕ) (i : Instr) → slice_get code pc ≡ Some i → AllByRecursion (λ s. s < n) (numbers i)) → (s : ℕ) → SomeHas numbers code s → s < n

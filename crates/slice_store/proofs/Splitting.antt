@@ -6,9 +6,9 @@ use Rattle.std.proofs.lemmas.List.Elements.{Contains-append_left, Contains-appen
 use Rattle.std.proofs.lemmas.Option.{slice_get-get_or, slice_get_within, get_or_from_slice_get, same_Some}
 use Rattle.std.proofs.lemmas.List.{length-replicate}
 use Rattle.crew.specs.Runs.{AreNumbered, IsDistinct}
-use Rattle.plant_cells.specs.Cells.{PlainCells}
-use Rattle.code_slices.specs.Parts.{PlainPart}
-use Rattle.code_slices.proofs.Places.{split_last}
+use Rattle.logic_cells.specs.Cells.{PlainCells}
+use Rattle.vm_slices.specs.Parts.{PlainPart}
+use Rattle.vm_slices.proofs.Places.{split_last}
 use Rattle.slice_store.specs.Starts.{Begun, no_part, part_of}
 use Rattle.slice_store.specs.Level.{Stored, AreJobsOf, IsReady}
 use Rattle.slice_store.specs.Splits.{CanSplit, IsChosen, IsJobBefore, AreJobsBefore, begun}

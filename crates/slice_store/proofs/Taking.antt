@@ -6,10 +6,10 @@ use Rattle.std.proofs.lemmas.List.{length-set}
 use Rattle.std.proofs.lemmas.List.Elements.{Contains-append_left, Contains-append_right, Contains-append_cases}
 use Rattle.std.proofs.lemmas.Option.{slice_get-get_or}
 use Rattle.crew.specs.Runs.{IsEachOnce}
-use Rattle.plant_cells.specs.declared.stop.Stop.{Stop}
-use Rattle.plant_cells.specs.declared.clock.Clock.{Clock}
-use Rattle.plant_cells.specs.Cells.{PlainCells}
-use Rattle.code_slices.specs.Parts.{PlainPart, HasPart, loaded}
+use Rattle.logic_cells.specs.declared.stop.Stop.{Stop}
+use Rattle.logic_cells.specs.declared.clock.Clock.{Clock}
+use Rattle.logic_cells.specs.Cells.{PlainCells}
+use Rattle.vm_slices.specs.Parts.{PlainPart, HasPart, loaded}
 use Rattle.slice_store.specs.Starts.{Begun, Gives}
 use Rattle.slice_store.specs.Level.{PutsPart, WritesSlot, HasClock, HasTaken, Takes, TakesRuns, AreJobsOf, IsReady, trapped}
 

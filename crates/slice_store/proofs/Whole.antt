@@ -1,14 +1,14 @@
 -- A gathered run is the run of its program's code from all cells.
 use Rattle.std.proofs.Common.{◌≡◌, ℕ, List, Bool, ap, sym, ◌∙◌, inr}
 use Rattle.std.specs.Prelude.{Result}
-use Rattle.plant_cells.specs.Cells.{PlainCells}
-use Rattle.plant_cells.specs.Runs.{Path}
-use Rattle.plant_cells.specs.declared.stop.Stop.{Stop}
+use Rattle.logic_cells.specs.Cells.{PlainCells}
+use Rattle.logic_cells.specs.Runs.{Path}
+use Rattle.logic_cells.specs.declared.stop.Stop.{Stop}
 use Rattle.acc_vm.specs.Codes.{PlainCode, run_of}
-use Rattle.code_slices.specs.Slots.{Names}
-use Rattle.code_slices.specs.Parts.{IsPartOf, HasPart, loaded}
-use Rattle.code_slices.specs.Runs.{RunsWhole}
-use Rattle.code_slices.proofs.Overs.{runs_whole}
+use Rattle.vm_slices.specs.Slots.{Names}
+use Rattle.vm_slices.specs.Parts.{IsPartOf, HasPart, loaded}
+use Rattle.vm_slices.specs.Runs.{RunsWhole}
+use Rattle.vm_slices.proofs.Overs.{runs_whole}
 use Rattle.slice_store.specs.Starts.{Begun, Gives}
 use Rattle.slice_store.specs.Level.{HasTaken}
 use Rattle.slice_store.specs.Whole.{TookWhole}

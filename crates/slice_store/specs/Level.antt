@@ -1,11 +1,11 @@
 -- What a gathered level is.
 use Rattle.std.specs.Prelude.{◌≡◌, ℕ, suc, ◌<◌, ◌≤◌, List, length, slice_index_or, slice_get, Contains, Bool, true, false, Some, Result, Ok, Err}
 use Rattle.crew.specs.Runs.{IsDistinct, IsEachOnce}
-use Rattle.plant_cells.specs.declared.stop.Stop.{Stop}
-use Rattle.plant_cells.specs.Cells.{PlainCells}
+use Rattle.logic_cells.specs.declared.stop.Stop.{Stop}
+use Rattle.logic_cells.specs.Cells.{PlainCells}
 use Rattle.acc_vm.specs.Codes.{SameShape}
-use Rattle.code_slices.specs.Parts.{PlainPart, HasPart, loaded}
-use Rattle.code_slices.specs.Puts.{Puts, PutsAt}
+use Rattle.vm_slices.specs.Parts.{PlainPart, HasPart, loaded}
+use Rattle.vm_slices.specs.Puts.{Puts, PutsAt}
 use Rattle.slice_store.specs.Starts.{Begun, Gives}
 
 -- the values and clocks of all programs, by program whether it is faulted, the scan's moment, and the starts of the jobs that are out

@@ -1,6 +1,6 @@
 -- When a job is ready to run.
 use Rattle.std.specs.Prelude.{◌≤◌, ℤ, List, length}
-use Rattle.plant_cells.specs.Cells.{PlainCells}
+use Rattle.logic_cells.specs.Cells.{PlainCells}
 use Rattle.acc_vm.specs.Codes.{SameShape}
 use Rattle.slice_store.specs.Starts.{Begun}
 

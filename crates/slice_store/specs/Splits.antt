@@ -1,10 +1,10 @@
 -- How a level is split into jobs.
 use Rattle.std.specs.Prelude.{◌≡◌, ◌<◌, ◌≤◌, ◌^◌, ℕ, suc, List, length, Contains, Bool, false, Some, slice_get, slice_index, slice_index_or}
 use Rattle.crew.specs.Runs.{IsDistinct}
-use Rattle.plant_cells.specs.Cells.{PlainCells}
+use Rattle.logic_cells.specs.Cells.{PlainCells}
 use Rattle.acc_vm.specs.Codes.{PlainCode, IsSound}
-use Rattle.code_slices.specs.Slots.{Names, Writes, NamesClock}
-use Rattle.code_slices.specs.Parts.{PlainPart, IsPartOf, HasPart, loaded}
+use Rattle.vm_slices.specs.Slots.{Names, Writes, NamesClock}
+use Rattle.vm_slices.specs.Parts.{PlainPart, IsPartOf, HasPart, loaded}
 use Rattle.slice_store.specs.Starts.{Begun}
 use Rattle.slice_store.specs.Level.{Stored, WritesSlot, NamesSlot, HasClock}
 

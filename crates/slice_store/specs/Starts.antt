@@ -1,11 +1,11 @@
 -- Where jobs start, and what their code gives from there.
 use Rattle.std.specs.Prelude.{◌≡◌, ◌<◌, ◌≤◌, ◌-◌, ℕ, List, [], length, slice_index_or, Result, IfErr}
-use Rattle.plant_cells.specs.declared.stop.Stop.{Stop}
-use Rattle.plant_cells.specs.Cells.{PlainCells}
-use Rattle.plant_cells.specs.Runs.{Path, ended}
+use Rattle.logic_cells.specs.declared.stop.Stop.{Stop}
+use Rattle.logic_cells.specs.Cells.{PlainCells}
+use Rattle.logic_cells.specs.Runs.{Path, ended}
 use Rattle.acc_vm.specs.Machine.{Over}
 use Rattle.acc_vm.specs.Codes.{SameShape, run_of}
-use Rattle.code_slices.specs.Parts.{PlainPart, IsPart}
+use Rattle.vm_slices.specs.Parts.{PlainPart, IsPart}
 
 -- a part of nothing
 abbrev pub no_part : PlainPart

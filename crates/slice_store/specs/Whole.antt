@@ -1,12 +1,12 @@
 -- What a gathered run is, told of all cells.
 use Rattle.std.specs.Prelude.{◌≡◌, ℕ, suc, List, Bool, Some, slice_get, Result}
-use Rattle.plant_cells.specs.declared.stop.Stop.{Stop}
-use Rattle.plant_cells.specs.Cells.{PlainCells}
-use Rattle.plant_cells.specs.Runs.{Path, ended}
+use Rattle.logic_cells.specs.declared.stop.Stop.{Stop}
+use Rattle.logic_cells.specs.Cells.{PlainCells}
+use Rattle.logic_cells.specs.Runs.{Path, ended}
 use Rattle.acc_vm.specs.Machine.{Over}
 use Rattle.acc_vm.specs.Codes.{PlainCode, run_of}
-use Rattle.code_slices.specs.Slots.{Writes, NamesClock}
-use Rattle.code_slices.specs.Alike.{IsKept}
+use Rattle.vm_slices.specs.Slots.{Writes, NamesClock}
+use Rattle.vm_slices.specs.Alike.{IsKept}
 use Rattle.slice_store.specs.Starts.{Begun}
 use Rattle.slice_store.specs.Level.{trapped}
 

@@ -2,20 +2,20 @@
 
 ghost use Rattle.std.specs.Prelude.{◌≡◌, ◌+◌, ◌*◌, ◌-◌, ◌<◌, ◌≤◌, List, length, IfErr};
 ghost use Rattle.std.specs.Arc.{arc_value};
-ghost use Rattle.plant_cells.specs.Runs.{Path, ended};
+ghost use Rattle.logic_cells.specs.Runs.{Path, ended};
 ghost use Rattle.acc_vm.specs.Machine.{Over};
 ghost use Rattle.acc_vm.specs.Codes.{SameShape, run_of};
 ghost use Rattle.slice_store.specs.Ready.{IsReadyJob};
-ghost use Rattle.plant_cells.specs.Cells.{PlainCells};
-ghost use Rattle.code_slices.specs.Parts.{IsPart, HasPart};
+ghost use Rattle.logic_cells.specs.Cells.{PlainCells};
+ghost use Rattle.vm_slices.specs.Parts.{IsPart, HasPart};
 ghost use Rattle.slice_store.specs.Starts.{Gives};
 ghost use Rattle.slice_store.specs.Level.{PutsPart, Takes};
 
 use crate::start::Start;
 use acc_vm::{Code, Own, Shared};
-use code_slices::{Part, put_clocks};
+use vm_slices::{Part, put_clocks};
 use crew::Work;
-use plant_cells::{Cells, Clock, Stop};
+use logic_cells::{Cells, Clock, Stop};
 use std::marker::Model;
 use std::sync::Arc;
 use std::sync::atomic::{AtomicI64, Ordering};

@@ -1,12 +1,12 @@
 //! Laws of the definitions. These functions do nothing: each has a law as its contract, for the crates above.
 
 ghost use Rattle.std.specs.Prelude.{◌≡◌, ◌<◌, ◌^◌, ℕ, List, Bool, Result, length};
-ghost use Rattle.plant_cells.specs.Cells.{PlainCells};
-ghost use Rattle.plant_cells.specs.Runs.{Path};
-ghost use Rattle.plant_cells.specs.declared.stop.Stop.{Stop};
+ghost use Rattle.logic_cells.specs.Cells.{PlainCells};
+ghost use Rattle.logic_cells.specs.Runs.{Path};
+ghost use Rattle.logic_cells.specs.declared.stop.Stop.{Stop};
 ghost use Rattle.acc_vm.specs.Codes.{PlainCode};
-ghost use Rattle.code_slices.specs.Parts.{PlainPart, IsPartOf, HasPart, loaded};
-ghost use Rattle.code_slices.specs.Runs.{RunsWhole};
+ghost use Rattle.vm_slices.specs.Parts.{PlainPart, IsPartOf, HasPart, loaded};
+ghost use Rattle.vm_slices.specs.Runs.{RunsWhole};
 ghost use Rattle.slice_store.specs.Starts.{Begun, Gives};
 ghost use Rattle.slice_store.specs.Level.{HasTaken};
 ghost use Rattle.slice_store.specs.Splits.{CanSplit, AreApartCodes, ArePartsOf};

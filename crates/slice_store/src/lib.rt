@@ -5,6 +5,8 @@
 //! of each job are compared with the starts that are out.
 //!
 //! A run that ended brings its job's memory back, and a later job of its number takes it: a store is lent a `Reserve` of such memory for a scan.
+//!
+//! Layer level_: it must not know alarms, files or events.
 #![tactic(auto)]
 
 mod crews;

@@ -3,7 +3,7 @@
 ghost use Rattle.std.specs.Prelude.{◌≡◌, length};
 ghost use Rattle.slice_store.specs.Starts.{HasNumber, part_of};
 
-use code_slices::Part;
+use vm_slices::Part;
 use std::marker::Model;
 
 /// The parts of all programs, in program order. Threads share the list as one. Contracts see a list of parts.
@@ -19,7 +19,7 @@ impl Drop for Parts {
 
 impl Model for Parts {
     ghost use Rattle.std.specs.Prelude.{List};
-    ghost use Rattle.code_slices.specs.Parts.{PlainPart};
+    ghost use Rattle.vm_slices.specs.Parts.{PlainPart};
 
     ghost Value = { List PlainPart };
 

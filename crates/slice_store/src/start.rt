@@ -5,8 +5,8 @@ ghost use Rattle.std.specs.Arc.{arc_value};
 ghost use Rattle.slice_store.specs.Starts.{Begun, CanRun, HasNumber, part_of};
 
 use crate::parts::Parts;
-use code_slices::{Part, same_cells};
-use plant_cells::Cells;
+use vm_slices::{Part, same_cells};
+use logic_cells::Cells;
 use std::marker::Model;
 use std::mem::swap;
 use std::sync::Arc;

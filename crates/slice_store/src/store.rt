@@ -4,7 +4,7 @@ ghost use Rattle.std.specs.Prelude.{◌≡◌, ◌+◌, ◌<◌, ◌^◌, ℕ, [
 ghost use Rattle.std.specs.Arc.{arc_value};
 ghost use Rattle.slice_store.specs.Level.{TakesRuns, AreJobsOf, AreRunsFrom};
 ghost use Rattle.crew.specs.Runs.{AreNumbered, IsEachOnce};
-ghost use Rattle.code_slices.specs.Parts.{HasPart};
+ghost use Rattle.vm_slices.specs.Parts.{HasPart};
 ghost use Rattle.slice_store.specs.Splits.{CanSplit, AreJobsBefore, SameStore, begun};
 ghost use Rattle.slice_store.specs.Fits.{IsMisfit};
 ghost use Rattle.slice_store.specs.Starts.{HasNumber, part_of};
@@ -18,7 +18,7 @@ use crate::reserve::Reserve;
 use crate::start::Start;
 use crew::Work;
 use level_plan::Levels;
-use plant_cells::{Cells, Clock};
+use logic_cells::{Cells, Clock};
 use std::alloc::{AllocError, Global};
 use std::marker::Model;
 use std::mem::replace;

@@ -1,4 +1,6 @@
 //! The tokens of a source text (IEC 61131-3 Structured Text, this profile's spelling).
+//!
+//! Layer st_: it must not know cells, code, alarms or files.
 #![tactic(auto)]
 
 mod addresses;

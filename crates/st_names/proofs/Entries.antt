@@ -9,7 +9,7 @@ use Rattle.std.specs.List.{zip, slice_get, position_or_len}
 use Rattle.std.specs.Str.{bytes_eq}
 use Rattle.std.specs.Cmp.Lexicographic.{bytes_decides}
 use Rattle.plant_types.specs.Words.{folded, same_word}
-use Rattle.word_index.specs.Names.{find_name, is_among}
+use Rattle.base_words.specs.Names.{find_name, is_among}
 use Rattle.st_names.specs.Tables.{value_of, with_entry}
 
 -- which of two words stands first doesn't matter

@@ -7,7 +7,7 @@ use Rattle.std.specs.Str.{bytes_eq}
 use Rattle.std.proofs.lemmas.List.Folds.{list_any-append}
 use Rattle.std.proofs.lemmas.Str.Ascii.{lowercase-lowercase}
 use Rattle.plant_types.specs.Words.{folded, same_word}
-use Rattle.word_index.specs.Names as names
+use Rattle.base_words.specs.Names as names
 use Rattle.st_names.specs.Taken.{is_among, repeats, is_standard, global_words, pou_words}
 use Rattle.st_names.specs.Scanned.{one_taken, first_taken_pou, first_taken_of}
 use Rattle.st_names.specs.Asked.{repeats_after, Added, AddedPous}

@@ -9,7 +9,7 @@ use Rattle.st_parser.specs.declared.unit.SectionKind.{SectionKind}
 use Rattle.st_parser.specs.declared.unit.Sort.{Sort}
 use Rattle.st_parser.specs.declared.unit.Sort.TheVariants as sort
 use Rattle.st_parser.specs.Units.{PlainDeclaration, PlainSection}
-use Rattle.word_index.specs.Names.{is_among}
+use Rattle.base_words.specs.Names.{is_among}
 use Rattle.st_names.specs.First.{first_that}
 
 -- a declared name: in which kind of section, where it lies, what it is, and its initial value

@@ -10,7 +10,7 @@ use st_parser::{Declaration, Section, SectionKind, Sort};
 use st_tree::Expr;
 use std::alloc::{AllocError, Global};
 use std::marker::Model;
-use word_index::Names;
+use base_words::Names;
 
 /// A declared name, and what it is declared as.
 pub struct Declared<'a> {

@@ -1,4 +1,6 @@
 //! What each name of a plant's sources stands for, and which units use a name that isn't there or take one twice.
+//!
+//! Layer st_: it must not know cells, code, alarms or files.
 #![tactic(auto)]
 
 mod body;

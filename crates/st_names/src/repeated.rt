@@ -13,7 +13,7 @@ use crate::declared::Declared;
 use plant_types::Text;
 use st_tree::Argument;
 use std::alloc::{AllocError, Global};
-use word_index::Names;
+use base_words::Names;
 
 /// Adds a name. True if it was there already.
 pub fn add_name(alloc: Global, names: &mut Names, name: &Text) -> Result<bool, AllocError>

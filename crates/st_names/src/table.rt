@@ -5,7 +5,7 @@ ghost use Rattle.st_names.specs.Tables.{value_of, with_entry};
 
 use std::alloc::{AllocError, Global};
 use std::marker::Model;
-use word_index::Names;
+use base_words::Names;
 
 /// What names stand for: the value of each name, found in any letter case.
 ///

@@ -16,7 +16,7 @@ use crate::standard::is_standard;
 use plant_types::Text;
 use st_parser::{Pou, Unit};
 use std::alloc::{AllocError, Global};
-use word_index::Names;
+use base_words::Names;
 
 /// Adds a name. True if it is taken.
 #[tactic(auto, using(crate::proofs::Twice::standard_folded))]

@@ -1,5 +1,7 @@
 //! Operators of Structured Text on words of 64 bits: what `eval_unary` and `eval_binary` of st_tree give, without wider words where that is
 //! possible.
+//!
+//! Layer st_: it must not know cells, code, alarms or files.
 #![tactic(auto)]
 
 mod words;

@@ -1,6 +1,8 @@
 //! The parser of Structured Text: `parse` returns the unit that tokens spell, or refuses the first token with which no unit can go on.
 //!
 //! Contracts speak of a unit as a `PlainUnit`: its sections of globals, then its blocks and programs with plain bodies. They speak of a text's tokens as lexemes.
+//!
+//! Layer st_: it must not know cells, code, alarms or files.
 #![tactic(auto)]
 
 mod calls;

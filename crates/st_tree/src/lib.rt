@@ -3,6 +3,8 @@
 //! The parser's tree has names as variables, the tree that runs has numbers of cells. Contracts speak of a tree's plain form,
 //! on which its meaning is defined: `view_expr` and `view_body` take a tree to it.
 //! In contracts, a tree over `Text` is one over lists of bytes.
+//!
+//! Layer st_: it must not know cells, code, alarms or files.
 #![tactic(auto)]
 
 mod constants;

@@ -3,7 +3,7 @@ use Rattle.std.proofs.Common.{◌≡◌, ◌≢◌, ℕ, zero, suc, ◌<◌, ◌
 use Rattle.std.proofs.lemmas.Bool.{cases_Bool}
 use Rattle.std.proofs.lemmas.Option.{slice_get_within}
 use Rattle.st_parser.specs.Units.{PlainUnit}
-use Rattle.block_order.proofs.Decided.{holder_or_none, deep_or_none}
+use Rattle.st_blocks.proofs.Decided.{holder_or_none, deep_or_none}
 use Rattle.st_names.specs.Faults.{first_misnamed}
 use Rattle.st_typing.specs.Blocks.{blocks_of, block_places}
 use Rattle.st_typing.specs.Faults.{first_misfit, first_inconstant, some_long, too_many, some_wide, AreNamed, AreKinded, AreApart, AreConstant, AreShort, AreShallow, AreFew, AreTyped, IsTypeFault}

@@ -3,7 +3,7 @@ use Rattle.std.proofs.Common.{◌≡◌, ◌≢◌, ◌∙◌, ap, sym, refl, �
 use Rattle.std.proofs.lemmas.Bool.{both_ways}
 use Rattle.std.proofs.lemmas.Option.{same_Some}
 use Rattle.st_parser.specs.Units.{PlainUnit}
-use Rattle.block_order.proofs.Decided as order
+use Rattle.st_blocks.proofs.Decided as order
 use Rattle.st_names.specs.declared.place.UnitPlace.{UnitPlace}
 use Rattle.st_names.specs.Faults.{first_misnamed}
 use Rattle.st_typing.specs.Blocks.{blocks_of, block_places}

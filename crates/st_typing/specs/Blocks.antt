@@ -1,6 +1,6 @@
 -- The function blocks of all sources, and where each is declared.
 use Rattle.std.specs.Prelude.{ℕ, suc, if◌then◌else◌, List, [], ◌∷◌, ◌++◌, flat_map, Some}
-use Rattle.block_order.specs.Blocks.{PlainBlock}
+use Rattle.st_blocks.specs.Blocks.{PlainBlock}
 use Rattle.st_parser.specs.declared.unit.Sort.{Sort}
 use Rattle.st_parser.specs.declared.unit.Sort.TheVariants as sort
 use Rattle.st_parser.specs.Units.{PlainDeclaration, PlainSection, PlainPou, PlainUnit}

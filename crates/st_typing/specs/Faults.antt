@@ -6,9 +6,9 @@ use Rattle.plant_types.specs.Values.{row_length}
 use Rattle.st_parser.specs.declared.unit.Sort.{Sort}
 use Rattle.st_parser.specs.declared.unit.Sort.TheVariants as sort
 use Rattle.st_parser.specs.Units.{PlainSection, PlainPou, PlainUnit}
-use Rattle.block_order.specs.Blocks.{PlainBlock, NoneHoldsItself, NoneTooDeep, TooDeep, AreOrdered}
-use Rattle.block_order.specs.Faults.{IsNestingFault}
-use Rattle.block_order.specs.declared.faults.NestingFault.TheVariants as order_fault
+use Rattle.st_blocks.specs.Blocks.{PlainBlock, NoneHoldsItself, NoneTooDeep, TooDeep, AreOrdered}
+use Rattle.st_blocks.specs.Faults.{IsNestingFault}
+use Rattle.st_blocks.specs.declared.faults.NestingFault.TheVariants as order_fault
 use Rattle.st_names.specs.declared.place.UnitPlace.{UnitPlace}
 use Rattle.st_names.specs.DeclaredNames.{PlainDeclared, declared_in}
 use Rattle.st_names.specs.Shared.{is_block}

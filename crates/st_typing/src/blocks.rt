@@ -4,7 +4,7 @@ ghost use Rattle.std.specs.Prelude.{◌≡◌, ◌++◌, IfOk, map, flat_map};
 ghost use Rattle.st_parser.specs.Units.{view_section, view_pou, view_unit};
 ghost use Rattle.st_typing.specs.Blocks.{section_types, block_of, blocks_among, blocks_of, places_among, block_places};
 
-use block_order::Block;
+use st_blocks::Block;
 use st_names::UnitPlace;
 use st_parser::{Pou, PouKind, Section, Sort, Unit};
 use std::alloc::{AllocError, Global};

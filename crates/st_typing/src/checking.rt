@@ -10,7 +10,7 @@ use crate::fault::{Mistyped, TypeFault};
 use crate::kinds::{globals_misfit, pou_misfit};
 use crate::limits::{some_long, some_wide, too_many};
 use crate::typed::Typed;
-use block_order::{NestingFault, order_blocks};
+use st_blocks::{NestingFault, order_blocks};
 use st_names::{BodyScope, Judge, SharedNames, first_misnamed, first_unit};
 use st_parser::{Pou, Section, Unit};
 use std::alloc::{AllocError, Global};

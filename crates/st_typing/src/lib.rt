@@ -2,6 +2,8 @@
 //!
 //! Each rule is defined over the names in the text. `check` reports the first rule, in their order, that is broken, at the first unit, in
 //! order of text, that breaks it.
+//!
+//! Layer st_: it must not know cells, code, alarms or files.
 #![tactic(auto)]
 
 mod blocks;

@@ -1,7 +1,7 @@
 //! Sources that are well formed.
 
 ghost use Rattle.std.specs.Prelude.{◌≡◌, map};
-ghost use Rattle.block_order.specs.Blocks.{AreOrdered};
+ghost use Rattle.st_blocks.specs.Blocks.{AreOrdered};
 ghost use Rattle.st_parser.specs.Units.{view_unit};
 ghost use Rattle.st_typing.specs.Blocks.{blocks_of};
 ghost use Rattle.st_typing.specs.Faults.{AreTyped, IsTyped};

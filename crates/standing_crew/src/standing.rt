@@ -20,7 +20,7 @@ use std::mem::replace;
 use std::sync::{Arc, Wait};
 use std::thread;
 use std::thread::{JoinHandle, Threads};
-use trace::Remembered;
+use base_trace::Remembered;
 
 /// So many answers may wait for the caller: as many as a plant has programs at most.
 const MOST_ANSWERS: usize = 512;

@@ -6,20 +6,20 @@ use Rattle.std.proofs.lemmas.List.Elements.{All-nil, All-head, All-tail, All-con
 use mathlib.Core.List.{IsPrefix}
 use Rattle.console_link.specs.declared.console.Finished.{Finished}
 use Rattle.console_link.specs.declared.lane.Lane.{Lane}
-use Rattle.event_history.specs.declared.event.Event.{Event}
-use Rattle.operator_orders.specs.declared.order.Order.{Order}
+use Rattle.engine_history.specs.declared.event.Event.{Event}
+use Rattle.alarm_orders.specs.declared.order.Order.{Order}
 use Rattle.plant_config.specs.Plants.{PlainPlant}
-use Rattle.plant_system.specs.declared.event.Reply.{Reply}
-use Rattle.boards.specs.declared.entry.Entry.{Entry}
-use Rattle.boards.specs.declared.writer.BoardWriter.{BoardWriter}
-use Rattle.boards.specs.Stories.{Begins}
-use Rattle.boards.specs.Readers.{published, laid}
-use Rattle.boards.proofs.Prefixes.{prefix_of_both}
-use Rattle.board_entries.specs.Entries.{entries_of, history_story}
-use Rattle.board_entries.specs.Showing.{HasHistory}
-use Rattle.board_entries.proofs.Steps.{length_of, no_entries}
-use Rattle.operator_console.specs.declared.console.Finished.{Finished as Ended}
-use Rattle.operator_console.specs.Sights.{BoardStory}
+use Rattle.engine_system.specs.declared.event.Reply.{Reply}
+use Rattle.console_boards.specs.declared.entry.Entry.{Entry}
+use Rattle.console_boards.specs.declared.writer.BoardWriter.{BoardWriter}
+use Rattle.console_boards.specs.Stories.{Begins}
+use Rattle.console_boards.specs.Readers.{published, laid}
+use Rattle.console_boards.proofs.Prefixes.{prefix_of_both}
+use Rattle.console_entries.specs.Entries.{entries_of, history_story}
+use Rattle.console_entries.specs.Showing.{HasHistory}
+use Rattle.console_entries.proofs.Steps.{length_of, no_entries}
+use Rattle.console_operator.specs.declared.console.Finished.{Finished as Ended}
+use Rattle.console_operator.specs.Sights.{BoardStory}
 use Rattle.station.specs.Lanes.{IsEndIn, IsLinkEndIn, links_in, finished_of, ended_of, has_seen_within}
 use Rattle.station.specs.Stations.{AreBeginnings}
 

@@ -9,14 +9,14 @@ use Rattle.logbook.specs.Pages.{Book}
 use Rattle.console_link.specs.declared.console.Console.{Console}
 use Rattle.console_link.specs.declared.lane.Lane.{Lane}
 use Rattle.console_link.specs.Seats.{IsConsoleOf}
-use Rattle.operator_orders.specs.declared.order.Order.{Order}
-use Rattle.operator_console.specs.Sights.{BoardStory}
+use Rattle.alarm_orders.specs.declared.order.Order.{Order}
+use Rattle.console_operator.specs.Sights.{BoardStory}
 use Rattle.plant_file.specs.declared.console.Console.{Console as Listed}
-use Rattle.operator_console.specs.declared.console.Console.{Console as Operator}
+use Rattle.console_operator.specs.declared.console.Console.{Console as Operator}
 use Rattle.plant_file.specs.Lists.{repeats}
 use Rattle.plant_config.specs.Plants.{PlainPlant, IsPlant}
-use Rattle.plant_system.specs.declared.event.Reply.{Reply}
-use Rattle.order_taking.specs.Parts.{answers_of}
+use Rattle.engine_system.specs.declared.event.Reply.{Reply}
+use Rattle.console_orders.specs.Parts.{answers_of}
 use Rattle.station.specs.Lanes.{numbers_in, HasNoTwin, ArePairs, AreOpened, IsConsoleIn, IsFresh, IsUnused, links_of, numbers_of, HasNotLooked, IsOfLog, AreConsolesOf}
 use Rattle.station.specs.Stations.{AgreesWith}
 

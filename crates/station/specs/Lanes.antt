@@ -4,20 +4,20 @@ use Rattle.console_link.specs.declared.console.Console.{Console}
 use Rattle.console_link.specs.declared.console.Finished.{Finished}
 use Rattle.console_link.specs.declared.lane.Lane.{Lane}
 use Rattle.console_link.specs.Seats.{orders_taken, answers_given, submitted, taken as answers_taken, known_room, IsConsoleOf, IsEndOf, IsOpen, left_of, seen_by}
-use Rattle.operator_orders.specs.declared.order.Order.{Order}
+use Rattle.alarm_orders.specs.declared.order.Order.{Order}
 use Rattle.plant_config.specs.Plants.{PlainPlant, IsPlant}
-use Rattle.plant_system.specs.System.{opening_system}
-use Rattle.board_entries.specs.Entries.{picture_of}
-use Rattle.boards.specs.Stories.{is_lawful}
-use Rattle.boards.specs.Replies.{after, allows}
+use Rattle.engine_system.specs.System.{opening_system}
+use Rattle.console_entries.specs.Entries.{picture_of}
+use Rattle.console_boards.specs.Stories.{is_lawful}
+use Rattle.console_boards.specs.Replies.{after, allows}
 use Rattle.logbook.specs.Pages.{Book}
-use Rattle.operator_console.specs.declared.console.Console.{Console as Operator}
-use Rattle.operator_console.specs.declared.console.Finished.{Finished as Ended}
-use Rattle.operator_console.specs.Sights.{BoardStory}
-use Rattle.operator_console.specs.Consoles.{story_seen, story_told}
+use Rattle.console_operator.specs.declared.console.Console.{Console as Operator}
+use Rattle.console_operator.specs.declared.console.Finished.{Finished as Ended}
+use Rattle.console_operator.specs.Sights.{BoardStory}
+use Rattle.console_operator.specs.Consoles.{story_seen, story_told}
 use Rattle.plant_file.specs.Lists.{repeats}
 use Rattle.plant_file.specs.declared.console.Console.{Console as Listed}
-use Rattle.plant_system.specs.declared.event.Reply.{Reply}
+use Rattle.engine_system.specs.declared.event.Reply.{Reply}
 
 -- the numbers of consoles, as a plant lists them
 abbrev pub numbers_of : List Listed → List ℕ

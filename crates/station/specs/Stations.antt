@@ -9,28 +9,28 @@ use Rattle.console_link.specs.declared.console.Finished.{Finished}
 use Rattle.console_link.specs.declared.lane.Lane.{Lane}
 use Rattle.console_link.specs.contracts.lane.Lane as lane_row
 use Rattle.console_link.specs.Seats.{orders_taken, answers_given, IsOpen, all_submitted, all_taken}
-use Rattle.event_history.specs.declared.event.Event.{Event}
-use Rattle.operator_orders.specs.declared.order.Order.{Order}
-use Rattle.operator_orders.specs.contracts.order.Order as order_row
+use Rattle.engine_history.specs.declared.event.Event.{Event}
+use Rattle.alarm_orders.specs.declared.order.Order.{Order}
+use Rattle.alarm_orders.specs.contracts.order.Order as order_row
 use Rattle.plant_config.specs.Plants.{PlainPlant}
-use Rattle.plant_system.specs.declared.event.Reply.{Reply}
-use Rattle.plant_system.specs.contracts.event.Reply as reply_row
-use Rattle.plant_system.specs.System.{scan_event}
-use Rattle.plant_system.specs.Reports.{PlainReport}
-use Rattle.plant_system.specs.States.{IsReport}
+use Rattle.engine_system.specs.declared.event.Reply.{Reply}
+use Rattle.engine_system.specs.contracts.event.Reply as reply_row
+use Rattle.engine_system.specs.System.{scan_event}
+use Rattle.engine_system.specs.Reports.{PlainReport}
+use Rattle.engine_system.specs.States.{IsReport}
 use Rattle.engine.specs.declared.reload.Reloaded.{Reloaded}
 use Rattle.engine.specs.Engines.{PlainEngine, engine_code, state_of}
-use Rattle.archive.specs.Records.{TakesReload}
-use Rattle.boards.specs.declared.entry.Answer.{Answer as Shown}
-use Rattle.boards.specs.declared.entry.Entry.{Entry}
-use Rattle.boards.specs.Counts.{answers_of as answers_shown}
-use Rattle.board_entries.specs.Entries.{board_reply, entries_of, history_story}
-use Rattle.order_taking.specs.Parts.{answers_of, orders_in}
-use Rattle.order_taking.specs.Turns.{TookParts}
-use Rattle.operator_console.specs.declared.console.Console.{Console as Operator}
-use Rattle.operator_console.specs.declared.console.Finished.{Finished as Ended}
-use Rattle.operator_console.specs.Consoles.{story_seen, story_told, EndsAs}
-use Rattle.operator_console.specs.Sights.{BoardStory, HasOrders}
+use Rattle.console_archive.specs.Records.{TakesReload}
+use Rattle.console_boards.specs.declared.entry.Answer.{Answer as Shown}
+use Rattle.console_boards.specs.declared.entry.Entry.{Entry}
+use Rattle.console_boards.specs.Counts.{answers_of as answers_shown}
+use Rattle.console_entries.specs.Entries.{board_reply, entries_of, history_story}
+use Rattle.console_orders.specs.Parts.{answers_of, orders_in}
+use Rattle.console_orders.specs.Turns.{TookParts}
+use Rattle.console_operator.specs.declared.console.Console.{Console as Operator}
+use Rattle.console_operator.specs.declared.console.Finished.{Finished as Ended}
+use Rattle.console_operator.specs.Consoles.{story_seen, story_told, EndsAs}
+use Rattle.console_operator.specs.Sights.{BoardStory, HasOrders}
 use Rattle.station.specs.Lanes.{numbers_of, numbers_in, links_in, left_in, finished_of, ended_of, is_within, has_seen_within, HasNoTwin, HasSeen, IsOfLog}
 
 -- its engine, its share of the parts of its ledger, its crew, the owner's ends of its consoles' rings, how many events of the history its board shows, the first ones, and how often it refused an order or to show an event

@@ -5,10 +5,10 @@ ghost use mathlib.Core.List.{IsPrefix};
 ghost use Rattle.station.specs.Lanes.{left_in, is_within, numbers_in, links_in, HasNoTwin, IsOfLog, IsEndIn, IsLinkEndIn};
 ghost use Rattle.station.specs.Closings.{EndedOne, AreEnded};
 
-use boards::Entry;
+use console_boards::Entry;
 use console_link::{Finished, Lane};
 use engine::{Engine, Order, Reply};
-use marked_log::Mark;
+use console_log::Mark;
 use std::marker::Model;
 
 /// A station that was closed: its engine, its crew, and the orders that were left of the consoles that had ended.
@@ -57,7 +57,7 @@ fn end_lane(lanes: &mut [Lane<Order, Reply>], console: Finished<Order, Reply>)
 pub(crate) fn end_lanes(
     lanes: &mut [Lane<Order, Reply>],
     mark: &mut Mark<Entry>,
-    mut finished: Vec<operator_console::Finished<Order, Reply>>,
+    mut finished: Vec<console_operator::Finished<Order, Reply>>,
 )
     requires once { HasNoTwin (numbers_in lanes.old) }
     requires ends { All (IsEndIn lanes.old) finished.items }

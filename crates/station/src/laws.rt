@@ -5,11 +5,11 @@ ghost use Rattle.console_link.specs.declared.console.Console.{Console};
 ghost use Rattle.console_link.specs.declared.console.Finished.{Finished};
 ghost use Rattle.console_link.specs.declared.lane.Lane.{Lane};
 ghost use Rattle.console_link.specs.Seats.{SameConsole, Ends};
-ghost use Rattle.operator_orders.specs.declared.order.Order.{Order};
-ghost use Rattle.plant_system.specs.declared.event.Reply.{Reply};
-ghost use Rattle.operator_console.specs.declared.console.Console.{Console as Operator};
-ghost use Rattle.operator_console.specs.declared.console.Finished.{Finished as Ended};
-ghost use Rattle.operator_console.specs.Consoles.{EndsAs};
+ghost use Rattle.alarm_orders.specs.declared.order.Order.{Order};
+ghost use Rattle.engine_system.specs.declared.event.Reply.{Reply};
+ghost use Rattle.console_operator.specs.declared.console.Console.{Console as Operator};
+ghost use Rattle.console_operator.specs.declared.console.Finished.{Finished as Ended};
+ghost use Rattle.console_operator.specs.Consoles.{EndsAs};
 ghost use Rattle.station.specs.Lanes.{IsConsoleIn, IsEndIn, IsLinkEndIn};
 ghost use Rattle.station.specs.Stations.{AnswersAreShown, EndsTellWhatWasSeen};
 

@@ -6,7 +6,9 @@
 //!
 //! Contracts see a station as its engine, its crew, its share of the ledger that counts the events of the engine and of the archive, and its lanes, the
 //! owner's ends of the consoles' rings. Each lane has taken just the orders that the history has of its console, and has given their replies; `close`
-//! says so of what each console submitted and took. Events go through one place, the recorder of archive.
+//! says so of what each console submitted and took. Events go through one place, the recorder of console_archive.
+//!
+//! Layer console_: it must not know the bytes of commands.
 #![tactic(auto)]
 
 mod closing;
@@ -15,16 +17,16 @@ mod opening;
 mod recording;
 mod station;
 
-pub use archive::{Archive, Book};
+pub use console_archive::{Archive, Book};
 pub use closing::Closing;
 pub use console_link::Answer;
 pub use laws::{consoles_saw, consoles_stay};
 pub use opening::StationFault;
-pub use operator_console::BoardView;
+pub use console_operator::BoardView;
 pub use station::{Station, Turn};
 
 /// An operator's console, which may go to a thread of its own.
-pub type Console = operator_console::Console<engine::Order, engine::Reply>;
+pub type Console = console_operator::Console<engine::Order, engine::Reply>;
 
 /// A console that has ended.
-pub type Finished = operator_console::Finished<engine::Order, engine::Reply>;
+pub type Finished = console_operator::Finished<engine::Order, engine::Reply>;

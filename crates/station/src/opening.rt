@@ -1,13 +1,13 @@
 //! How a plant's consoles are made.
 
 ghost use Rattle.std.specs.Prelude.{◌≡◌, IfOk, All};
-ghost use Rattle.boards.specs.Readers.{published, laid, log_kept};
+ghost use Rattle.console_boards.specs.Readers.{published, laid, log_kept};
 ghost use Rattle.station.specs.Lanes.{numbers_of, links_of, AreOpened, HasNotLooked, IsOfLog};
 
-use boards::BoardWriter;
+use console_boards::BoardWriter;
 use console_link::{Lane, open};
 use engine::{Order, Reply};
-use operator_console::Console;
+use console_operator::Console;
 use std::alloc::{AllocError, AllocFailed, Global};
 
 /// Why there is no station.

@@ -1,11 +1,11 @@
 //! The consoles of a recorder's plant.
 
 ghost use Rattle.std.specs.Prelude.{◌≡◌, [], IfOk};
-ghost use Rattle.boards.specs.Readers.{published, log_kept};
+ghost use Rattle.console_boards.specs.Readers.{published, log_kept};
 ghost use Rattle.station.specs.Lanes.{AreConsolesOf};
 
 use crate::opening::{Consoles, Lanes, StationFault, open_lanes};
-use archive::Recorder;
+use console_archive::Recorder;
 use std::alloc::Global;
 use std::sync::ledger::Ledger;
 

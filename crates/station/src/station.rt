@@ -1,23 +1,23 @@
 //! The station: its public calls.
 
 ghost use Rattle.std.specs.Prelude.{◌≡◌, ◌≢◌, ◌<◌, ◌↔◌, IsTrue, [], length, map, All, IfOk, IfErr, OnErr};
-ghost use Rattle.plant_system.specs.Faults.{faults_by};
-ghost use Rattle.archive.specs.Records.{IsReloadDue, IsScanDue};
+ghost use Rattle.engine_system.specs.Faults.{faults_by};
+ghost use Rattle.console_archive.specs.Records.{IsReloadDue, IsScanDue};
 ghost use Rattle.station.specs.Lanes.{numbers_of, numbers_in, links_of, IsConsoleIn, IsEndIn, IsFresh, HasNotLooked, KeepsConsoles};
 ghost use Rattle.station.specs.Stations.{IsReload, IsTurn, IsWhole, SameButRoom, AreBeginnings, AreClosed, TellWithin, SawBeginnings};
-ghost use Rattle.board_entries.specs.Entries.{entries_of, history_story};
+ghost use Rattle.console_entries.specs.Entries.{entries_of, history_story};
 
 use crate::closing::{Closing, end_lanes};
 use crate::opening::StationFault;
 use crate::recording::open_consoles;
-use archive::{Archive, Recorder};
+use console_archive::{Archive, Recorder};
 use console_link::Lane;
 use engine::{
     Crew, Done, Engine, EngineFault, Job, Order, Pair, Plant, ReloadRefused, Reloaded, Reply,
     Report, Start,
 };
-use operator_console::{Console, Finished};
-use order_taking::take_parts;
+use console_operator::{Console, Finished};
+use console_orders::take_parts;
 use std::alloc::Global;
 use std::marker::Model;
 use std::sync::ledger::{Blank, Ledger};
@@ -58,7 +58,7 @@ pub struct Station<L: Ledger, C> {
 
 impl<L: Ledger, C> Model for Station<L, C> {
     ghost use Rattle.std.specs.Prelude.{length};
-    ghost use Rattle.boards.specs.Readers.{log_kept, published};
+    ghost use Rattle.console_boards.specs.Readers.{log_kept, published};
     ghost use Rattle.station.specs.Stations.{PlainStation, IsStation, station_code};
 
     ghost Value = { PlainStation C };

@@ -2,6 +2,8 @@
 //!
 //! What a block gives is defined on the list of all its calls. The types here keep of that list only what later calls need: a
 //! moment, a flag. Moments and times are in milliseconds. Nothing here allocates memory or can fail.
+//!
+//! Layer st_: it must not know cells, code, alarms or files.
 #![tactic(auto)]
 
 mod preset;

@@ -1,5 +1,5 @@
 use Rattle.std.proofs.Common.{◌*◌, length, arith}
-use Rattle.plant_cells.specs.Cells.{value_at}
+use Rattle.logic_cells.specs.Cells.{value_at}
 use Rattle.alarm_watch.proofs.Marked.{all_marked}
 use Rattle.alarm_watch.proofs.chains.mark_changed.Goals as goal
 

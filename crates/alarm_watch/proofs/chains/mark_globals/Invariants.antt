@@ -1,5 +1,5 @@
 use Rattle.std.proofs.Common.{length}
-use Rattle.plant_cells.specs.Cells.{value_at}
+use Rattle.logic_cells.specs.Cells.{value_at}
 use Rattle.alarm_watch.proofs.Marked.{MarkedFrom}
 use Rattle.alarm_watch.proofs.chains.mark_globals.Given as goal
 

@@ -12,15 +12,15 @@ use Rattle.st_tree.specs.Controls.{control_values}
 use Rattle.st_tree.specs.View.{view_expr, view_argument, view_stmt, view_body, view_branch, view_branches, view_choice, view_choices}
 use Rattle.st_tree.proofs.Depth.{size-If, size-Case, size-For}
 use Rattle.st_tree.proofs.Views.{view_stmt-Store, view_stmt-Call, view_stmt-If, view_stmt-Case, view_stmt-For, view_branch_is, view_choice_is}
-use Rattle.plant_cells.specs.Runs.{Path}
-use Rattle.block_walk.specs.declared.frame.Base.{Base}
-use Rattle.block_walk.specs.Frames.{InTurn, frame_paths, routine_paths}
-use Rattle.block_walk.proofs.Firsts.{paths_is}
-use Rattle.block_walk.proofs.Ranks.{frame_at, frame_less}
-use Rattle.block_walk.specs.Walks.{slot_of}
+use Rattle.logic_cells.specs.Runs.{Path}
+use Rattle.logic_walk.specs.declared.frame.Base.{Base}
+use Rattle.logic_walk.specs.Frames.{InTurn, frame_paths, routine_paths}
+use Rattle.logic_walk.proofs.Firsts.{paths_is}
+use Rattle.logic_walk.proofs.Ranks.{frame_at, frame_less}
+use Rattle.logic_walk.specs.Walks.{slot_of}
 use Rattle.acc_vm.specs.declared.instr.Instr.TheVariants as instr
-use Rattle.code_sizes.specs.Sizes.{expr_lines, for_lines, turns_of, body_lines}
-use Rattle.code_sizes.specs.Counts.{lines_at}
+use Rattle.vm_sizes.specs.Sizes.{expr_lines, for_lines, turns_of, body_lines}
+use Rattle.vm_sizes.specs.Counts.{lines_at}
 use Rattle.codegen.specs.Codes as codes
 use Rattle.codegen.specs.Codes.{Line, place_of, IsSteady, SteadyBody, SteadyBranches, SteadyChoices}
 use Rattle.codegen.specs.Emission as code
@@ -29,7 +29,7 @@ use Rattle.codegen.specs.Within.{there, frame_there, fits}
 use Rattle.codegen.proofs.Within.{reached_is}
 use Rattle.codegen.proofs.Emitting.{nothing, one_after, four_after, stmts_at, no_stmts, front_lines, seat_at, no_seat, laid_before, frame_coded, branches_at, choices_at, no_branches, no_choices, branch_on, choice_on, choice_passed, entered_none, entered_past, entered_frame, entered_standard, case_done, loop_done, view_assigned}
 use Rattle.codegen.proofs.Numbered.{numbers_below}
-use Rattle.code_sizes.proofs.Few.{body_at, turning, behind_branches, behind_choices, long_call, long_if, long_case, long_for}
+use Rattle.vm_sizes.proofs.Few.{body_at, turning, behind_branches, behind_choices, long_call, long_if, long_case, long_for}
 use Rattle.codegen.proofs.Long.{frame_long, entered_long, branch_fits, choice_fits}
 use Rattle.codegen.proofs.Steady.{steady_at, steady_branch, steady_choice, steady_if, steady_case, steady_for, turns_few}
 use Rattle.codegen.proofs.Naming.{known_at, known_branch, known_choice, known_assign, known_store, known_call, known_if, known_case, known_for, known_standard, known_frame}

@@ -1,6 +1,6 @@
 use Rattle.std.proofs.Common.{◌≡◌, ◌+◌, ◌*◌, ◌++◌, ℕ, List, drop}
 use Rattle.st_tree.specs.View.{view_body, view_branches, view_choices}
-use Rattle.block_walk.proofs.Ranks.{total}
+use Rattle.logic_walk.proofs.Ranks.{total}
 use Rattle.codegen.specs.Codes.{Line}
 use Rattle.codegen.specs.Emission.{body_code, body_long, branches_code, choices_code, branches_long, choices_long}
 use Rattle.codegen.proofs.emission.+code.Given as goal

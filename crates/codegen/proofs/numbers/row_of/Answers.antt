@@ -1,4 +1,4 @@
-use Rattle.block_walk.specs.Walks.{slot_of}
+use Rattle.logic_walk.specs.Walks.{slot_of}
 use Rattle.codegen.specs.Within.{fits}
 use Rattle.codegen.proofs.Rows.{row_first}
 use Rattle.codegen.proofs.numbers.row_of.Goals as goal

@@ -1,4 +1,4 @@
-use Rattle.plant_system.specs.System.{system}
+use Rattle.engine_system.specs.System.{system}
 use Rattle.engine.proofs.InRange.{lawful_in_range}
 use Rattle.engine.proofs.Shown.{outputs_valued}
 use Rattle.engine.proofs.laws.outputs_are_worth_their_numbers.Goals as goal

@@ -1,4 +1,4 @@
-use Rattle.plant_system.proofs.Systems as systems
+use Rattle.engine_system.proofs.Systems as systems
 use Rattle.engine.proofs.laws.system_keeps_its_plant.Goals as goal
 
 pub returns : goal.returns

@@ -1,5 +1,5 @@
 use Rattle.std.proofs.Common.{◌≤◌, sym, subst, List, length}
-use Rattle.plant_walk.proofs.Small.{few_globals}
+use Rattle.vm_logic.proofs.Small.{few_globals}
 use Rattle.plant_config.proofs.Made.{areas_kept}
 use Rattle.plant_config.proofs.running.known_alarms.Goals as goal
 

@@ -1,6 +1,6 @@
 use Rattle.std.proofs.Common.{◌≡◌, ℕ, List, length, ap, sym, subst, arith}
-use Rattle.plant_cells.specs.declared.clock.Clock.{Clock}
-use Rattle.code_slices.specs.Puts.{AreApartIn, Puts}
+use Rattle.logic_cells.specs.declared.clock.Clock.{Clock}
+use Rattle.vm_slices.specs.Puts.{AreApartIn, Puts}
 use Rattle.slice_store.proofs.done.put_part.Goals as goal
 
 pub put_clocks-requires : goal.put_clocks-requires

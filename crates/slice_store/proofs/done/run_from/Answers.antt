@@ -1,8 +1,8 @@
 use Rattle.std.proofs.Common.{◌≡◌, ◌<◌, length, ap, sym, ◌∙◌, subst, arith}
 use Rattle.std.specs.Prelude.{IfErr}
-use Rattle.plant_cells.specs.Cells.{PlainCells}
+use Rattle.logic_cells.specs.Cells.{PlainCells}
 use Rattle.acc_vm.specs.Codes.{PlainCode, run_of}
-use Rattle.code_slices.specs.Parts.{PlainPart}
+use Rattle.vm_slices.specs.Parts.{PlainPart}
 use Rattle.slice_store.proofs.done.run_from.Goals as goal
 
 pub run_in-result-requires-clause-values : goal.run_in-result-requires-clause-values

@@ -1,7 +1,7 @@
 use Rattle.std.proofs.Common.{length, arith, sym, subst, take, ◌++◌, ◌∷◌, []}
 use Rattle.std.proofs.lemmas.List.{take_more}
 use Rattle.std.proofs.lemmas.Grind.{common_steps}
-use Rattle.plant_cells.specs.Cells.{PlainCells}
+use Rattle.logic_cells.specs.Cells.{PlainCells}
 use Rattle.slice_store.specs.Starts.{Begun}
 use Rattle.slice_store.specs.Level.{TakesRuns}
 use Rattle.slice_store.proofs.Taking.{takes_none, takes_more, apart_before, has_still}

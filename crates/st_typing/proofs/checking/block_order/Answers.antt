@@ -1,8 +1,8 @@
 use Rattle.std.proofs.Common.{◌≡◌, ◌∙◌, subst, sym, ap, length, map, Some, slice_get, arith}
 use Rattle.std.proofs.lemmas.Option.{slice_get_within, slice_get_read}
-use Rattle.block_order.specs.Blocks.{AreOrdered}
-use Rattle.block_order.specs.Faults.{IsNestingFault}
-use Rattle.block_order.specs.declared.faults.NestingFault.TheVariants as order_fault
+use Rattle.st_blocks.specs.Blocks.{AreOrdered}
+use Rattle.st_blocks.specs.Faults.{IsNestingFault}
+use Rattle.st_blocks.specs.declared.faults.NestingFault.TheVariants as order_fault
 use Rattle.st_parser.specs.Units.{view_unit}
 use Rattle.st_typing.specs.Blocks.{blocks_of, block_places}
 use Rattle.st_typing.proofs.Places.{as_many_places}

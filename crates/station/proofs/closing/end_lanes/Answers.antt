@@ -1,9 +1,9 @@
 use Rattle.std.proofs.Common.{◌≡◌, ◌∷◌, [], ◌++◌, ◌∙◌, List, All, ap, sym, subst, append-nil, append_assoc, refl, rules}
 use Rattle.std.proofs.lemmas.List.Elements.{All-nil}
 use mathlib.Core.List.{IsPrefix}
-use Rattle.operator_console.specs.declared.console.Finished.{Finished as Ended}
-use Rattle.operator_orders.specs.declared.order.Order.{Order}
-use Rattle.plant_system.specs.declared.event.Reply.{Reply}
+use Rattle.console_operator.specs.declared.console.Finished.{Finished as Ended}
+use Rattle.alarm_orders.specs.declared.order.Order.{Order}
+use Rattle.engine_system.specs.declared.event.Reply.{Reply}
 use Rattle.station.specs.Lanes.{links_in, IsEndIn}
 use Rattle.station.proofs.Ends.{ended_none, ended_keep, ended_more, last_of, log_in}
 use Rattle.station.proofs.Beginnings.{prefix_on, begin_more}

@@ -2,8 +2,8 @@ use Rattle.std.proofs.Common.{◌≡◌, ◌+◌, ◌∷◌, [], ◌++◌, take,
 use Rattle.std.proofs.lemmas.List.{map_more}
 use Rattle.std.proofs.lemmas.List.Elements.{All-push}
 use Rattle.plant_file.specs.declared.console.Console.{Console as Listed}
-use Rattle.operator_console.specs.Sights.{BoardStory}
-use Rattle.boards.specs.Readers.{published, log_kept}
+use Rattle.console_operator.specs.Sights.{BoardStory}
+use Rattle.console_boards.specs.Readers.{published, log_kept}
 use Rattle.station.specs.Lanes.{numbers_of, IsFresh, IsUnused, HasNotLooked, IsOfLog}
 use Rattle.station.proofs.Openings.{operators_more}
 use Rattle.station.proofs.opening.open_lanes.Goals as goal

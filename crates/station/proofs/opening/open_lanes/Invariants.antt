@@ -1,5 +1,5 @@
 use Rattle.std.proofs.Common.{◌≡◌, take, All}
-use Rattle.boards.specs.Readers.{published, laid, log_kept}
+use Rattle.console_boards.specs.Readers.{published, laid, log_kept}
 use Rattle.station.specs.Lanes.{numbers_of, links_of, AreOpened, HasNotLooked, IsOfLog}
 use Rattle.station.proofs.opening.open_lanes.Given as goal
 

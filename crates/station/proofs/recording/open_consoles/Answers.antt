@@ -1,9 +1,9 @@
 use Rattle.std.proofs.Common.{◌≡◌, List, ap, ◌∙◌, subst}
-use Rattle.event_history.specs.declared.event.Event.{Event}
+use Rattle.engine_history.specs.declared.event.Event.{Event}
 use Rattle.plant_config.specs.Plants.{PlainPlant, IsPlant}
-use Rattle.plant_system.specs.System.{System, system}
-use Rattle.plant_system.proofs.Systems.{system_none}
-use Rattle.boards.specs.Readers.{published, log_kept}
+use Rattle.engine_system.specs.System.{System, system}
+use Rattle.engine_system.proofs.Systems.{system_none}
+use Rattle.console_boards.specs.Readers.{published, log_kept}
 use Rattle.station.proofs.Openings.{consoles_opened}
 use Rattle.station.proofs.recording.open_consoles.Goals as goal
 

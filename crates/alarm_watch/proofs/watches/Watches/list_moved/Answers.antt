@@ -1,6 +1,6 @@
 use Rattle.std.proofs.Common.{◌≡◌, ◌∙◌, inl, inr}
 use Rattle.std.proofs.lemmas.Bool.{cases_Bool}
-use Rattle.plant_cells.specs.Cells.{value_at}
+use Rattle.logic_cells.specs.Cells.{value_at}
 use Rattle.alarm_watch.specs.Watched.{watched_conditions, watched_suppressions}
 use Rattle.alarm_watch.proofs.WatchLaws.{none_unmarked, raw_stays, stays_raw}
 use Rattle.alarm_watch.proofs.watches.Watches.list_moved.Goals as goal

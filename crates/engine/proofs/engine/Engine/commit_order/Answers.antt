@@ -1,11 +1,11 @@
 use Rattle.std.proofs.Common.{◌≡◌, ◌+◌, ℕ, ap, subst, length, arith}
 use Rattle.std.proofs.lemmas.Grind.{common_steps}
 use Rattle.journal_core.specs.Rows.{PlainLog}
-use Rattle.event_history.specs.declared.event.Event.TheVariants as event
-use Rattle.plant_system.specs.System.{system}
+use Rattle.engine_history.specs.declared.event.Event.TheVariants as event
+use Rattle.engine_system.specs.System.{system}
 use Rattle.engine.specs.Journal.{added_entries}
 use Rattle.engine.specs.Engines.{PlainEngine, state_of}
-use Rattle.plant_system.specs.States.{PlainPreparedOrder}
+use Rattle.engine_system.specs.States.{PlainPreparedOrder}
 use Rattle.engine.proofs.Commits.{order_present, order_names, order_committed, order_until, order_room}
 use Rattle.engine.proofs.Fitting.{order_agrees}
 use Rattle.engine.proofs.Journals.{last_below}

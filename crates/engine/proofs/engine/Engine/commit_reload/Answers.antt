@@ -1,5 +1,5 @@
 use Rattle.std.proofs.Common.{◌≡◌, ◌∙◌, length, refl, arith}
-use Rattle.plant_system.specs.System.{system}
+use Rattle.engine_system.specs.System.{system}
 use Rattle.engine.specs.Engines.{PlainEngine}
 use Rattle.engine.proofs.Commits.{reload_committed, reload_names, reload_present, reload_state, reload_until}
 use Rattle.engine.proofs.Journals.{last_below}

@@ -1,5 +1,5 @@
 use Rattle.std.proofs.Common.{refl}
-use Rattle.plant_system.specs.States.{after_effect}
+use Rattle.engine_system.specs.States.{after_effect}
 use Rattle.engine.proofs.engine.Engine.leaves_a_state.Goals as goal
 
 pub returns : goal.returns

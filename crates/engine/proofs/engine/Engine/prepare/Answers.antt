@@ -1,9 +1,9 @@
 use Rattle.std.proofs.Common.{◌≡◌, ◌+◌, ◌≤◌, length, Result, IfErr, rules, subst, sym, ◌∙◌, arith}
-use Rattle.event_history.specs.declared.event.Event.{Event}
-use Rattle.plant_system.specs.declared.event.EngineFault.{EngineFault}
-use Rattle.plant_system.specs.Image.{IsDue}
+use Rattle.engine_history.specs.declared.event.Event.{Event}
+use Rattle.engine_system.specs.declared.event.EngineFault.{EngineFault}
+use Rattle.engine_system.specs.Image.{IsDue}
 use Rattle.engine.proofs.Ready.{ready}
-use Rattle.plant_system.proofs.Systems.{scan_event_is}
+use Rattle.engine_system.proofs.Systems.{scan_event_is}
 use Rattle.engine.proofs.Fitting.{scan_fits}
 use Rattle.engine.proofs.Lawful.{lawful_plant}
 use Rattle.engine.proofs.engine.Engine.prepare.Goals as goal

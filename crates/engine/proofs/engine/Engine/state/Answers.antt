@@ -2,7 +2,7 @@ use Rattle.std.proofs.Common.{ap, ◌∙◌, sym, arith}
 use Rattle.std.specs.Prelude.{slice_get}
 use Rattle.std.specs.Option.{option_map}
 use Rattle.alarm_machine.specs.Alarms.{PlainAlarm}
-use Rattle.plant_system.proofs.Systems.{kept_alarms}
+use Rattle.engine_system.proofs.Systems.{kept_alarms}
 use Rattle.engine.proofs.engine.Engine.state.Goals as goal
 
 pub alarm_state-requires : goal.alarm_state-requires

@@ -1,6 +1,6 @@
 use Rattle.std.proofs.Common.{◌≡◌, ◌-◌, set, length, ap, sym, ◌∙◌, subst, arith}
-use Rattle.plant_cells.specs.Cells.{PlainCells}
-use Rattle.code_slices.specs.Parts.{PlainPart, IsPart, HasPart}
+use Rattle.logic_cells.specs.Cells.{PlainCells}
+use Rattle.vm_slices.specs.Parts.{PlainPart, IsPart, HasPart}
 use Rattle.std.specs.Arc.{arc_value}
 use Rattle.std.proofs.lemmas.Grind.{common_steps}
 use Rattle.slice_store.specs.declared.done.Run.{Run}

@@ -1,7 +1,7 @@
 use Rattle.std.proofs.Common.{◌≡◌, ap, ◌∙◌, rules, arith}
 use Rattle.std.specs.Arc.{arc_value}
 use Rattle.std.proofs.lemmas.Grind.{common_steps}
-use Rattle.code_slices.specs.Parts.{loaded}
+use Rattle.vm_slices.specs.Parts.{loaded}
 use Rattle.slice_store.specs.Starts.{part_of}
 use Rattle.slice_store.proofs.Taking.{loaded_by, starts_by}
 use Rattle.slice_store.proofs.store.Store.begin_anew.Goals as goal

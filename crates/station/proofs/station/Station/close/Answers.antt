@@ -1,14 +1,14 @@
 use Rattle.std.proofs.Common.{◌≡◌, ℕ, true, List, length, All, Some, ap, sym, ◌∙◌, subst, arith}
 use Rattle.std.proofs.lemmas.List.{with_items_is}
 use Rattle.console_link.specs.declared.lane.Lane.{Lane}
-use Rattle.operator_orders.specs.declared.order.Order.{Order}
-use Rattle.plant_system.specs.declared.event.Reply.{Reply}
+use Rattle.alarm_orders.specs.declared.order.Order.{Order}
+use Rattle.engine_system.specs.declared.event.Reply.{Reply}
 use mathlib.Core.List.{IsPrefix}
 use Rattle.logbook.specs.Pages.{Book}
-use Rattle.boards.specs.declared.entry.Entry.{Entry}
-use Rattle.board_entries.specs.Entries.{entries_of}
-use Rattle.operator_console.specs.Sights.{BoardStory}
-use Rattle.operator_console.specs.declared.console.Finished.{Finished as Ended}
+use Rattle.console_boards.specs.declared.entry.Entry.{Entry}
+use Rattle.console_entries.specs.Entries.{entries_of}
+use Rattle.console_operator.specs.Sights.{BoardStory}
+use Rattle.console_operator.specs.declared.console.Finished.{Finished as Ended}
 use Rattle.station.specs.Lanes.{IsEndIn, IsOfLog, HasNoTwin, numbers_in, links_in, ended_of, is_within}
 use Rattle.station.specs.Stations.{AreBeginnings}
 use Rattle.station.specs.Closings.{AreEnded}

@@ -1,6 +1,6 @@
 use Rattle.std.proofs.Common.{List, ℕ, All, sym, subst}
-use Rattle.operator_console.specs.Sights.{BoardStory}
-use Rattle.boards.specs.Readers.{log_kept}
+use Rattle.console_operator.specs.Sights.{BoardStory}
+use Rattle.console_boards.specs.Readers.{log_kept}
 use Rattle.logbook.specs.Pages.{Book}
 use Rattle.engine.specs.Engines.{PlainEngine}
 use Rattle.station.specs.Lanes.{links_of, HasNoTwin, HasNotLooked}

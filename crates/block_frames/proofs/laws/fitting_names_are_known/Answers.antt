@@ -1,5 +1,0 @@
-use Rattle.block_frames.proofs.Fitting.{body_is}
-use Rattle.block_frames.proofs.laws.fitting_names_are_known.Goals as goal
-
-pub returns : goal.returns
-returns g c = body_is

@@ -1,5 +1,0 @@
-use Rattle.block_frames.proofs.Runs.{frames_agree}
-use Rattle.block_frames.proofs.laws.frames_agree.Goals as goal
-
-pub returns : goal.returns
-returns c = frames_agree

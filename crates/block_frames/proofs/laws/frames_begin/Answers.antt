@@ -1,5 +1,0 @@
-use Rattle.block_frames.proofs.Opening.{opening_stands}
-use Rattle.block_frames.proofs.laws.frames_begin.Goals as goal
-
-pub returns : goal.returns
-returns c = opening_stands

@@ -1,5 +1,0 @@
-use Rattle.block_frames.proofs.Typed.{instance_numbered}
-use Rattle.block_frames.proofs.laws.instances_have_numbers.Goals as goal
-
-pub returns : goal.returns
-returns c = instance_numbered

@@ -1,5 +1,0 @@
-use Rattle.block_frames.proofs.Known.{typed_known}
-use Rattle.block_frames.proofs.laws.typed_names_are_known.Goals as goal
-
-pub returns : goal.returns
-returns c = typed_known

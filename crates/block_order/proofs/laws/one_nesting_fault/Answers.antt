@@ -1,5 +1,0 @@
-use Rattle.block_order.proofs.Decided.{one_fault, apart}
-use Rattle.block_order.proofs.laws.one_nesting_fault.Goals as goal
-
-pub returns : goal.returns
-returns c = record { one = one_fault; apart = apart }

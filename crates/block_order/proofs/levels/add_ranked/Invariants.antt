@@ -1,6 +1,0 @@
-use Rattle.std.proofs.Common.{◌≡◌, ◌++◌, drop}
-use Rattle.block_order.specs.Ranks.{ranked}
-use Rattle.block_order.proofs.levels.add_ranked.Given as goal
-
-abbrev pub invariant-loop-a : goal.invariant-loop-a
-invariant-loop-a l = l.order.items ++ ranked l.a (drop l.a l.chains) (drop l.a l.more) ≡ l.initial.order.items ++ ranked 0 l.chains l.more

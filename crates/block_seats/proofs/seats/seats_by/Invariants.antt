@@ -1,6 +1,0 @@
-use Rattle.word_index.specs.Names.{is_among}
-use Rattle.block_seats.proofs.Seated.{Seated}
-use Rattle.block_seats.proofs.seats.seats_by.Given as goal
-
-abbrev pub invariant-loop-instance : goal.invariant-loop-instance
-invariant-loop-instance l = Seated l.table (is_among l.called) l.fn.first l.list l.seats.items l.at l.instance-index

@@ -1,9 +1,0 @@
-use Rattle.std.proofs.Common.{arith}
-use Rattle.std.proofs.lemmas.Grind.{common_steps}
-use Rattle.block_walk.proofs.reading.give_outputs.Goals as goal
-
-pub loop-argument-preserved : goal.loop-argument-preserved
-loop-argument-preserved c = grind (arith, common_steps)
-
-pub returns : goal.returns
-returns c = grind (arith, common_steps)

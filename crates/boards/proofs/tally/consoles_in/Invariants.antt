@@ -1,6 +1,0 @@
-use Rattle.std.proofs.Common.{◌≡◌, take}
-use Rattle.boards.specs.Counts.{consoles_in}
-use Rattle.boards.proofs.tally.consoles_in.Given as goal
-
-abbrev pub invariant-loop-tally : goal.invariant-loop-tally
-invariant-loop-tally l = l.consoles ≡ consoles_in (take l.tally-index l.tallies)

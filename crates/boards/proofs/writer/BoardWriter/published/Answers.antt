@@ -1,6 +1,0 @@
-use Rattle.std.proofs.Common.{refl}
-use Rattle.boards.proofs.Prefixes.{begins_prefix}
-use Rattle.boards.proofs.writer.BoardWriter.published.Goals as goal
-
-pub returns-clause-begins : goal.returns-clause-begins
-returns-clause-begins c = let w = c.args.self.now in (refl, begins_prefix w.writer.desk.shown.value.list w.log.entries w.begins)

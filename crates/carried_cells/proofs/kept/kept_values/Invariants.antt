@@ -1,6 +1,0 @@
-use Rattle.std.proofs.Common.{◌≡◌, map, take}
-use Rattle.carried_cells.specs.Keeping.{kept_value}
-use Rattle.carried_cells.proofs.kept.kept_values.Given as goal
-
-abbrev pub invariant-loop-value : goal.invariant-loop-value
-invariant-loop-value l = l.kept.items ≡ map (kept_value l.old l.places) (take l.value-index l.new)

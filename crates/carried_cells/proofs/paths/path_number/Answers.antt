@@ -1,4 +1,0 @@
-use Rattle.carried_cells.proofs.paths.path_number.Goals as goal
-
-pub returns-in-Some-clause-grows : goal.returns-in-Some-clause-grows
-returns-in-Some-clause-grows c = λ key n is. is

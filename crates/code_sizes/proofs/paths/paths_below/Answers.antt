@@ -1,6 +1,0 @@
-use Rattle.std.proofs.Common.{arith}
-use Rattle.std.proofs.lemmas.Grind.{common_steps}
-use Rattle.code_sizes.proofs.paths.paths_below.Goals as goal
-
-pub returns-in-Frame : goal.returns-in-Frame
-returns-in-Frame c = grind (arith, common_steps)

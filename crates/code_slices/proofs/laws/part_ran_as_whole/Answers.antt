@@ -1,5 +1,0 @@
-use Rattle.code_slices.proofs.Overs.{runs_whole}
-use Rattle.code_slices.proofs.laws.part_ran_as_whole.Goals as goal
-
-pub returns : goal.returns
-returns c = runs_whole

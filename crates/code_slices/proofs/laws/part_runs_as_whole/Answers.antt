@@ -1,5 +1,0 @@
-use Rattle.code_slices.proofs.Carried.{part_runs}
-use Rattle.code_slices.proofs.laws.part_runs_as_whole.Goals as goal
-
-pub returns : goal.returns
-returns c = part_runs

@@ -1,5 +1,0 @@
-use Rattle.code_slices.proofs.Sound.{sound_again}
-use Rattle.code_slices.proofs.laws.renamed_code_is_sound.Goals as goal
-
-pub returns : goal.returns
-returns c = sound_again

@@ -1,5 +1,0 @@
-use Rattle.code_slices.proofs.Carried.{stands_still}
-use Rattle.code_slices.proofs.laws.standing_lasts.Goals as goal
-
-pub returns : goal.returns
-returns c = stands_still

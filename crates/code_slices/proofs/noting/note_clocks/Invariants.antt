@@ -1,7 +1,0 @@
-use Rattle.code_slices.specs.Slots.{clocks_of}
-use Rattle.code_slices.specs.Noting.{Notes}
-use Rattle.code_slices.proofs.Places.{HasBelow}
-use Rattle.code_slices.proofs.noting.note_clocks.Given as goal
-
-abbrev pub invariant-loop-i : goal.invariant-loop-i
-invariant-loop-i l = Notes (HasBelow clocks_of l.instrs l.i-index) l.fn.places l.fn.numbers.items l.places l.numbers.items

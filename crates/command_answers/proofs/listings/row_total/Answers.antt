@@ -1,5 +1,0 @@
-use Rattle.std.proofs.Common.{◌∙◌}
-use Rattle.command_answers.proofs.listings.row_total.Goals as goal
-
-pub returns : goal.returns
-returns c = c.len.ensures.count ∙ c.journal.ensures.rows

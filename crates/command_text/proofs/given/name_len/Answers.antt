@@ -1,6 +1,0 @@
-use Rattle.std.proofs.Common.{sym, ◌∙◌}
-use Rattle.command_text.proofs.CutLaws.{names-more}
-use Rattle.command_text.proofs.given.name_len.Goals as goal
-
-pub loop-i-preserved : goal.loop-i-preserved
-loop-i-preserved c = names-more _ _ c.loop-i-test.true c.loop-i.invariant (sym c.is_name_byte.ensures ∙ c.if-not-is_name_byte.false)

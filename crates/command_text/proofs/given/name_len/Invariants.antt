@@ -1,6 +1,0 @@
-use Rattle.std.proofs.Common.{take}
-use Rattle.command_text.proofs.CutLaws.{Names}
-use Rattle.command_text.proofs.given.name_len.Given as goal
-
-abbrev pub invariant-loop-i : goal.invariant-loop-i
-invariant-loop-i l = Names (take l.i l.line)

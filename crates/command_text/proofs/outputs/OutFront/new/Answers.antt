@@ -1,6 +1,0 @@
-use Rattle.std.proofs.Common.{rules}
-use Rattle.std.proofs.lemmas.Fmt.{length-decimal-le}
-use Rattle.command_text.proofs.outputs.OutFront.new.Goals as goal
-
-pub place_digits-size-requires : goal.place_digits-size-requires
-place_digits-size-requires c = search (rules, length-decimal-le 20)

@@ -1,5 +1,0 @@
-use Rattle.command_text.proofs.PlacingLaws.{IsPlaced-then}
-use Rattle.command_text.proofs.outputs.place_number.Goals as goal
-
-pub returns-clause-placed : goal.returns-clause-placed
-returns-clause-placed c = IsPlaced-then c.place_slice-apart.ensures (IsPlaced-then c.place_text-last.ensures c.place_slice.ensures)

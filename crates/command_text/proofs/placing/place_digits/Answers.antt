@@ -1,5 +1,0 @@
-use Rattle.command_text.proofs.PlacingLaws.{IsPlaced-then}
-use Rattle.command_text.proofs.placing.place_digits.Goals as goal
-
-pub returns : goal.returns
-returns c = IsPlaced-then c.place_slice-named.ensures (IsPlaced-then c.place_text-timed.ensures c.place_slice.ensures)

@@ -1,4 +1,0 @@
-use Rattle.command_text.proofs.placing.place_to.Goals as goal
-
-pub returns-clause-placed : goal.returns-clause-placed
-returns-clause-placed c = rw c.to_text-size.ensures.text at c.place_part.ensures.placed

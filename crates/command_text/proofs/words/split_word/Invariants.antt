@@ -1,6 +1,0 @@
-use Rattle.std.proofs.Common.{take}
-use Rattle.command_text.proofs.WordLaws.{Solid}
-use Rattle.command_text.proofs.words.split_word.Given as goal
-
-abbrev pub invariant-loop-i : goal.invariant-loop-i
-invariant-loop-i l = Solid (take l.i l.line)

@@ -1,0 +1,29 @@
+use Rattle.std.proofs.Common.{[], ◌∷◌, ◌++◌, subst, sym}
+use Rattle.engine_history.specs.declared.event.Event.TheVariants as event
+use Rattle.plant_config.specs.Plants.{PlainPlant}
+use Rattle.engine.specs.Engines.{state_of}
+use Rattle.engine.specs.Lawful.{IsTaken}
+use Rattle.console_entries.specs.Showing.{HasHistory}
+use Rattle.console_archive.proofs.Shown.{has_same, shows_all}
+use Rattle.console_archive.proofs.recorder.Recorder.reload.Goals as goal
+
+pub lay_reload-requires-clause-taken : goal.lay_reload-requires-clause-taken
+lay_reload-requires-clause-taken g c = subst (λ (p : PlainPlant). IsTaken (state_of c.ready_reload.new.engine) (event.Reload p)) (sym c.plant.ensures) c.in-Ok.ensures.own.0.taken
+
+pub invariant_of-self-2-clause-has : goal.invariant_of-self-2-clause-has
+invariant_of-self-2-clause-has g c =
+    let old = c.ready_reload.new.engine in
+    let new = c.commit_reload-reloaded.new.engine in
+    let own = c.in-Ok.ready.own in
+    has_same old.plant new.plant (old.history ++ event.Reload own.plant ∷ []) new.history c.lay_reload.new.board c.show.new.board c.show.ensures.same.0 c.commit_reload-reloaded.ensures.plants.0 c.commit_reload-reloaded.ensures.engine
+    (subst (λ (p : PlainPlant). HasHistory old.plant (old.history ++ event.Reload p ∷ []) c.lay_reload.new.board) c.plant.ensures c.in-Ok-lay_reload.ensures.laid)
+
+pub returns-clause-shown : goal.returns-clause-shown
+returns-clause-shown g c = λ same.
+    let old = c.ready_reload.new.engine in
+    let new = c.commit_reload-reloaded.new.engine in
+    let own = c.in-Ok.ready.own in
+    let has = subst (λ (p : PlainPlant). HasHistory old.plant (old.history ++ event.Reload p ∷ []) c.lay_reload.new.board) c.plant.ensures c.in-Ok-lay_reload.ensures.laid in
+    shows_all new.plant new.history c.show.new.board
+    (has_same old.plant new.plant (old.history ++ event.Reload own.plant ∷ []) new.history c.lay_reload.new.board c.show.new.board c.show.ensures.same.0 c.commit_reload-reloaded.ensures.plants.0 c.commit_reload-reloaded.ensures.engine has)
+    (c.show.ensures.shown.shown same)

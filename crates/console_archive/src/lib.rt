@@ -1,0 +1,29 @@
+//! The archive of a station: a second engine under a lock, which other threads may read; and its recorder, where each event goes into both.
+//!
+//! Contracts see a book as its engine. Its type keeps that a ledger's total is the engine's number of events, and only `Book::commit`,
+//! `Book::commit_order` and `Book::commit_reload` raise that total: each raises a share of the ledger with it. So whoever keeps a share that is as great as its own number of
+//! events has put each of them into the book.
+//!
+//! An event is first made ready in both engines, which may be refused and changes neither of them but for room, and then committed in both, which
+//! can't fail. A page of the book is the text of the rows of its journal that have these numbers.
+//!
+//! The recorder has the engine, the archive, the share and the board. Each event goes through all of them, or through none. Orders come to it by
+//! `Recording` of console_orders.
+//!
+//! Layer console_: it must not know the bytes of commands.
+#![tactic(auto)]
+
+mod book;
+mod both;
+mod lock;
+mod opening;
+mod page;
+mod recorder;
+
+pub use book::Book;
+pub use both::{
+    ReadyOrder, ReadyReload, ReadyScan, commit_order, commit_reload, commit_scan, ready_order,
+    ready_reload, ready_scan,
+};
+pub use lock::Archive;
+pub use recorder::{Recorder, Refusal};

@@ -1,0 +1,35 @@
+use alarm_bank::{BankEvent, NewAlarm};
+use alarm_machine::{Change, OrderFault};
+use console_log::Mark;
+use alarm_orders::Order;
+use plant_types::Items;
+
+/// What an order is answered: the change of its alarm's code, if there is one, or why it is refused.
+pub type Reply = Result<Option<Change>, OrderFault>;
+
+/// An order with its reply.
+#[derive(Clone, Copy, Drop)]
+pub struct Answer {
+    pub order: Order,
+    pub reply: Reply,
+}
+
+/// One event of the history, as a board takes it in.
+#[derive(Drop)]
+pub enum Entry {
+    /// A scan, by what it gives to the alarms.
+    Scan(BankEvent),
+    /// An order of the console of a number, with its reply.
+    Order(u32, Answer),
+    /// A reload, by the alarms of the new plant, each with the number of the old alarm whose state it keeps, if it keeps one.
+    Reload(Items<NewAlarm>),
+}
+
+/// What is done to both copies of a board.
+#[derive(Drop)]
+pub enum Operation {
+    /// An entry is taken in, if it may come next.
+    Entry(Entry),
+    /// The board is marked anew.
+    Mark(Mark<Entry>),
+}

@@ -1,0 +1,12 @@
+use crate::entry::Entry;
+use crate::picture::Picture;
+use console_log::Mark;
+use base_trace::Trace;
+
+/// What a reader or the writer knows of a board: the story that it saw last, the one that it was told of, and a mark in the log of the board. No value
+/// of it is made.
+pub struct View {
+    pub seen: Option<(Picture, Trace<Entry>)>,
+    pub told: Option<(Picture, Trace<Entry>)>,
+    pub mark: Option<Mark<Entry>>,
+}

@@ -1,5 +1,0 @@
-use Rattle.console_link.specs.Seats.{SameConsole}
-use Rattle.control_desks.proofs.duty.acknowledge.Given as goal
-
-abbrev pub invariant-loop-number : goal.invariant-loop-number
-invariant-loop-number l = SameConsole l.fn.console.link l.console.link

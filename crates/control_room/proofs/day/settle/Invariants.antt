@@ -1,5 +1,0 @@
-use Rattle.station.specs.Lanes.{KeepsConsoles}
-use Rattle.control_room.proofs.day.settle.Given as goal
-
-abbrev pub invariant-loop-turns : goal.invariant-loop-turns
-invariant-loop-turns g l = KeepsConsoles l.fn.station.lanes l.station.lanes

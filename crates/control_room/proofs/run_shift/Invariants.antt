@@ -1,4 +1,0 @@
-use Rattle.control_room.proofs.run_shift.Given as goal
-
-abbrev pub ghosts-run : goal.ghosts-run
-ghosts-run g a = record { name = a.blank.name; parts = a.blank.parts }

@@ -1,0 +1,12 @@
+use Rattle.std.proofs.Common.{arith}
+use Rattle.std.proofs.lemmas.Grind.{common_steps}
+use Rattle.engine_system.proofs.steps.renew.Goals as goal
+
+pub returns : goal.returns
+returns c = grind (arith, common_steps)
+
+pub loop-global-preserved : goal.loop-global-preserved
+loop-global-preserved c = grind (arith, common_steps)
+
+pub of_kind-value-requires : goal.of_kind-value-requires
+of_kind-value-requires c = grind (arith, common_steps)

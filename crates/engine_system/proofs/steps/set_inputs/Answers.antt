@@ -1,0 +1,6 @@
+use Rattle.std.proofs.Common.{arith}
+use Rattle.std.proofs.lemmas.Grind.{common_steps}
+use Rattle.engine_system.proofs.steps.set_inputs.Goals as goal
+
+pub loop-global-preserved : goal.loop-global-preserved
+loop-global-preserved c = grind (arith, common_steps)

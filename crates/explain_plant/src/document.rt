@@ -1,0 +1,373 @@
+//! What is wrong in the plant file (C1 to C3), as its reader found it.
+
+use crate::keys::{Keys, Mark, NOBODY, keys_of};
+use crate::telling::{MOST_FAULTS, Refused};
+use plant_file::{Mistake, PlantFileFault, Unread, Why, read};
+use base_stamps::Epoch;
+use std::alloc::{AllocError, Global};
+use std::str;
+use explain_tokens::{FileOf, Spot, part, within_one};
+use toml::Value;
+
+/// What is said of a text that looks like UTF-16.
+pub const WIDE: &str = "this file is no UTF-8, but looks like UTF-16: save it as UTF-8";
+
+/// What is said where consoles stand under one header.
+const ONE_CONSOLE: &str =
+    "consoles stand below lines [[console]] alone: there is no line [console], and no key 'console' beside them";
+
+/// What is said of a text that is no TOML document: each line has what the reader of documents says, and behind `| ` how that is told.
+const REASONS: &str = "\
+invalid string| a text isn't closed in its line, or has a character that may not stand in one
+invalid escape sequence| a '\\' in double quotes begins a sign of its own: in the path of a file write '/'
+duplicate key| this stands here a second time
+missing comma between array elements, expected `,` or `]`| in this list a comma is missing before this, or the list's ']'
+missing comma between key-value pairs, expected `,` or `}`| a comma is missing before this, or a '}'
+key with no value, expected `=`| a '=' is missing behind the key
+unexpected key or value, expected newline, `#`| behind a value its line ends: what is this? (a text stands in quotes, items of a list in brackets)
+invalid value, expected a string, number, boolean, date-time, array or inline table| no value begins so: a text stands in quotes, a list in brackets
+invalid key, expected letters, numbers, `-`, `_` or a quoted key| no key begins so: a line is a key, '=' and a value, a header in brackets, or a remark behind '#'
+unclosed table, expected `]`| this header isn't closed with ']'
+unclosed array table, expected `]]`| this header isn't closed with ']]'
+invalid date-time| this is no date or time: the epoch stands in quotes, \"YYYY-MM-DDTHH:MM:SSZ\"
+number out of range| this number is out of range
+cannot extend a value with a dotted key| this key has a value already, to which nothing can be added
+";
+
+/// Whether a text looks like UTF-16: it begins with a mark of that, or has a byte 0 among its first two.
+pub fn is_wide(text: &[u8]) -> bool {
+    matches!(
+        text,
+        [0xFF, 0xFE, ..] | [0xFE, 0xFF, ..] | [_, 0, ..] | [0, ..]
+    )
+}
+
+/// What is said of an area that the plant hasn't, whose areas its file lists.
+pub fn strange_area(alloc: Global, plant: &[u8], area: &str) -> Result<String, AllocError> {
+    let mut said = format!(in alloc; "the plant has no area '{area}'; its areas are:")?;
+    let table = toml::table_from_slice(alloc, plant).ok();
+    if let Some(Value::Array(areas)) = table.as_ref().and_then(|table| table.get("areas")) {
+        for area in areas {
+            said.push_str(" ")?;
+            said.push_str(area.as_str().unwrap_or(""))?;
+        }
+    }
+    Ok(said)
+}
+
+/// The key that there is and that an unknown one nearly is; empty where none is.
+fn near_key(unknown: &Mistake) -> &str {
+    let known: &[&'static str] = match unknown.console {
+        0 => &["name", "epoch", "areas", "sources", "alarms", "console"],
+        _ => &["number", "areas"],
+    };
+    let key = unknown.key.as_str().as_bytes();
+    let near = known.iter().find(|other| within_one(key, other.as_bytes()));
+    near.copied().unwrap_or("")
+}
+
+/// Whether a missing key is told already by one that stands in its place: nearly the same one, the same one below a console, or the header of a table that
+/// there isn't.
+fn is_told(keys: &Keys<'_>, mistakes: &[Mistake], missing: &Mistake) -> bool {
+    let key = missing.key.as_str();
+    let is_of_plant = missing.console == 0;
+    let is_elsewhere = is_of_plant && keys.find(NOBODY, key).is_some();
+    let stands_for = |other: &Mistake| {
+        if other.console == missing.console {
+            is_elsewhere || near_key(other) == key
+        } else {
+            is_of_plant && other.key.as_str() == key
+        }
+    };
+    let mut others = mistakes.iter();
+    missing.why == Why::MissingKey
+        && others.any(|other| other.why == Why::UnknownKey && stands_for(other))
+}
+
+/// What is said of a key that there isn't, where a `%` stands for it, and a second one for the key that it nearly is.
+fn said_of_unknown(keys: &Keys<'_>, mistakes: &[Mistake], wrong: &Mistake) -> &'static str {
+    let (key, is_near) = (wrong.key.as_str(), !near_key(wrong).is_empty());
+    let mut others = mistakes.iter();
+    let is_missing = others.any(|other| {
+        other.why == Why::MissingKey && other.console == 0 && other.key.as_str() == key
+    });
+    match wrong.console {
+        0 if is_near => "the plant has no key '%': did you mean '%'?",
+        0
+            if keys
+                .find(0, key)
+                .is_some_and(|entry| entry.value.0 < entry.key.0) =>
+            "there is no table '%': the plant's own keys stand at the top, without a header",
+        0 => "the plant has no key '%'",
+        _ if is_missing =>
+            "'%' stands below a [[console]], and so it is that console's: the plant's own keys stand above the first",
+        _ if is_near => "a console has no key '%': did you mean '%'?",
+        _ => "a console has no key '%'",
+    }
+}
+
+/// What is said of a mistake that its key tells, for which a `%` stands.
+fn said_of(wrong: &Mistake) -> &'static str {
+    match wrong.why {
+        Why::MissingKey if wrong.console > 0 =>
+            "each console has 'number' and 'areas', and this one has no '%'",
+        Why::MissingKey => "the key '%' is missing",
+        Why::NoText if wrong.item.is_some() =>
+            "each item of this list is a text, and stands in quotes",
+        Why::NoText => "'%' is a text, and stands in quotes",
+        Why::NoList if wrong.key.as_str() == "console" => ONE_CONSOLE,
+        Why::NoList => "'%' is a list in brackets, [..]",
+        Why::NoNumber | Why::OutOfRange =>
+            "the number of a console is a whole number, 1 to 999999999, without quotes",
+        Why::NoConsole =>
+            "a console is a table with 'number' and 'areas', below a line [[console]]",
+        Why::NoAreaName =>
+            "an area has 1 to 32 letters of ASCII, digits, '_', '-' and '.', and no blanks",
+        Why::NumberAgain => "an earlier console has this number",
+        _ => "this stands in the list already",
+    }
+}
+
+/// The bytes of a mistake: of a key, of what stands under it, of an item of its list, or of a console; `None` for a key of the plant's that isn't there.
+fn mark_of(keys: &Keys<'_>, wrong: &Mistake) -> Result<Option<Mark>, AllocError> {
+    let console = wrong.console.checked_sub(1);
+    match (keys.find(wrong.console, wrong.key.as_str()), console) {
+        (Some(entry), _) if wrong.why == Why::UnknownKey => Ok(Some(entry.key)),
+        (Some(entry), _) => keys.under(entry, wrong.item),
+        (None, Some(number)) => keys.console(number),
+        (None, None) => Ok(None),
+    }
+}
+
+/// The bytes of the line in which a byte stands.
+fn line_of(text: &[u8], at: usize) -> Mark {
+    let is_end = |byte: &u8| *byte == b'\n';
+    let before = part(text, 0, at).iter().rev().position(is_end);
+    let from = at.saturating_sub(before.unwrap_or(at));
+    let len = part(text, from, text.len()).iter().position(is_end);
+    (from, len.map_or(text.len(), |len| from.saturating_add(len)))
+}
+
+/// Whether a line of a text begins as a key of the plant's with its `=`: else it is another file, in the place of a plant file.
+fn has_keys(text: &[u8]) -> bool {
+    let mut lines = text.split(|byte| *byte == b'\n');
+    lines.any(|line| {
+        let end = line.iter().position(|byte| *byte == b'=');
+        let key = part(line, 0, end.unwrap_or(0)).trim_ascii();
+        let known = ["name", "epoch", "areas", "sources", "alarms"];
+        let mut known = known.iter();
+        known.any(|known| known.as_bytes() == key)
+    })
+}
+
+/// Why a text is no document; `None` where it is one.
+fn unread_in(alloc: Global, text: &[u8]) -> Result<Option<Unread>, AllocError> {
+    match read(alloc, text) {
+        Ok(file) => {
+            drop(file);
+            Ok(None)
+        }
+        Err(PlantFileFault::Wrong(mistakes)) => {
+            drop(mistakes);
+            Ok(None)
+        }
+        Err(PlantFileFault::Memory) => Err(AllocError),
+        Err(PlantFileFault::NotToml(unread)) => Ok(Some(unread)),
+    }
+}
+
+/// Whether a text is no document any more at a byte, for a reason.
+fn is_unread_at(unread: &Unread, reason: &str, at: usize) -> bool {
+    match unread.message() {
+        Some(message) => message == reason && unread.bytes().0 == at,
+        None => false,
+    }
+}
+
+/// A plant file with a remark in the place of the line in which it is no document any more, for a reason; `None` where the line by itself isn't wrong for this
+/// reason, nor a whole key that is there already, or is that of a header, and so it isn't certain how the file goes on.
+fn without_line(
+    alloc: Global,
+    text: &[u8],
+    at: usize,
+    reason: &str,
+) -> Result<Option<Vec<u8>>, AllocError> {
+    let line = line_of(text, at);
+    let bytes = part(text, line.0, line.1);
+    let unread = unread_in(alloc, bytes)?;
+    let is_alone = match &unread {
+        Some(unread) => is_unread_at(unread, reason, at.saturating_sub(line.0)),
+        None => reason == "duplicate key",
+    };
+    if !is_alone || bytes.trim_ascii_start().starts_with(b"[") {
+        return Ok(None);
+    }
+    let mut rest = Vec::from_slice(alloc, part(text, 0, line.0))?;
+    for _ in bytes {
+        rest.push(b'#')?;
+    }
+    rest.extend_from_slice(part(text, line.1, text.len()))?;
+    Ok(Some(rest))
+}
+
+/// A text with a `?` in the place of each byte that isn't of ASCII.
+fn ascii_of(alloc: Global, text: &[u8]) -> Result<Vec<u8>, AllocError> {
+    let bytes = text.iter();
+    bytes
+        .map(|byte| if byte.is_ascii() { *byte } else { b'?' })
+        .collect(alloc)
+}
+
+/// Whether the epoch of a plant file is a text, and none that an epoch may be.
+fn has_no_epoch(keys: &Keys<'_>, plant: &[u8]) -> bool {
+    let value = keys.find(0, "epoch").map_or((0, 0), |entry| entry.value);
+    match part(plant, value.0, value.1) {
+        [b'"', inner @ .., b'"'] if !inner.contains(&b'\\') => {
+            Epoch::read(str::from_utf8(inner).unwrap_or("")).is_none()
+        }
+        _ => false,
+    }
+}
+
+impl<'t> Refused<'t> {
+    /// Tells of bytes that are no TOML document: where they aren't any more, and why, as the reader says.
+    pub fn not_toml(&mut self, unread: &Unread) -> Result<(), AllocError> {
+        let (plant, mark) = (self.plant, unread.bytes());
+        if is_wide(plant) {
+            return self.say(FileOf::Plant, None, WIDE, &[]);
+        }
+        let Some(message) = unread.message() else {
+            let text = "here the plant file isn't UTF-8: an editor can save it so";
+            self.say(FileOf::Plant, Some(mark), text, &[])?;
+            return self.in_text_of(ascii_of(self.alloc, plant)?);
+        };
+        let rest = part(plant, mark.0, plant.len());
+        if rest.starts_with(b"[console]") || rest.starts_with(b"[[console]]") {
+            let keys = keys_of(self.alloc, plant)?;
+            let mark = keys.header("[console]").unwrap_or(mark);
+            return self.say(FileOf::Plant, Some(mark), ONE_CONSOLE, &[]);
+        }
+        self.unread_at(mark, message)?;
+        if has_keys(plant) {
+            self.in_lines_behind(mark.0, message)?;
+        }
+        Ok(())
+    }
+
+    /// Tells where the plant file is no TOML document any more, and why.
+    fn unread_at(&mut self, mark: Mark, message: &str) -> Result<(), AllocError> {
+        let mut reasons = REASONS.lines().filter_map(|line| line.split_once("| "));
+        let reason = reasons.find(|reason| reason.0 == message);
+        let why = reason.map_or(message, |reason| reason.1);
+        let text = "here the plant file is no TOML document any more: %";
+        self.say(FileOf::Plant, Some(mark), text, &[why])
+    }
+
+    /// Tells what else is wrong in a plant file that is no document any more at a byte: it is read on without the line there, as far as that is certain.
+    fn in_lines_behind(&mut self, at: usize, reason: &str) -> Result<(), AllocError> {
+        match without_line(self.alloc, self.plant, at, reason)? {
+            Some(rest) => self.in_text_of(rest),
+            None => Ok(()),
+        }
+    }
+
+    /// Tells what is wrong in the text of the plant file, in which what was told stands no more.
+    fn in_text_of(&mut self, mut text: Vec<u8>) -> Result<(), AllocError> {
+        for _ in 0..MOST_FAULTS {
+            let unread = match read(self.alloc, text.as_slice()) {
+                Ok(_) => return Ok(()),
+                Err(PlantFileFault::Memory) => return Err(AllocError),
+                Err(PlantFileFault::Wrong(mistakes)) => return self.in_keys_of(
+                    text.as_slice(),
+                    mistakes.as_slice(),
+                    false,
+                ),
+                Err(PlantFileFault::NotToml(unread)) => unread,
+            };
+            let (mark, reason) = (unread.bytes(), unread.message().unwrap_or(""));
+            self.unread_at(mark, reason)?;
+            match without_line(self.alloc, text.as_slice(), mark.0, reason)? {
+                Some(rest) => text = rest,
+                None => return Ok(()),
+            }
+        }
+        Ok(())
+    }
+
+    /// Tells of a document that isn't that of a plant file, in the order of the text; what has no place comes first.
+    pub fn in_keys(&mut self, mistakes: &[Mistake]) -> Result<(), AllocError> {
+        self.in_keys_of(self.plant, mistakes, true)
+    }
+
+    /// Tells of a mistake in the text of a plant file, in which these are found.
+    fn in_key(
+        &mut self,
+        plant: &[u8],
+        keys: &Keys<'_>,
+        mistakes: &[Mistake],
+        wrong: &Mistake,
+    ) -> Result<(), AllocError> {
+        let (alloc, file) = (self.alloc, FileOf::Plant);
+        let (mark, key) = (mark_of(keys, wrong)?, wrong.key.as_str());
+        match wrong.why {
+            _ if is_told(keys, mistakes, wrong) => Ok(()),
+            Why::UnknownKey => {
+                let text = said_of_unknown(keys, mistakes, wrong);
+                self.say(file, mark, text, &[key, near_key(wrong)])
+            }
+            Why::StrangeArea => {
+                let said = strange_area(alloc, plant, wrong.text.as_str())?;
+                self.say(file, mark, "%", &[said.as_str()])
+            }
+            Why::Length { bytes, most } => {
+                let said = match wrong.item {
+                    None => format!(in alloc; "'{key}' is a text of 1 to {most} bytes")?,
+                    Some(_) => format!(in alloc; "the name of a file has 1 to {most} bytes")?,
+                };
+                let bytes = bytes.to_string(alloc)?;
+                let words = [said.as_str(), bytes.as_str()];
+                self.say(file, mark, "%, and this one has %", &words)
+            }
+            _ => self.say(file, mark, said_of(wrong), &[key]),
+        }
+    }
+
+    /// Tells of the mistakes in the text of a plant file, which is whole, or has lines left out: then it isn't told that a key is missing.
+    fn in_keys_of(
+        &mut self,
+        plant: &[u8],
+        mistakes: &[Mistake],
+        is_whole: bool,
+    ) -> Result<(), AllocError> {
+        let keys = keys_of(self.alloc, plant)?;
+        for wrong in mistakes {
+            if is_whole || wrong.why != Why::MissingKey {
+                self.in_key(plant, &keys, mistakes, wrong)?;
+            }
+        }
+        if has_no_epoch(&keys, plant) {
+            self.no_epoch(&keys)?;
+        }
+        if self.told.is_empty() {
+            let text = "the sources that were handed in aren't those that 'sources' lists";
+            self.say(FileOf::Plant, None, text, &[])?;
+        }
+        self.told.sort_unstable_by_key(|spot: &Spot| {
+            spot.cause.mark.map_or(0, |mark| mark.0.saturating_add(1))
+        });
+        Ok(())
+    }
+
+    fn no_epoch(&mut self, keys: &Keys<'_>) -> Result<(), AllocError> {
+        let mark = keys.find(0, "epoch").map(|entry| entry.value);
+        let text =
+            "the epoch is no second of the years 1970 to 2399 in the form YYYY-MM-DDTHH:MM:SSZ";
+        self.say(FileOf::Plant, mark, text, &[])
+    }
+
+    /// Tells of an epoch that isn't one.
+    pub fn in_epoch(&mut self) -> Result<(), AllocError> {
+        let keys = keys_of(self.alloc, self.plant)?;
+        self.no_epoch(&keys)
+    }
+}

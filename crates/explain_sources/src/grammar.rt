@@ -1,0 +1,186 @@
+//! The token with which no source can go on (C5).
+
+use crate::rules::{told_by_place, too_deep, wanted};
+use crate::words::misnomer;
+use plant_types::same_word;
+use st_lexer::place_of;
+use std::alloc::{AllocError, Global};
+use explain_tokens::{Cause, Place, cause_at, closing_of, fits, tokens_of};
+
+/// Where the grammar stands.
+pub const GRAMMAR: &str = "docs/LANGUAGE.md, \"Grammar\"";
+
+/// Whether a comment stands between tokens in which another one begins: the first end of a comment ends it.
+pub fn has_nested(gap: &[u8]) -> bool {
+    let mut is_open = false;
+    for pair in gap.windows(2) {
+        match pair {
+            [b'(', b'*'] if is_open => return true,
+            [b'(', b'*'] => is_open = true,
+            [b'*', b')'] => is_open = false,
+            _ => {}
+        }
+    }
+    false
+}
+
+/// What opens something that should be closed before a token: that closes something else, parts an IF or a CASE around it, begins a unit or globals, or begins
+/// a statement among declarations.
+fn left_open(place: Place<'_>) -> Option<Place<'_>> {
+    let opened = place.opened()?;
+    let closing = closing_of(opened.sign());
+    let is_left = match (place.stand(), opened.sign(), place.sign()) {
+        ("statement", "IF", "ELSE" | "ELSIF") | ("statement", "CASE", "ELSE") => false,
+        ("declaration", _, "IF" | "CASE" | "FOR") | ("declared", _, "(") => true,
+        ("statement" | "declaration", _, sign) => {
+            fits("ELSE|ELSIF|UNIT|VAR_GLOBAL|CLOSING", sign) && sign != closing
+        }
+        _ => false,
+    };
+    is_left.then_some(opened)
+}
+
+/// What may have led to something that isn't closed before a token: an `ELSE IF`, or a comment that has swallowed its end.
+fn led_to(alloc: Global, place: Place<'_>, opened: Place<'_>) -> Result<String, AllocError> {
+    let mut behind = (opened.number..place.number.saturating_add(1)).map(|number| place.at(number));
+    if let Some(behind) = behind.find(|place| has_nested(place.gap())) {
+        let line = behind.line();
+        return format!(in alloc;
+            " (before line {line} stands a comment in which another one begins: what has swallowed it?)"
+        );
+    }
+    let mut between = (opened.number..place.number).map(|number| place.at(number));
+    match between.find(|other| other.sign() == "ELSE" && other.behind(1) == "IF") {
+        Some(other) if opened.sign() == "IF" => {
+            let line = other.line();
+            format!(in alloc; " ('ELSE IF' in line {line} opens an IF of its own; ELSIF doesn't)")
+        }
+        _ => Ok(String::new(alloc)),
+    }
+}
+
+/// What is said where something is open that should be closed before a token: at that, or at the word before it, with which a call begins.
+fn unclosed(alloc: Global, place: Place<'_>, opened: Place<'_>) -> Result<Cause, AllocError> {
+    let (line, open) = (opened.line(), opened.sign());
+    let closing = closing_of(open);
+    let behind = led_to(alloc, place, opened)?;
+    let said = format!(in alloc; "{closing} is missing for the {open} of line {line}{behind}")?;
+    let is_call = place.sign() == "(";
+    let mark = if is_call {
+        place.previous().mark()
+    } else {
+        place.mark()
+    };
+    Ok(cause_at(mark, said, GRAMMAR))
+}
+
+/// The `(` or the `[` that isn't closed before a token at which a value certainly ends.
+fn unpaired(place: Place<'_>) -> Option<Place<'_>> {
+    let (stand, sign, is_call) = (place.stand(), place.sign(), place.within() == "call");
+    let is_keyword = fits("KEYWORD", sign) && sign != "NOT";
+    let is_bound = stand == "array" && !fits("[|-", place.before(1));
+    let ends_index = is_keyword || fits(";|:=|:|)|=>", sign);
+    let begins_call = [place.behind(1), place.behind(2)] == ["(", "word"]
+        && fits(":=|=>", place.behind(3));
+    let ends = match sign {
+        "word" => !is_call && (place.behind(1) == ":=" || begins_call),
+        "," => !is_call,
+        _ => is_keyword || sign == ";",
+    };
+    match place.bracket() {
+        Some(open) if ends_index && (is_bound || stand == "valued") => Some(open),
+        _ if ends && fits("valued|taken", stand) => place.parenthesis(),
+        _ => None,
+    }
+}
+
+/// Whether a token is the word or the keyword before it once more.
+fn is_doubled(place: Place<'_>) -> bool {
+    let word = place.previous().word().as_bytes();
+    place.number > 0
+        && fits("word|KEYWORD", place.sign())
+        && !fits("CLOSING", place.sign())
+        && same_word(place.word().as_bytes(), word)
+}
+
+/// What is said behind a token.
+fn told(alloc: Global, place: Place<'_>) -> Result<String, AllocError> {
+    let lacks = place.lacks_end();
+    let told = match told_by_place(place) {
+        _ if is_doubled(place) && !lacks => "it stands here twice",
+        told => told,
+    };
+    match unpaired(place) {
+        Some(open) if told.is_empty() || open.sign() == "[" => {
+            let opening = open.sign();
+            let closing = if opening == "[" { "]" } else { ")" };
+            let (line, column) = place_of(open.text, open.tokens, open.number);
+            format!(in alloc;
+                "the '{opening}' of line {line}, column {column} has no '{closing}' before it"
+            )
+        }
+        _ if told.is_empty() && lacks => {
+            let (_, lacking) = place.lacking();
+            let line = place.previous().line();
+            format!(in alloc; "{lacking} seems to be missing before it, in line {line}")
+        }
+        _ if told.is_empty() => String::from_str(alloc, wanted(place)),
+        _ => String::from_str(alloc, told),
+    }
+}
+
+/// What a keyword closes or parts that isn't open; empty where that is open.
+pub fn unopened(place: Place<'_>) -> &'static str {
+    let (opening, closing) = match place.sign() {
+        "END_IF" | "ELSIF" => ("IF", "END_IF"),
+        "END_CASE" => ("CASE", "END_CASE"),
+        "END_FOR" => ("FOR", "END_FOR"),
+        _ => return "",
+    };
+    place.open(opening, closing, "").map_or(opening, |_| "")
+}
+
+/// The cause at a token, where no word tells it.
+fn cause_of_token(alloc: Global, place: Place<'_>) -> Result<Cause, AllocError> {
+    let (word, deep, unopened) = (place.word(), too_deep(place), unopened(place));
+    let said = if has_nested(place.gap()) || has_nested(place.previous().gap()) {
+        format!(in alloc;
+            "found '{word}': the comment before it ends at the first *), since comments don't stand in one another"
+        )?
+    } else if !unopened.is_empty() && fits("head|statement|behind", place.stand()) {
+        format!(in alloc; "found '{word}': no {unopened} is open here")?
+    } else if let Some(opened) = left_open(place) {
+        return unclosed(alloc, place, opened);
+    } else if !deep.is_empty() {
+        String::from_str(alloc, deep)?
+    } else {
+        let told = told(alloc, place)?;
+        format!(in alloc; "found '{word}': {told}")?
+    };
+    Ok(cause_at(place.mark(), said, GRAMMAR))
+}
+
+/// The cause at a token: a word there or before it that is written otherwise, or what it is itself; behind the last one, why the text ends too early.
+pub fn cause_at_token(alloc: Global, place: Place<'_>) -> Result<Cause, AllocError> {
+    if let Some((place, _, (said, keyword, end), page)) = misnomer(place) {
+        let word = place.word();
+        let said = format!(in alloc; "'{word}' {said}{keyword}{end}")?;
+        return Ok(cause_at(place.mark(), said, page));
+    }
+    if place.number < place.tokens.len() {
+        return cause_of_token(alloc, place);
+    }
+    if let Some(opened) = place.opened() {
+        return unclosed(alloc, place, opened);
+    }
+    let said = String::from_str(alloc, "the text ends too early")?;
+    Ok(cause_at(place.mark(), said, GRAMMAR))
+}
+
+/// The cause of a fault of grammar at a byte of a source: the token there, or the text's end.
+pub fn ungrammatical(alloc: Global, text: &[u8], at: usize) -> Result<Cause, AllocError> {
+    let tokens = tokens_of(alloc, text)?;
+    let number = tokens.as_slice().iter().position(|token| token.from >= at);
+    let number = number.unwrap_or(tokens.len());
+    cause_at_token(alloc, Place::new(text, tokens.as_slice(), number))
+}

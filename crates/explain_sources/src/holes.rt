@@ -1,0 +1,103 @@
+//! A text in which bytes begin no token: what stands in their place.
+
+use crate::spelling::{first_character, run_len};
+use st_lexer::{LexFault, Token, lex};
+use std::alloc::{AllocError, Global};
+use explain_tokens::{byte_at, part, tokens_of};
+
+/// The most places of a text that are passed over.
+const MOST_HOLES: usize = 20;
+
+/// A text, its tokens, and what stands between them.
+#[derive(Drop)]
+pub struct Lexed<'a> {
+    pub text: &'a [u8],
+    pub tokens: Vec<Token>,
+    /// What begins no token, each time from one byte to before another.
+    pub holes: Vec<(usize, usize)>,
+    /// Whether the text has more tokens, which aren't known.
+    pub is_cut: bool,
+}
+
+/// How many bytes stand up to a mark that closes what the first byte opens, with both; 1 where the line hasn't it.
+fn closed_len(bytes: &[u8], mark: u8) -> usize {
+    let inside = part(bytes, 1, bytes.len());
+    let is_inside = |byte: &u8| *byte != mark && *byte != b'\n';
+    let len = inside.iter().take_while(|byte| is_inside(*byte)).count();
+    let is_closed = inside.get(len) == Some(&mark);
+    if is_closed { len.saturating_add(2) } else { 1 }
+}
+
+/// How many bytes belong together that begin no token, and what may stand in their place; `None` where what follows can't be told.
+fn hole_of(bytes: &[u8]) -> Option<(usize, &'static str)> {
+    let len = run_len(bytes);
+    match bytes {
+        [b't' | b'T', b'#', ..] if bytes.get(len) == Some(&b',') => {
+            let decimals = run_len(part(bytes, len.saturating_add(1), bytes.len()));
+            Some((len.saturating_add(1).saturating_add(decimals), "0"))
+        }
+        [b'0'..=b'9' | b'a'..=b'z' | b'A'..=b'Z' | b'_', ..] => Some((len, "0")),
+        [b'%', b'a'..=b'z' | b'A'..=b'Z', ..] => {
+            let len = run_len(part(bytes, 1, bytes.len())).saturating_add(1);
+            Some((len, if len > 2 { "%M0" } else { "" }))
+        }
+        [b'(' | b'/', b'*', ..] | [0xFF, 0xFE, ..] | [0xFE, 0xFF, ..] | [0, ..] | [] => None,
+        [mark @ (b'\'' | b'"'), ..] => {
+            let len = closed_len(bytes, *mark);
+            Some((len, if len > 2 { " 0" } else { "" }))
+        }
+        [b'{', ..] => Some((closed_len(bytes, b'}'), "")),
+        [b'#', b'a'..=b'z' | b'A'..=b'Z' | b'_', ..] => Some((1, "")),
+        [b'#', ..] => Some((bytes.iter().take_while(|byte| **byte != b'\n').count(), "")),
+        [b'|', b'|', ..] => Some((2, "&")),
+        [b'!' | b'~', b'=', ..] => Some((2, "<>")),
+        _ => Some((first_character(bytes).len().max(1), "")),
+    }
+}
+
+/// The tokens of a text, and what stands between them.
+pub fn tokens_with_holes(alloc: Global, text: &[u8]) -> Result<Lexed<'_>, AllocError> {
+    let mut read = Vec::new(alloc);
+    let mut holes = Vec::new(alloc);
+    let mut is_cut = true;
+    for _ in 0..MOST_HOLES {
+        let rest = part(text, read.len(), text.len());
+        let (line, column) = match lex(alloc, rest) {
+            Ok(_) => {
+                read.extend_from_slice(rest)?;
+                is_cut = false;
+                break;
+            }
+            Err(LexFault::Memory) => return Err(AllocError),
+            Err(LexFault::Bad { line, column }) => (line, column),
+        };
+        read.extend_from_slice(part(rest, 0, byte_at(rest, line, column)))?;
+        let at = read.len();
+        let Some((len, put)) = hole_of(part(text, at, text.len())) else {
+            holes.push((at, text.len()))?;
+            break;
+        };
+        let until = at.saturating_add(len).min(text.len());
+        read.extend_from_slice(put.as_bytes())?;
+        for _ in read.len()..until {
+            read.push(b' ')?;
+        }
+        holes.push((at, until))?;
+    }
+    let tokens = tokens_of(alloc, read.as_slice())?;
+    is_cut = is_cut || tokens.is_empty() && !holes.is_empty();
+    Ok(Lexed {
+        text,
+        tokens,
+        holes,
+        is_cut,
+    })
+}
+
+impl<'a> Lexed<'a> {
+    /// Whether bytes that begin no token stand in a part of the text.
+    pub fn has_hole(&self, from: usize, until: usize) -> bool {
+        let mut holes = self.holes.as_slice().iter();
+        holes.any(|hole| hole.0 <= until && from <= hole.1)
+    }
+}

@@ -1,0 +1,210 @@
+//! How a source is read on behind a token with which it can't go on: what is left out, and what is put in its place.
+
+use crate::grammar::{has_nested, unopened};
+use crate::words::misnomer;
+use plant_types::same_word;
+use std::cmp::Ordering;
+use explain_tokens::{Place, closing_of, fits, opens_section, sign_of};
+
+/// What is left out of tokens, from the one of a number to before another, and what is put in its place, as it is written.
+#[derive(Clone, Copy, Drop)]
+pub struct Mend {
+    pub from: usize,
+    pub until: usize,
+    pub put: &'static str,
+}
+
+/// Puts what is written in the place of tokens.
+fn with(from: usize, until: usize, put: &'static str) -> Mend {
+    Mend { from, until, put }
+}
+
+/// Puts what is written in the place of a token.
+fn instead(place: Place<'_>, put: &'static str) -> Mend {
+    with(place.number, place.next().number, put)
+}
+
+/// The number of the first token of the declaration, or behind the labels before it of the statement, in which a token stands.
+pub fn statement_start(place: Place<'_>) -> usize {
+    let ends = if place.is_declared() {
+        ";|SECTION"
+    } else {
+        ";|:|THEN|DO|ELSE|OF|CLOSING|UNIT"
+    };
+    match place.open(ends, "", "") {
+        Some(end) if fits("UNIT", end.sign()) => end.number.saturating_add(2).min(place.number),
+        Some(end) => end.next().number,
+        None => 0,
+    }
+}
+
+/// The first keyword from a token on with which something else begins or ends, or the first `;`; else the place behind the last token.
+fn next_end(place: Place<'_>) -> Place<'_> {
+    place.ahead(if place.is_declared() {
+        ";|OUTER"
+    } else {
+        ";|OF|OUTER"
+    })
+}
+
+/// The token behind the statement or the declaration in which a token stands: behind its `;`, unless a `)` follows that closes nothing, or what ends the
+/// statements around it. `None` where it isn't certain.
+fn statement_end(place: Place<'_>) -> Option<Place<'_>> {
+    let mut end = next_end(place);
+    for _ in 0..8 {
+        if end.sign() != ";" {
+            break;
+        }
+        let behind = end.next();
+        end = next_end(behind);
+        let mut between = (behind.number..end.number).map(|number| place.at(number));
+        if !between.any(|place| place.sign() == ")" && place.parenthesis().is_none()) {
+            return Some(behind);
+        }
+    }
+    let is_certain = !fits("none|THEN|DO|OF|TO|BY", end.sign());
+    is_certain.then_some(end)
+}
+
+/// Without the statement or the declaration in which a token stands. Not where a statement may be a declaration, or a word that closes something.
+fn past_statement(place: Place<'_>) -> Option<Mend> {
+    let (from, end) = (statement_start(place), statement_end(place)?);
+    let is_word = from.saturating_add(1) == place.number && place.sign() == ";";
+    let mut inside = (from..end.number).map(|number| place.at(number));
+    let is_certain = match place.opener() {
+        opener if opens_section(opener) => end.before(1) == ";" || end.sign() == "END_VAR",
+        _ => !is_word
+            && !inside.any(|place| place.sign() == ":" && fits("word|KIND", place.behind(1))),
+    };
+    is_certain.then_some(with(from, end.number, ""))
+}
+
+/// Behind the loop of another dialect, which ends with a word and a `;`.
+fn past_loop(place: Place<'_>, end: &str) -> Option<Mend> {
+    let mut behind = (place.number..place.tokens.len()).map(|number| place.at(number));
+    let end = behind
+        .find(|place| same_word(place.word().as_bytes(), end.as_bytes()))?
+        .next();
+    (end.sign() == ";").then_some(with(place.number, end.next().number, ""))
+}
+
+/// Behind a comment that ends too early, since another one stands in it: without what follows up to the next `*)`.
+fn past_comment(place: Place<'_>) -> Option<Mend> {
+    let both = [place.previous(), place];
+    let first = both.into_iter().find(|place| has_nested(place.gap()))?;
+    let mut behind = (first.number..place.tokens.len()).map(|number| place.at(number));
+    let end = behind.find(|place| [place.sign(), place.behind(1)] == ["*", ")"])?;
+    Some(with(first.number, end.next().next().number, ""))
+}
+
+/// In the head of a statement: with one that is right.
+fn past_head(place: Place<'_>, head: Place<'_>) -> Option<Mend> {
+    let put = match head.sign() {
+        "CASE" => "0 OF",
+        "FOR" => "i := 0 TO 0 DO",
+        _ => "TRUE THEN",
+    };
+    let end = place.ahead(";|THEN|DO|OF|PART|SECTION|UNIT");
+    let end = if end.sign() == ";" { end.next() } else { end };
+    let mend = with(head.next().number, end.next().number, put);
+    fits("THEN|DO|OF", end.sign()).then_some(mend)
+}
+
+/// Whether a keyword stands more often in a unit than what it closes is opened there, or less often.
+fn closed_in(place: Place<'_>, closing: &str) -> Ordering {
+    let tokens = place.tokens.iter();
+    let closed = tokens
+        .filter(|token| sign_of(token.kind) == closing)
+        .count();
+    let tokens = place.tokens.iter();
+    let opened = tokens
+        .filter(|token| closing_of(sign_of(token.kind)) == closing)
+        .count();
+    closed.cmp(&opened)
+}
+
+/// At a keyword that closes something else than what is open, or nothing: with what closes that, where the unit has too few of it, or else without the keyword.
+fn past_keyword(place: Place<'_>) -> Option<Mend> {
+    let closing = match place.opener() {
+        opener @ ("IF" | "CASE" | "FOR") => closing_of(opener),
+        _ => "",
+    };
+    match (unopened(place), place.sign()) {
+        ("", _) => (!closing.is_empty()).then_some(with(place.number, place.number, closing)),
+        (_, "ELSIF") if closed_in(place, "END_IF").is_gt() => Some(instead(place, "IF")),
+        (_, "ELSIF") if closing == "END_CASE" => Some(instead(place, "ELSE")),
+        _ if !closing.is_empty() && closed_in(place, closing).is_lt() => Some(instead(
+            place, closing,
+        )),
+        _ if place.behind(1) == ";" => Some(with(place.number, place.next().next().number, "")),
+        _ => None,
+    }
+}
+
+/// Where a label is wrong: with another one, or without a word and its `:`.
+fn past_label(place: Place<'_>) -> Option<Mend> {
+    let colon = place.ahead(":|;|KEYWORD");
+    let mend = match place.stand() {
+        "begun" => with(statement_start(place), colon.next().number, ""),
+        _ => with(statement_start(place), colon.number, "0"),
+    };
+    (colon.sign() == ":").then_some(mend)
+}
+
+/// How to read on behind a word that is written otherwise.
+fn past_word(place: Place<'_>, way: &'static str) -> Option<Mend> {
+    match way {
+        "END_WHILE" | "END_REPEAT" => past_loop(place, way),
+        "skip" => Some(instead(place, "")),
+        "_" => opens_section(place.before(1)).then_some(instead(place, "")),
+        keyword => Some(instead(place, keyword)),
+    }
+}
+
+/// What is put before a token that lacks something there: of a call whose `(` nothing closes before the next `;` its end, so that no more is told of that.
+fn missing(place: Place<'_>) -> &'static str {
+    let (lacking, end) = (place.lacking().0, next_end(place));
+    if lacking == "," && end.sign() == ";" && end.parenthesis().is_some() {
+        ");"
+    } else {
+        lacking
+    }
+}
+
+/// How to read on behind a token with which no source can go on; `None` where that isn't certain.
+pub fn way_on(place: Place<'_>) -> Option<Mend> {
+    let (here, previous) = (place.number, place.previous().number);
+    if let Some(mend) = past_comment(place) {
+        return Some(mend);
+    }
+    match misnomer(place) {
+        Some((place, way, ..)) if way != "part" => return past_word(place, way),
+        _ => {}
+    }
+    match (place.stand(), place.sign()) {
+        _ if place.lacks_end() => Some(with(here, here, missing(place))),
+        ("declared", "(") => Some(with(previous, previous, "END_VAR")),
+        ("declaration", "IF" | "CASE" | "FOR") => Some(with(here, here, "END_VAR")),
+        _ if place.is_declared() => past_statement(place),
+        ("label" | "labelled", _) => past_label(place),
+        ("begun", ":") if place.opener() == "CASE" => past_label(place),
+        ("statement", ":") => Some(instead(place, "")),
+        ("statement", sign) if fits("SECTION", sign) => {
+            let end = place.next().ahead("OUTER");
+            (end.sign() == "END_VAR").then_some(with(here, end.next().number, ""))
+        }
+        ("statement", sign) if fits("ELSIF|CLOSING", sign) && sign != "END_VAR" => past_keyword(
+            place,
+        ),
+        ("head", "VAR_INPUT" | "VAR_OUTPUT") => Some(instead(place, "VAR")),
+        ("top" | "behind" | "head" | "title", _) => None,
+        _ => match place.open(
+            "IF|ELSIF|CASE|FOR",
+            "",
+            ";|THEN|DO|OF|ELSE|CLOSING|SECTION|UNIT",
+        ) {
+            Some(head) => past_head(place, head),
+            None => past_statement(place),
+        },
+    }
+}

@@ -1,0 +1,201 @@
+//! What begins no token (C4).
+
+use plant_types::{is_name_byte, same_word};
+use std::alloc::{AllocError, Global};
+use std::str;
+use explain_tokens::{Cause, cause_at, fits, part};
+
+/// Where the rules of spelling stand.
+const SPELLING: &str = "docs/LANGUAGE.md, \"Spelling\"";
+
+/// What is said of marks that begin no token, and of characters that aren't of ASCII: the first line that has the mark tells, or that lists the character.
+const MARKS: &str = "\
+(* a comment begins here, and no *) ends it
+/* a comment begins here, and no */ ends it
+\" texts in quotes aren't part of the language
+' texts in quotes aren't part of the language
+{ braces aren't part of the language: there are no pragmas, and words as THEN and END_IF enclose statements
+} braces aren't part of the language: there are no pragmas, and words as THEN and END_IF enclose statements
+% this is no address: one is written as %IX0.0, %QD4 or %M*; a remainder is n MOD 2
+!-- a remark is written // .. or (* .. *)
+!= unequal is written <>
+~= unequal is written <>
+! not is written NOT, as in NOT a
+~ not is written NOT, as in NOT a
+| or is written OR, as in a OR b
+^ pointers and powers aren't part of the language
+?= an assignment is written :=
+? this isn't part of the language: an IF chooses between two values
+\\ a statement goes on in the next line without a mark, up to its ;
+# a remark is written // .. or (* .. *)
+\u{a0} this is a no-break space, which only looks like a blank: put a blank in its place
+\u{feff} this is a byte order mark, which can't be seen: it may stand at the start of a file alone, so delete it
+\u{2000}\u{2001}\u{2002}\u{2003}\u{2004}\u{2005}\u{2006}\u{2007}\u{2008}\u{2009}\u{200a}\u{202f}\u{3000} this only looks like a blank: put a blank in its place
+\u{200b}\u{200c}\u{200d}\u{200e}\u{200f}\u{2060}\u{ad} this character can't be seen: delete it
+‐‑‒–—―− this is a dash, which only looks like a minus: put a - in its place
+‘’‚‛“”„‟«» texts in quotes aren't part of the language
+≠ unequal is written <>
+≤ at most is written <=
+≥ at least is written >=
+×· a product is written with *, as in n * 2
+÷ a quotient is written with /, as in n / 2
+！＂＃＄％＆＇（）＊＋，－．／０１２３４５６７８９：；＜＝＞？＠ＡＢＣＤＥＦＧＨＩＪＫＬＭＮＯＰＱＲＳＴＵＶＷＸＹＺ［＼］＾＿｀ａｂｃｄｅｆｇｈｉｊｋｌｍｎｏｐｑｒｓｔｕｖｗｘｙｚ｛｜｝～\u{37e} this only looks like a character of ASCII: type that in its place
+";
+
+/// With how many letters, digits, underscores, `#` and points bytes begin.
+pub fn run_len(bytes: &[u8]) -> usize {
+    bytes
+        .iter()
+        .take_while(|byte| is_name_byte(**byte) || matches!(**byte, b'#' | b'.'))
+        .count()
+}
+
+/// The character that bytes begin with; empty where they begin with none.
+pub fn first_character(bytes: &[u8]) -> &str {
+    let mut lengths = 1..5;
+    let found = lengths.find_map(|len| str::from_utf8(part(bytes, 0, len)).ok());
+    found.unwrap_or("")
+}
+
+/// Whether letters are those of a unit of time.
+fn is_unit(letters: &[u8]) -> bool {
+    fits("d|h|m|s|ms", str::from_utf8(letters).unwrap_or(""))
+}
+
+/// Why a duration isn't allowed, by what stands behind its `#` and the byte behind all that.
+fn duration_fault(parts: &[u8], behind: Option<&u8>) -> &'static str {
+    let mut words = parts.split(|byte| !byte.is_ascii_alphabetic());
+    match parts {
+        [] => "' is no duration: right behind the # stand numbers and their units, as in T#1m30s",
+        _ if words.any(|word| !word.is_empty() && !is_unit(word)) =>
+            "' is no duration: its units are d, h, m, s and ms, as in T#1m30s",
+        [.., b'0'..=b'9'] if behind == Some(&b',') =>
+            "' is no duration: its decimals stand behind a point, as in T#1.5s",
+        [.., b'0'..=b'9'] =>
+            "' is no duration: behind each of its numbers stands a unit, d, h, m, s or ms, as in T#1m30s",
+        _ =>
+            "' is no duration: its parts come in the order d, h, m, s, ms, each once, and it is a whole number of milliseconds",
+    }
+}
+
+/// Why a word with a `#` isn't allowed, by the byte behind it.
+fn literal_fault(word: &str, behind: Option<&u8>) -> &'static str {
+    match word.split_once("#") {
+        None => "' is no word: it has letters, digits and underscores",
+        Some((prefix, parts)) if fits("T|TIME", prefix) => duration_fault(parts.as_bytes(), behind),
+        Some((prefix, _)) if fits("DINT", prefix) =>
+            "' is no DINT: it is a whole number from -2147483648 to 2147483647",
+        Some((prefix, _)) if fits("BOOL", prefix) =>
+            "' is no BOOL: TRUE, FALSE, 1 or 0 stands behind the #",
+        _ => "' is no literal here: before a # stand T, TIME, DINT, BOOL, 2, 8 or 16",
+    }
+}
+
+/// With how many digits a number begins, and single underscores that part them.
+fn digits_len(word: &[u8]) -> usize {
+    let next = |number: usize| word.get(number.saturating_add(1));
+    word.iter()
+        .enumerate()
+        .take_while(|(number, byte)| {
+            let parts = **byte == b'_' && next(*number).is_some_and(|next| next.is_ascii_digit());
+            byte.is_ascii_digit() || parts
+        })
+        .count()
+}
+
+/// Why a literal that begins with a digit isn't allowed.
+fn number_fault(word: &[u8]) -> &'static str {
+    let len = digits_len(word);
+    match (word, part(word, len, word.len())) {
+        ([b'0', b'x' | b'X', ..], _) => "' is no number: one to the base 16 is written 16#FF",
+        ([b'0', b'b' | b'B', b'0' | b'1', ..], _) =>
+            "' is no number: one to the base 2 is written 2#101",
+        (_, [b'e' | b'E', power @ ..])
+            if !power.is_empty() && power.iter().all(|digit| digit.is_ascii_digit()) =>
+            "' is no number: its digits are written out, as 1000 for 1e3",
+        (_, behind) if is_unit(behind) =>
+            "' is no number; a duration has T# before it, as in T#5s, and no blanks in it",
+        (_, [b'.', b'0'..=b'9', ..]) =>
+            "' is no number: there are no REALs, and an integer is at most 2147483648; 12.5 is written as 125, in tenths",
+        (_, [] | [b'.', ..]) => "' is too large: an integer is at most 2147483648",
+        (_, [b'#', ..]) =>
+            "' is no number: before a # stand 2, 8 or 16, and behind it digits to that base",
+        (_, [first, next, ..])
+            if first.is_ascii_alphabetic() && !next.is_ascii_digit() && is_name_byte(*next) =>
+            "' is no number, since letters stand in it, and no name, since that begins with a letter",
+        _ => "' is no number: single underscores may part its digits, and no letter may follow it",
+    }
+}
+
+/// Whether a quote that bytes begin with opens a name: nothing else stands in it, and behind it stands what may stand behind one, or before it PROGRAM or
+/// FUNCTION_BLOCK.
+fn quotes_name(before: &[u8], bytes: &[u8]) -> bool {
+    let inside = part(bytes, 1, bytes.len());
+    let is_of_name = |byte: &u8| is_name_byte(*byte) || *byte == b' ';
+    let len = inside.iter().take_while(|byte| is_of_name(*byte)).count();
+    let behind = part(inside, len.saturating_add(1), inside.len()).trim_ascii_start();
+    let before = before.trim_ascii_end();
+    let word = before
+        .iter()
+        .rev()
+        .take_while(|byte| is_name_byte(**byte))
+        .count();
+    let word = part(before, before.len().saturating_sub(word), before.len());
+    let is_unit = same_word(word, b"PROGRAM") || same_word(word, b"FUNCTION_BLOCK");
+    let goes_on = matches!(behind, [b'.' | b'(', ..] | [b':', b'=', ..]);
+    len > 0 && inside.get(len) == Some(&b'"') && (goes_on || is_unit)
+}
+
+/// What is said of bytes that begin with a mark or with a character that isn't of ASCII.
+fn mark_fault(bytes: &[u8]) -> &'static str {
+    let character = first_character(bytes);
+    let mut rows = MARKS.lines().filter_map(|line| line.split_once(" "));
+    let row = rows.find(|row| {
+        bytes.starts_with(row.0.as_bytes()) || character.len() > 1 && row.0.contains(character)
+    });
+    match (row, bytes) {
+        (Some((_, said)), _) => said,
+        (None, [0x80..=0xFF, ..]) =>
+            "this character may stand in comments alone: words have letters of ASCII",
+        _ => "no word, number or symbol begins with this character",
+    }
+}
+
+/// What is said of bytes that begin with another one than a letter or a digit, behind others.
+fn other_fault(before: &[u8], bytes: &[u8]) -> &'static str {
+    match (before, bytes) {
+        ([] | [_], [0xFF, 0xFE, ..] | [0xFE, 0xFF, ..] | [_, 0, ..] | [0, ..]) =>
+            "this file is no UTF-8, but looks like UTF-16: save it as UTF-8",
+        (_, [0..=0x1F | 0x7F, ..]) => "this is a control character, which can't be seen: delete it",
+        ([.., b'0'..=b'9'], [b'\'', b'0'..=b'9', ..]) =>
+            "no ' stands in a number: underscores may part its digits, as in 1_000",
+        (_, [b'"', ..]) if quotes_name(before, bytes) => "a name stands without quotes here",
+        ([.., b'.'], [b'%', ..]) => "a bit of a number has no name",
+        (_, [b'%', next, ..]) if *next != b' ' =>
+            "this is no address: one is written as %IX0.0, %QD4 or %M*",
+        (_, [b'$', next, ..]) if next.is_ascii_hexdigit() =>
+            "a number to the base 16 is written 16#FF",
+        (_, [b'#', b'0'..=b'9', ..]) =>
+            "a # stands inside of literals, without blanks, as in T#5s or 16#FF; a remark is written // .. or (* .. *)",
+        (_, [b'#', next, ..]) if is_name_byte(*next) =>
+            "no # stands before a name or a word; a remark is written // .. or (* .. *)",
+        _ => mark_fault(bytes),
+    }
+}
+
+/// The cause of a fault of spelling at a byte of a source.
+pub fn misspelled_at(alloc: Global, text: &[u8], at: usize) -> Result<Cause, AllocError> {
+    let bytes = part(text, at, text.len());
+    let until = at.saturating_add(run_len(bytes));
+    let word = str::from_utf8(part(text, at, until)).unwrap_or("");
+    let why = match bytes {
+        [b'0'..=b'9', ..] => number_fault(word.as_bytes()),
+        [b'a'..=b'z' | b'A'..=b'Z' | b'_', ..] => literal_fault(word, text.get(until)),
+        _ => {
+            let said = String::from_str(alloc, other_fault(part(text, 0, at), bytes))?;
+            let until = at.saturating_add(bytes.len().min(1));
+            return Ok(cause_at((at, until), said, SPELLING));
+        }
+    };
+    Ok(cause_at((at, until), format!(in alloc; "'{word}{why}")?, SPELLING))
+}

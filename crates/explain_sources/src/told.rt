@@ -1,0 +1,173 @@
+//! All causes of a source.
+
+use crate::grammar::cause_at_token;
+use crate::holes::{Lexed, tokens_with_holes};
+use crate::mend::{Mend, statement_start, way_on};
+use crate::spelling::misspelled_at;
+use st_lexer::Token;
+use st_parser::{ParseFault, parse};
+use std::alloc::{AllocError, Global};
+use explain_tokens::{Cause, Place, fits, tokens_of};
+
+/// A unit is read at most so often.
+const MOST_READINGS: usize = 40;
+
+/// So many tokens behind a unit are looked at.
+const AHEAD: usize = 2;
+
+/// How much is left to be told and to be read.
+#[derive(Clone, Copy, Drop)]
+pub struct Reading {
+    /// How many causes.
+    pub causes: usize,
+    /// How many tokens.
+    pub tokens: usize,
+}
+
+/// The bytes around a token at which a unit stops: from where its statement or its declaration begins to where that is left out.
+fn around(place: Place<'_>, mend: Option<Mend>) -> (usize, usize) {
+    let start = statement_start(place).min(place.number);
+    let (from, until) = mend.map_or((start, 0), |mend| (mend.from.min(start), mend.until));
+    let last = place.at(place.number.max(until.saturating_sub(1)));
+    (place.at(from).mark().0, last.mark().1)
+}
+
+/// The tokens of a unit with a mend at one of them.
+fn mended(alloc: Global, tokens: &[Token], mend: Mend) -> Result<Vec<Token>, AllocError> {
+    let at = tokens.get(mend.from).map_or(0, |token| token.from);
+    let mut all = Vec::from_slice(alloc, tokens.get(..mend.from).unwrap_or(tokens))?;
+    for token in tokens_of(alloc, mend.put.as_bytes())?.as_slice() {
+        all.push(Token {
+            kind: token.kind,
+            from: at,
+            until: at,
+        })?;
+    }
+    all.extend_from_slice(tokens.get(mend.until..).unwrap_or(&[]))?;
+    Ok(all)
+}
+
+/// What is told of a source.
+#[derive(Drop)]
+pub struct Told {
+    /// What is wrong in its spelling and its grammar, in order of text.
+    pub causes: Vec<Cause>,
+    /// What is left to be told and to be read.
+    pub left: Reading,
+    /// The byte at which its blocks and programs begin, above which all its globals stand, spelled rightly; `None` where that isn't certain.
+    pub units: Option<usize>,
+}
+
+impl Told {
+    /// Tells the cause at a token.
+    fn tell(&mut self, alloc: Global, place: Place<'_>) -> Result<(), AllocError> {
+        self.causes.push(cause_at_token(alloc, place)?)?;
+        self.left.causes = self.left.causes.saturating_sub(1);
+        Ok(())
+    }
+
+    /// Reads the tokens of a unit once: the number of the one with which it can't go on; `None` where it ends, or no more is read.
+    fn stop_of(
+        &mut self,
+        alloc: Global,
+        text: &[u8],
+        unit: &[Token],
+    ) -> Result<Option<usize>, AllocError> {
+        if self.left.tokens < unit.len() {
+            return Ok(None);
+        }
+        self.left.tokens = self.left.tokens.saturating_sub(unit.len());
+        match parse(alloc, text, unit) {
+            Ok(_) => Ok(None),
+            Err(ParseFault::Memory) => Err(AllocError),
+            Err(ParseFault::At { token }) => Ok(Some(token)),
+        }
+    }
+
+    /// Reads a unit, whose tokens stand before some that follow it, as often as it is mended; whether it ends before these. What is behind its end isn't told
+    /// where the unit above has none (`is_apart`).
+    fn read_unit(
+        &mut self,
+        alloc: Global,
+        lexed: &Lexed<'_>,
+        mut tokens: Vec<Token>,
+        (ahead, is_apart): (usize, bool),
+    ) -> Result<bool, AllocError> {
+        let mut last = None;
+        for _ in 0..MOST_READINGS {
+            let len = tokens.len().saturating_sub(ahead);
+            let unit = tokens.as_slice().get(..len).unwrap_or(&[]);
+            let Some(number) = self.stop_of(alloc, lexed.text, unit)? else {
+                return Ok(true);
+            };
+            let place = Place::new(lexed.text, tokens.as_slice(), number);
+            if number >= len && (ahead > 0 || !lexed.is_cut) {
+                self.tell(alloc, place)?;
+            }
+            if number >= len || !is_apart && place.stand() == "behind" {
+                return Ok(number < len);
+            }
+            let (mend, at) = (way_on(place), place.mark().0);
+            let (from, until) = around(place, mend);
+            if last.is_none_or(|last| last < at) && !lexed.has_hole(from, until) {
+                self.tell(alloc, place)?;
+            }
+            last = Some(at);
+            match mend {
+                Some(mend) if self.left.causes > 0 => {
+                    tokens = mended(alloc, tokens.as_slice(), mend)?;
+                }
+                _ => return Ok(true),
+            }
+        }
+        Ok(true)
+    }
+
+    /// Tells what is wrong in the units and the sections of globals, each of which begins with its keyword.
+    fn read_units(&mut self, alloc: Global, lexed: &Lexed<'_>) -> Result<(), AllocError> {
+        let tokens = lexed.tokens.as_slice();
+        let mut first = Place::new(lexed.text, tokens, 0);
+        let mut is_closed = true;
+        let mut has_units = false;
+        for _ in 0..tokens.len() {
+            if first.number >= tokens.len() || self.left.causes == 0 {
+                return Ok(());
+            }
+            let end = first.next().ahead("UNIT|VAR_GLOBAL");
+            let are_globals = first.sign() == "VAR_GLOBAL";
+            if are_globals && has_units && is_closed {
+                self.tell(alloc, first)?;
+            }
+            if is_closed || !are_globals {
+                let ahead = AHEAD.min(tokens.len().saturating_sub(end.number));
+                let unit = tokens.get(first.number..end.number.saturating_add(ahead));
+                let unit = Vec::from_slice(alloc, unit.unwrap_or(&[]))?;
+                is_closed = self.read_unit(alloc, lexed, unit, (ahead, is_closed))?;
+            }
+            has_units = has_units || fits("UNIT", first.sign());
+            first = end;
+        }
+        Ok(())
+    }
+}
+
+/// What is wrong in the spelling and the grammar of a source, as far as that is left to be told and to be read.
+pub fn tell(alloc: Global, text: &[u8], left: Reading) -> Result<Told, AllocError> {
+    let lexed = tokens_with_holes(alloc, text)?;
+    let first = Place::new(text, lexed.tokens.as_slice(), 0).ahead("UNIT");
+    let start = first.mark().0;
+    let are_above = first.ahead("VAR_GLOBAL").sign().is_empty();
+    let is_certain = are_above && !lexed.is_cut && !lexed.has_hole(0, start);
+    let mut told = Told {
+        causes: Vec::new(alloc),
+        left,
+        units: is_certain.then_some(start),
+    };
+    told.read_units(alloc, &lexed)?;
+    for hole in lexed.holes.as_slice() {
+        told.causes.push(misspelled_at(alloc, text, hole.0)?)?;
+    }
+    let start_of = |cause: &Cause| cause.mark.map_or(0, |mark| mark.0);
+    told.causes.sort_by_key(start_of)?;
+    Ok(told)
+}

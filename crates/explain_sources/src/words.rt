@@ -1,0 +1,159 @@
+//! Words that are written otherwise here: those of other dialects, and words that are nearly a keyword (C5).
+
+use crate::grammar::GRAMMAR;
+use plant_types::same_word;
+use explain_tokens::{Place, closing_of, fits, part, said_of, within_one};
+
+/// Where it stands what of the standard isn't there.
+const STANDARD: &str = "docs/LANGUAGE.md, \"What of IEC 61131-3 is here\"";
+
+/// Words of other dialects beside something: behind a `number`, as an `operator` behind another value, in the place of a `kind`, behind the name of a `unit`,
+/// or in a `pair` with BLOCK. Behind each stands how a source is read on (`Misnomer`), and what is said.
+const BESIDE: &str = "\
+number s|ms|m|h|d part is no unit here: a duration is written as T#5s, without blanks
+number|operator DIV part isn't part of the language: a quotient is written n / 2
+number|operator STEP part isn't part of the language: the step of a FOR stands behind BY
+number|operator DOWNTO part isn't part of the language: a FOR counts down with BY -1
+number|operator AND_THEN part isn't part of the language: both is written AND
+number|operator OR_ELSE part isn't part of the language: either is written OR
+number|operator IS|EQ part isn't part of the language: equal is written =
+number|operator NE part isn't part of the language: unequal is written <>
+number|operator LT part isn't part of the language: less is written <
+number|operator GT part isn't part of the language: greater is written >
+number|operator LE part isn't part of the language: at most is written <=
+number|operator GE part isn't part of the language: at least is written >=
+number|operator REM part isn't part of the language: a remainder is written n MOD 2
+number|operator IN part isn't part of the language: CASE n OF has labels behind OF, and FOR i := 1 TO 8 its bounds behind :=
+kind POINTER|REFERENCE|REF_TO part isn't part of the language: there are no pointers, and a variable is named itself
+kind STRING|WSTRING part isn't part of the language: it has no texts, and its kinds are BOOL, DINT and TIME
+kind STRUCT|UNION _ isn't part of the language: its kinds are BOOL, DINT and TIME
+unit VERSION|TITLE|AUTHOR|FAMILY|NAME|KNOW_HOW_PROTECT _ isn't part of the language: a unit has a name alone, and a remark may tell the rest
+pair FUNCTION _ and BLOCK are one word: FUNCTION_BLOCK
+pair END_FUNCTION _ and BLOCK are one word: END_FUNCTION_BLOCK
+";
+
+/// Words of other dialects that begin something, the way to read on behind each, and what is said.
+const WORDS: &str = "\
+WHILE END_WHILE isn't part of the language: its loop is FOR, with constant bounds
+REPEAT END_REPEAT isn't part of the language: its loop is FOR, with constant bounds
+UNTIL|END_WHILE|END_REPEAT|LOOP _ isn't part of the language: its loop is FOR, with constant bounds
+EXIT|CONTINUE|RETURN|GOTO|JMP part isn't part of the language: an IF around the rest does the same
+LD|LDN|ST|STN _ isn't part of the language: there are no lists of instructions, and a value is assigned as in n := m;
+__TRY _ isn't part of the language: a program that traps stops until an operator restarts it
+BREAK part isn't part of the language: the statements of a label end before the next one
+ELSEIF|ELIF ELSIF is written ELSIF
+ENDIF|FI END_IF is written END_IF
+ENDCASE END_CASE is written END_CASE
+ENDFOR END_FOR is written END_FOR
+NEXT _ isn't part of the language: a FOR ends with END_FOR
+SWITCH _ is written CASE n OF
+WHEN _ isn't part of the language: IF and CASE choose
+DEFAULT|OTHERS part isn't part of the language: the last part of a CASE is ELSE, without a :
+END _ is no keyword: END_IF, END_CASE, END_FOR, END_VAR and END_PROGRAM are one word each
+FUNCTION _ isn't part of the language: a FUNCTION_BLOCK with an output does the same
+END_FUNCTION|END_FB END_FUNCTION_BLOCK is written END_FUNCTION_BLOCK
+FB FUNCTION_BLOCK is written FUNCTION_BLOCK
+ORGANIZATION_BLOCK|CONFIGURATION|RESOURCE|TASK _ isn't part of the language: each program runs once in a scan, in the order of the sources
+DATA_BLOCK|VAR_ACCESS _ isn't part of the language: VAR_GLOBAL has what several units use
+TYPE|STRUCT|UNION|END_TYPE|END_STRUCT _ isn't part of the language: its kinds are BOOL, DINT and TIME
+NAMESPACE|USING|IMPORT|LIBRARY _ isn't part of the language: all sources of a plant share their globals and blocks
+METHOD|PROPERTY|ACTION|EXTENDS|IMPLEMENTS|PUBLIC _ isn't part of the language: a FUNCTION_BLOCK has variables and one body
+PRIVATE|PROTECTED|INTERNAL|FINAL|CLASS|ABSTRACT|INTERFACE _ isn't part of the language: a FUNCTION_BLOCK has variables and one body
+BEGIN skip isn't part of the language: statements begin behind the last END_VAR, and a remark may part them
+REGION|END_REGION _ isn't part of the language: statements begin behind the last END_VAR, and a remark may part them
+CONSTANT _ isn't part of the language: a variable that nothing assigns keeps its initial value
+RETAIN|NON_RETAIN|PERSISTENT _ isn't part of the language: a variable keeps its value from scan to scan, and none beyond a run
+VAR_TEMP VAR isn't part of the language: VAR is, and keeps its values from scan to scan
+VAR_IN|INPUT VAR_INPUT is written VAR_INPUT
+OUTPUT|VAR_OUT VAR_OUTPUT is written VAR_OUTPUT
+GLOBAL|GLOBAL_VAR VAR_GLOBAL is written VAR_GLOBAL
+VAR_STAT|VAR_INST VAR is written VAR
+VAR_CONFIG _ isn't part of the language: an address stands in VAR_GLOBAL, as in pump AT %QX0.0 : BOOL
+VAR_IN_OUT VAR isn't part of the language: VAR_INPUT takes a value, and VAR_OUTPUT gives one
+CONST _ isn't part of the language: VAR is, with initial values that nothing assigns
+CAL|CALL part isn't part of the language: an instance is called as t(IN := a);
+PASS part isn't part of the language: an empty statement is a ; alone
+";
+
+/// The keywords that may stand where a token does, by the word for that; those that are looked at first stand first.
+const KEYWORDS: &str = "\
+valued THEN AND XOR MOD
+top|behind PROGRAM FUNCTION_BLOCK VAR_GLOBAL
+declaration VAR VAR_INPUT VAR_OUTPUT VAR_EXTERNAL END_VAR
+statement|label IF CASE FOR ELSE ELSIF END_IF END_CASE END_FOR END_PROGRAM END_FUNCTION_BLOCK
+head VAR VAR_INPUT VAR_OUTPUT VAR_EXTERNAL END_VAR IF CASE FOR ELSE ELSIF END_IF END_CASE END_FOR END_PROGRAM END_FUNCTION_BLOCK
+";
+
+/// A word that is written otherwise here; how a source is read on; what is said behind the word, in three parts; and where to read more. A source is read on
+/// with a keyword in its place, or behind what it ends with, END_WHILE or END_REPEAT; without it (`skip`), or without the statement or the declaration of which
+/// it is a `part`; where that isn't certain, there stands `_`.
+pub type Misnomer<'a> = (Place<'a>, &'static str, Said, &'static str);
+
+/// What is said behind a word, in three parts.
+pub type Said = (&'static str, &'static str, &'static str);
+
+/// What is said of a word by its site, or else by itself where it `is_first`; empty of a word of the language.
+fn said_at(site: &str, word: &str, is_first: bool) -> &'static str {
+    match said_of(BESIDE, &[site, word]) {
+        "" if is_first => said_of(WORDS, &[word]),
+        told => told,
+    }
+}
+
+/// The word of another dialect that a token is; `None` where it is none.
+fn foreign(place: Place<'_>) -> Option<Misnomer<'_>> {
+    let (word, behind, stand) = (place.word(), place.behind(1), place.stand());
+    let is_name = fits(":=|=|.", behind);
+    let site = match stand {
+        "kind" => "kind",
+        "head" if fits(":|=", behind) => "unit",
+        "valued" | "assigned" | "controlled" if is_name => "",
+        "valued" if fits("int|literal", place.before(1)) => "number",
+        "valued" | "assigned" | "controlled" => "operator",
+        _ if same_word(place.next().word().as_bytes(), b"BLOCK") => "pair",
+        _ => "",
+    };
+    let is_first = fits("top|behind|head|declaration|statement|label", stand) && !is_name;
+    let (way, said) = said_at(site, word, is_first).split_once(" ")?;
+    Some((place, way, (said, "", ""), STANDARD))
+}
+
+/// The keyword that a word nearly is, but for one letter that isn't its first, or two that changed places: no assignment, no call, no declaration and no output
+/// goes on with that. `None` where it is none.
+fn meant(place: Place<'_>) -> Option<Misnomer<'_>> {
+    let word = place.word().as_bytes();
+    let mut keywords = said_of(KEYWORDS, &[place.stand()]).split(" ");
+    let keyword = keywords.find(|keyword| {
+        let (first, other) = (part(word, 0, 1), part(keyword.as_bytes(), 0, 1));
+        same_word(first, other) && within_one(word, keyword.as_bytes())
+    })?;
+    let may_be = match place.behind(1) {
+        ";" => keyword.starts_with("END") || keyword == "THEN",
+        "(" => keyword.len() < 5,
+        behind => fits("none|word|int|literal|address|KEYWORD", behind),
+    };
+    let said = ("is no keyword; did you mean ", keyword, "?");
+    let is_word = place.sign() == "word" && word.len() > 2;
+    (may_be && is_word).then_some((place, keyword, said, GRAMMAR))
+}
+
+/// The keyword that closes what is open, where a word begins as those do that close something; `None` where it doesn't.
+fn closing(place: Place<'_>) -> Option<Misnomer<'_>> {
+    let is_end = same_word(part(place.word().as_bytes(), 0, 3), b"END") && place.sign() == "word";
+    let keyword = closing_of(place.opener());
+    let said = ("is no keyword: ", keyword, " closes what is open here");
+    let may_end = fits("statement|declaration", place.stand());
+    (is_end && may_end).then_some((place, keyword, said, GRAMMAR))
+}
+
+/// The word by which a token can't be there, that one or the one before it; behind the last token one that is meant to close what is open.
+pub fn misnomer(place: Place<'_>) -> Option<Misnomer<'_>> {
+    let both = [place, place.previous()];
+    let closing = both.into_iter().find_map(closing);
+    if place.number >= place.tokens.len() {
+        return closing;
+    }
+    let foreign = both.into_iter().find_map(foreign);
+    let meant = both.into_iter().find_map(meant);
+    foreign.or(meant).or(closing)
+}

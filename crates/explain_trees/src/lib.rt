@@ -1,0 +1,36 @@
+//! The trees of a plant's sources for those who tell people what is wrong in them: which names there are, where each word stands, and which name is near
+//! another one.
+//!
+//! `entries_of` lists the names that sources declare, `Trees` finds those that all share, a `Body` has the names of a unit. Where a name is declared twice,
+//! or what it is declared as isn't there, it isn't certain what it is, and they say so. `steps_of` lists the statements of a body in order of text. A `Cursor`
+//! goes along the tokens of a source beside its tree, and so knows where literals and operators stand. `Told` keeps the mistakes that are found, and which
+//! comes first.
+//!
+//! Layer explain_: it must not know events or commands.
+#![tactic(auto)]
+
+mod body;
+mod circles;
+mod cursor;
+mod dialects;
+mod entries;
+mod globals;
+mod hints;
+mod members;
+mod steps;
+mod texts;
+mod told;
+mod trees;
+
+pub use body::{Body, kind_text};
+pub use circles::leads_back;
+pub use cursor::{Cursor, Sought};
+pub use dialects::type_hint;
+pub use entries::{Entry, Form, entries_of};
+pub use globals::no_bool_global;
+pub use hints::{Wanted, nearest_global, variable_hint};
+pub use members::{Member, members_of, other_use};
+pub use steps::{Step, steps_of};
+pub use texts::filled;
+pub use told::{Mistake, Rule, Told};
+pub use trees::{Source, Trees, mark_of, sources_of, units_of};

@@ -1,5 +1,0 @@
-use Rattle.history_laws.proofs.Playing.{one_history}
-use Rattle.history_laws.proofs.input_leaves_one_history.Goals as goal
-
-pub returns : goal.returns
-returns c = one_history

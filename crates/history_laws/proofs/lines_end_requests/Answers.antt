@@ -1,5 +1,0 @@
-use Rattle.history_laws.proofs.Lines.{lines_end}
-use Rattle.history_laws.proofs.lines_end_requests.Goals as goal
-
-pub returns : goal.returns
-returns c = lines_end

@@ -1,5 +1,0 @@
-use Rattle.history_laws.proofs.Playing.{played_alike}
-use Rattle.history_laws.proofs.state_decides_answers.Goals as goal
-
-pub returns : goal.returns
-returns c = played_alike

@@ -1,0 +1,39 @@
+//! Faults by the paths of the plant.
+
+ghost use Rattle.std.specs.Prelude.{◌≡◌, map, All, IfOk};
+ghost use Rattle.level_scans.specs.Faults.{IsOfProgram, placed_fault};
+
+use level_jobs::ProgramFault;
+use plant_types::{Place, Trap};
+use vm_logic::Framed;
+use std::alloc::{AllocError, Global};
+
+/// A fault, with the number that its path has among those of all programs.
+fn placed(framed: &Framed, fault: &ProgramFault) -> (Place, Trap)
+    requires { IsOfProgram framed.now fault.now }
+    ensures { result ≡ placed_fault framed.now fault.now }
+{
+    let place = fault.stop.place;
+    let base = framed.path_base(fault.program as usize);
+    let placed = Place {
+        path: base + place.path,
+        statement: place.statement,
+    };
+    (placed, fault.stop.trap)
+}
+
+/// Faults, with the numbers that their paths have among those of all programs.
+pub fn all_placed(
+    alloc: Global,
+    framed: &Framed,
+    faults: &[ProgramFault],
+) -> Result<Vec<(Place, Trap)>, AllocError>
+    requires { All (λ fault. IsOfProgram framed.now fault) faults.now }
+    ensures { IfOk result (λ all. all.items ≡ map (placed_fault framed.now) faults.now) }
+{
+    let mut all = Vec::with_capacity(alloc, faults.len())?;
+    for fault in faults {
+        all.push(placed(framed, fault))?;
+    }
+    Ok(all)
+}

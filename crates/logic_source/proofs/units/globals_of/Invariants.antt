@@ -1,0 +1,8 @@
+use Rattle.std.proofs.Common.{◌≡◌, ◌++◌, drop}
+use Rattle.std.specs.Prelude.{flat_map}
+use Rattle.logic_source.specs.Units.{global_of}
+use Rattle.logic_source.proofs.units.globals_of.Given as goal
+
+-- the globals so far, and those of the other names, are all
+abbrev pub invariant-loop-declared : goal.invariant-loop-declared
+invariant-loop-declared l = l.variables.items ++ flat_map global_of (drop l.declared-index l.list) ≡ flat_map global_of l.list

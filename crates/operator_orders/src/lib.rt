@@ -1,8 +1,0 @@
-//! What operators ask.
-//!
-//! An order is a verb and what it is for. Consoles submit orders, boards show them, and each that is taken is an event of a history.
-#![tactic(auto)]
-
-mod order;
-
-pub use order::Order;

@@ -1,6 +1,0 @@
-use Rattle.std.proofs.Common.{◌∙◌, ap, [], ◌∷◌}
-use Rattle.plant_logic.specs.Units.{source_in}
-use Rattle.part_rows.proofs.runs.push_judged.Goals as goal
-
-pub push_framed-requires : goal.push_framed-requires
-push_framed-requires c units have = c.in-Ok.ensures.made.0 ∙ ap source_in (c.one_answer.ensures.units (c.args.source.now ∷ []) c.args.typed units c.requires have)

@@ -1,5 +1,0 @@
-use Rattle.plant_walk.proofs.Small.{sound_named}
-use Rattle.plant_carry.proofs.carrying.are_distinct.Goals as goal
-
-pub returns : goal.returns
-returns c = sound_named c.args.framed.now c.programs-programs.ensures.sound

@@ -1,5 +1,0 @@
-use Rattle.plant_cells.proofs.Clocks.{clock_steps}
-use Rattle.plant_cells.proofs.laws.called_clock.Goals as goal
-
-pub returns : goal.returns
-returns c = clock_steps

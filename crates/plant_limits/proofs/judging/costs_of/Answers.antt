@@ -1,6 +1,0 @@
-use Rattle.std.proofs.Common.{arith}
-use Rattle.std.proofs.lemmas.Grind.{common_steps}
-use Rattle.plant_limits.proofs.judging.costs_of.Goals as goal
-
-pub loop-program-preserved : goal.loop-program-preserved
-loop-program-preserved c = grind (arith, common_steps)

@@ -1,5 +1,0 @@
-use Rattle.plant_logic.proofs.Levels.{by_its_rule}
-use Rattle.plant_logic.proofs.laws.answered_by_rule.Goals as goal
-
-pub returns : goal.returns
-returns g c = by_its_rule

@@ -1,5 +1,0 @@
-use Rattle.plant_logic.proofs.Carrying.{carried_in_range}
-use Rattle.plant_logic.proofs.laws.carried_world_is_in_range.Goals as goal
-
-pub returns : goal.returns
-returns c = carried_in_range

@@ -1,5 +1,0 @@
-use Rattle.plant_logic.proofs.KindPaths.{paths_all}
-use Rattle.plant_logic.proofs.laws.kinds_stand_at_all_values.Goals as goal
-
-pub returns : goal.returns
-returns c = paths_all

@@ -1,8 +1,0 @@
-use Rattle.std.proofs.Common.{◌≡◌, ◌++◌, drop}
-use Rattle.std.specs.Prelude.{flat_map}
-use Rattle.plant_logic.specs.Units.{global_row_of}
-use Rattle.plant_logic.proofs.units.global_rows_of.Given as goal
-
--- the arrays so far, and those of the other names, are all
-abbrev pub invariant-loop-declared : goal.invariant-loop-declared
-invariant-loop-declared l = l.rows.items ++ flat_map global_row_of (drop l.declared-index l.list) ≡ flat_map global_row_of l.list

@@ -1,8 +1,0 @@
-use Rattle.std.proofs.Common.{◌≡◌, ◌++◌, drop}
-use Rattle.std.specs.Prelude.{flat_map}
-use Rattle.plant_logic.specs.Units.{global_of}
-use Rattle.plant_logic.proofs.units.globals_of.Given as goal
-
--- the globals so far, and those of the other names, are all
-abbrev pub invariant-loop-declared : goal.invariant-loop-declared
-invariant-loop-declared l = l.variables.items ++ flat_map global_of (drop l.declared-index l.list) ≡ flat_map global_of l.list

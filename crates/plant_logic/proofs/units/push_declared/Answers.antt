@@ -1,9 +1,0 @@
-use Rattle.std.proofs.Common.{arith}
-use Rattle.std.proofs.lemmas.Grind.{common_steps}
-use Rattle.plant_logic.proofs.units.push_declared.Goals as goal
-
-pub loop-declared-preserved : goal.loop-declared-preserved
-loop-declared-preserved c = grind (arith, common_steps)
-
-pub returns : goal.returns
-returns c = grind (arith, common_steps)

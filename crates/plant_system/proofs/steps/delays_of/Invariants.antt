@@ -1,6 +1,0 @@
-use Rattle.std.proofs.Common.{◌≡◌, take}
-use Rattle.plant_system.specs.System.{delays_of}
-use Rattle.plant_system.proofs.steps.delays_of.Given as goal
-
-abbrev pub invariant-loop-row : goal.invariant-loop-row
-invariant-loop-row l = l.delays.items ≡ delays_of (take l.row-index l.rows)

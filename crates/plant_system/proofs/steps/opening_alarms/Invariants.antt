@@ -1,6 +1,0 @@
-use Rattle.std.proofs.Common.{◌≡◌, take, map}
-use Rattle.plant_system.specs.System.{opening_alarm}
-use Rattle.plant_system.proofs.steps.opening_alarms.Given as goal
-
-abbrev pub invariant-loop-row : goal.invariant-loop-row
-invariant-loop-row l = l.alarms.items ≡ map opening_alarm (take l.row-index l.rows)

@@ -1,6 +1,0 @@
-use Rattle.std.proofs.Common.{◌≡◌, take}
-use Rattle.plant_system.specs.System.{sites_of}
-use Rattle.plant_system.proofs.steps.opening_sites.Given as goal
-
-abbrev pub invariant-loop-row : goal.invariant-loop-row
-invariant-loop-row l = l.sites.items ≡ sites_of (take l.row-index l.rows)

@@ -1,7 +1,0 @@
-use Rattle.std.proofs.Common.{◌≡◌, map, take}
-use Rattle.plant_cells.specs.Cells.{value_at}
-use Rattle.plant_system.specs.Steps.{output_in}
-use Rattle.plant_system.proofs.steps.renew.Given as goal
-
-abbrev pub invariant-loop-global : goal.invariant-loop-global
-invariant-loop-global l = l.renewed.items ≡ map (output_in (value_at l.cells)) (take l.global-index l.outputs)

@@ -1,5 +1,0 @@
-use Rattle.plant_walk.proofs.Ranges.{opening_in_range}
-use Rattle.plant_walk.proofs.laws.opening_world_is_in_range.Goals as goal
-
-pub returns : goal.returns
-returns c = opening_in_range

@@ -1,8 +1,0 @@
-use Rattle.plant_walk.proofs.Small.{few_globals, few_programs}
-use Rattle.plant_walk.proofs.laws.sound_source_is_small.Goals as goal
-
-pub returns-clause-globals : goal.returns-clause-globals
-returns-clause-globals c = few_globals
-
-pub returns-clause-programs : goal.returns-clause-programs
-returns-clause-programs c = few_programs

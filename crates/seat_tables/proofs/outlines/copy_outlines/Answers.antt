@@ -1,9 +1,0 @@
-use Rattle.std.proofs.Common.{arith}
-use Rattle.std.proofs.lemmas.Grind.{common_steps}
-use Rattle.seat_tables.proofs.outlines.copy_outlines.Goals as goal
-
-pub loop-outline-preserved : goal.loop-outline-preserved
-loop-outline-preserved c = grind (arith, common_steps)
-
-pub returns : goal.returns
-returns c = grind (arith, common_steps)

@@ -1,0 +1,14 @@
+use Rattle.std.proofs.Common.{false}
+use Rattle.plant_folder.specs.Verdicts.{IsVerdict}
+use Rattle.serve_runs.proofs.AdmitLaws.{quiet-texts}
+use Rattle.serve_runs.proofs.ServiceLaws.{run-served, run-stopped}
+use Rattle.serve_runs.proofs.service.run.Goals as goal
+
+pub returns-in-Ok-clause-run : goal.returns-in-Ok-clause-run
+returns-in-Ok-clause-run g c =
+    run-served (IsVerdict c.args.texts.now false) (quiet-texts c.args.texts.now) c.in-Ok-Some.plant _ _ _ _ _ (rw c.in-Ok-Some.field-0-is at c.in-Ok-Some.ensures.told) c.in-Ok.ensures.ok
+
+pub returns-in-Err-serve_plant-clause-run : goal.returns-in-Err-serve_plant-clause-run
+returns-in-Err-serve_plant-clause-run g c =
+    run-stopped (IsVerdict c.args.texts.now false) (quiet-texts c.args.texts.now) c.in-Ok-Some.plant _ _ _ _ _ (rw c.in-Ok-Some.field-0-is at c.in-Ok-Some.ensures.told) c.in-Err-serve_plant.fault
+    c.in-Err-serve_plant.ensures.err

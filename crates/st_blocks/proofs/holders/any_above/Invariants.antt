@@ -1,0 +1,6 @@
+use Rattle.std.proofs.Common.{◌≡◌, get_or, nat_lt, drop}
+use Rattle.std.specs.List.{list_any}
+use Rattle.st_blocks.proofs.holders.any_above.Given as goal
+
+abbrev pub invariant-loop-w : goal.invariant-loop-w
+invariant-loop-w l = list_any (λ w. nat_lt l.own (get_or l.components w 0)) (drop l.w-index l.row) ≡ list_any (λ w. nat_lt l.own (get_or l.components w 0)) l.row

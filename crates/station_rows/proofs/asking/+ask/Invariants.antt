@@ -1,5 +1,0 @@
-use Rattle.std.proofs.Common.{length}
-use Rattle.station_rows.proofs.asking.+ask.Given as goal
-
-abbrev pub decreases-ask : goal.decreases-ask
-decreases-ask l = length l.consoles.now

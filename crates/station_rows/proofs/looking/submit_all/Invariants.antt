@@ -1,6 +1,0 @@
-use Rattle.std.proofs.Common.{◌≤◌}
-use Rattle.station_rows.specs.Seated.{AreSame}
-use Rattle.station_rows.proofs.looking.submit_all.Given as goal
-
-abbrev pub invariant-loop : goal.invariant-loop
-invariant-loop l = AreSame l.fn.consoles l.consoles × (l.submitted ≤ l.counter)

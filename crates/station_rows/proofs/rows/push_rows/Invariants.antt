@@ -1,5 +1,0 @@
-use Rattle.station_rows.specs.Seated.{AreOf}
-use Rattle.station_rows.proofs.rows.push_rows.Given as goal
-
-abbrev pub invariant-loop-line : goal.invariant-loop-line
-invariant-loop-line g l = AreOf l.station.lanes l.consoles

@@ -1,0 +1,312 @@
+//! The lines of a run: commands, and the table's own words between them.
+
+use crate::answers::{push_accepted, push_answers, push_page, push_seen};
+use crate::beside::Beside;
+use crate::crews::Crews;
+use crate::folders::{push_checked, push_ran};
+use crate::gone::run_gone;
+use crate::plants::{Asked, Plan, plant_of};
+use crate::sessions::{asks_for_sessions, push_sessions};
+use crate::shown::push_shown;
+use crate::steps::push_step;
+use engine::{Alone, Crew, Done, Engine, Job, Start};
+use plant_config::Plant;
+use serve_runs::listing;
+use try_text::{Page, push_line};
+use std::alloc::Global;
+use std::sync::Wait;
+use std::thread::Threads;
+use try_twins::Walker;
+
+/// Adds a line to commands.
+fn add_command(page: &mut Page, commands: &mut Vec<u8>, line: &str) {
+    if push_line(commands, line).is_err() {
+        page.refuse();
+    }
+}
+
+/// Gives an engine its commands, and adds its answers. The programs beside it take the same commands.
+fn give<H: Threads + Wait + Sync, C: Crew<Job, Start, Done, H>>(
+    rt: &H,
+    alloc: Global,
+    engine: &mut Engine,
+    crew: &mut C,
+    beside: &mut Beside,
+    commands: &mut Vec<u8>,
+    page: &mut Page,
+)
+    requires { C.asks }
+{
+    push_answers(rt, alloc, page, engine, crew, commands.as_slice());
+    beside.take(alloc, page, engine, commands.as_slice());
+    commands.clear();
+}
+
+/// Gives a command so many times, and adds the answer to the last.
+fn repeat<H: Threads + Wait + Sync, C: Crew<Job, Start, Done, H>>(
+    rt: &H,
+    alloc: Global,
+    engine: &mut Engine,
+    crew: &mut C,
+    beside: &mut Beside,
+    page: &mut Page,
+    words: &str,
+)
+    requires { C.asks }
+{
+    let (times, command) = words.split_once(" ").unwrap_or((words, ""));
+    let times = times.parse::<u32>().unwrap_or(0);
+    let mut unseen = Page::new(alloc);
+    let mut commands = Vec::new(alloc);
+    for _ in 1..times {
+        add_command(page, &mut commands, command);
+    }
+    give(rt, alloc, engine, crew, beside, &mut commands, &mut unseen);
+    if unseen.is_short() {
+        page.refuse();
+    }
+    add_command(page, &mut commands, command);
+    give(rt, alloc, engine, crew, beside, &mut commands, page);
+}
+
+/// Gives an engine the command of a line by its own calls. The programs beside it take the same command.
+fn step<H, C: Crew<Job, Start, Done, H>>(
+    rt: &H,
+    alloc: Global,
+    engine: &mut Engine,
+    crew: &mut C,
+    beside: &mut Beside,
+    page: &mut Page,
+    is_ready: bool,
+    line: &str,
+)
+    requires { C.asks }
+{
+    push_step(rt, alloc, page, engine, crew, is_ready, line);
+    beside.take(alloc, page, engine, line.as_bytes());
+}
+
+/// Whether a line of a run is the table's own, and asks what the engine is given or shows next.
+fn is_own(line: &str) -> bool {
+    let (word, _) = line.split_once(" ").unwrap_or((line, ""));
+    matches!(
+        word,
+        "seen" | "repeat" | "show" | "listed" | "ready" | "step"
+    )
+}
+
+/// Takes a line of the table's own.
+fn take_own<H: Threads + Wait + Sync, C: Crew<Job, Start, Done, H>>(
+    rt: &H,
+    alloc: Global,
+    engine: &mut Engine,
+    crew: &mut C,
+    beside: &mut Beside,
+    page: &mut Page,
+    line: &str,
+)
+    requires { C.asks }
+{
+    let (word, words) = line.split_once(" ").unwrap_or((line, ""));
+    match word {
+        "repeat" => repeat(rt, alloc, engine, crew, beside, page, words),
+        "show" => push_shown(alloc, page, engine.plant(), words),
+        "listed" => page.add_made(listing(alloc, engine.plant())),
+        "ready" => step(rt, alloc, engine, crew, beside, page, true, words),
+        "step" => step(rt, alloc, engine, crew, beside, page, false, words),
+        _ => push_seen(page, engine),
+    }
+}
+
+/// Takes a line of a run.
+fn take<H: Threads + Wait + Sync, C: Crew<Job, Start, Done, H>>(
+    rt: &H,
+    alloc: Global,
+    engine: &mut Engine,
+    crew: &mut C,
+    beside: &mut Beside,
+    commands: &mut Vec<u8>,
+    page: &mut Page,
+    line: &str,
+)
+    requires { C.asks }
+{
+    if line.is_empty() {
+        return;
+    }
+    if asks_for_sessions(line) {
+        return push_sessions(
+            rt,
+            alloc,
+            crew,
+            page,
+            engine.plant(),
+            commands.as_slice(),
+            line,
+        );
+    }
+    if !is_own(line) {
+        return add_command(page, commands, line);
+    }
+    give(rt, alloc, engine, crew, beside, commands, page);
+    take_own(rt, alloc, engine, crew, beside, page, line);
+}
+
+/// Takes the lines of a run.
+fn take_all<H: Threads + Wait + Sync, C: Crew<Job, Start, Done, H>>(
+    rt: &H,
+    alloc: Global,
+    engine: &mut Engine,
+    crew: &mut C,
+    beside: &mut Beside,
+    page: &mut Page,
+    lines: &str,
+)
+    requires { C.asks }
+{
+    let mut commands = Vec::new(alloc);
+    for line in lines.lines() {
+        take(rt, alloc, engine, crew, beside, &mut commands, page, line);
+    }
+    give(rt, alloc, engine, crew, beside, &mut commands, page);
+}
+
+/// Runs an engine's plant on the lines of a run. The programs beside it are let go here alone.
+fn run_beside<H: Threads + Wait + Sync, C: Crew<Job, Start, Done, H>>(
+    rt: &H,
+    alloc: Global,
+    engine: &mut Engine,
+    crew: &mut C,
+    page: &mut Page,
+    walker: Walker,
+    lines: &str,
+)
+    requires { C.asks }
+{
+    match Beside::new(alloc, engine.plant(), walker) {
+        Ok(mut beside) => {
+            take_all(rt, alloc, engine, crew, &mut beside, page, lines);
+            drop(beside);
+        }
+        Err(_) => page.refuse(),
+    }
+}
+
+/// Runs a plant on the lines of a run. An engine is let go here alone.
+fn run_plant<H: Threads + Wait + Sync, C: Crew<Job, Start, Done, H>>(
+    rt: &H,
+    alloc: Global,
+    crew: &mut C,
+    page: &mut Page,
+    plant: (Plant, Walker),
+    lines: &str,
+)
+    requires { C.asks }
+{
+    let (plant, walker) = plant;
+    match Engine::new(alloc, plant) {
+        Ok(mut engine) => {
+            run_beside(rt, alloc, &mut engine, crew, page, walker, lines);
+            drop(engine);
+        }
+        Err(_) => {
+            drop(walker);
+            page.refuse()
+        }
+    }
+}
+
+/// Adds what there is of the plant of a plan: why there is no such plant, what it has if it is only checked, or its answers.
+fn push_read<H: Threads + Wait + Sync, C: Crew<Job, Start, Done, H>>(
+    rt: &H,
+    alloc: Global,
+    crew: &mut C,
+    page: &mut Page,
+    plan: &Plan<'_>,
+)
+    requires { C.asks }
+{
+    let Some((plant, walker)) = plant_of(rt, alloc, page, plan) else {
+        return;
+    };
+    match plan.asked {
+        Asked::Run => run_plant(rt, alloc, crew, page, (plant, walker), plan.lines),
+        Asked::RunGone => {
+            drop(walker);
+            run_gone(rt, alloc, crew, page, plant, plan.lines)
+        }
+        _ => {
+            drop(walker);
+            push_accepted(page, &plant);
+            drop(plant);
+        }
+    }
+}
+
+/// Adds what a plan asks for.
+fn push_plan<H: Threads + Wait + Sync, C: Crew<Job, Start, Done, H>>(
+    rt: &H,
+    alloc: Global,
+    crew: &mut C,
+    page: &mut Page,
+    plan: &Plan<'_>,
+)
+    requires { C.asks }
+{
+    match plan.asked {
+        Asked::Run | Asked::RunGone | Asked::Check | Asked::List => push_read(
+            rt, alloc, crew, page, plan,
+        ),
+        Asked::CheckFiles => push_checked(rt, alloc, page, plan),
+        Asked::RunFiles => push_ran(rt, alloc, crew, page, plan, false),
+        Asked::RunTexts => push_ran(rt, alloc, crew, page, plan, true),
+    }
+}
+
+/// What a plan asks for.
+fn page_of<H: Threads + Wait + Sync, C: Crew<Job, Start, Done, H>>(
+    rt: &H,
+    alloc: Global,
+    crew: &mut C,
+    plan: &Plan<'_>,
+) -> Page
+    requires { C.asks }
+{
+    let mut page = Page::new(alloc);
+    push_plan(rt, alloc, crew, &mut page, plan);
+    page
+}
+
+/// What a plan asks for. Where memory is refused it is asked for once more.
+pub fn page_again<H: Threads + Wait + Sync, C: Crew<Job, Start, Done, H>>(
+    rt: &H,
+    alloc: Global,
+    crew: &mut C,
+    plan: &Plan<'_>,
+) -> Page
+    requires { C.asks }
+{
+    let page = page_of(rt, alloc, crew, plan);
+    if page.is_short() {
+        return page_of(rt, alloc, crew, plan);
+    }
+    page
+}
+
+/// Adds what a plan asks for. Where it serves a plant, it is asked for once more by each crew of workers.
+pub fn push_plan_by_all<H: Threads + Wait + Sync>(
+    rt: &H,
+    alloc: Global,
+    crews: &mut Crews,
+    text: &mut Page,
+    plan: &Plan<'_>,
+) {
+    let alone = page_again(rt, alloc, &mut Alone, plan);
+    push_page(text, &alone);
+    if plan.is_for_crews() {
+        let two = page_again(rt, alloc, &mut crews.two, plan);
+        crews.hold(text, &alone, "2", &two);
+        let eight = page_again(rt, alloc, &mut crews.eight, plan);
+        crews.hold(text, &alone, "8", &eight);
+    }
+}

@@ -1,6 +1,0 @@
-use Rattle.std.proofs.Common.{◌≡◌, length}
-use Rattle.twin_runs.proofs.jobs.shuffle.Given as goal
-
--- the things stay as many
-abbrev pub invariant-loop-last : goal.invariant-loop-last
-invariant-loop-last g l = length l.things ≡ length l.fn.things

@@ -1,4 +1,0 @@
-use Rattle.twin_runs.proofs.levels.run_by_levels.Goals as goal
-
-pub run_levels-requires-clause-can : goal.run_levels-requires-clause-can
-run_levels-requires-clause-can c = rw c.lend.ensures c.in-Ok.ensures.can

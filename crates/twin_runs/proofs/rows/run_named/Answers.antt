@@ -1,4 +1,0 @@
-use Rattle.twin_runs.proofs.rows.run_named.Goals as goal
-
-pub split-requires-clause-can : goal.split-requires-clause-can
-split-requires-clause-can c = c.in_ok-store.ensures.can c.args.handed.level

@@ -1,0 +1,9 @@
+//! The cells of a plant that was changed while it ran, by those of the old one.
+//!
+//! Layer vm_: it must not know alarms, files or threads.
+#![tactic(auto)]
+
+mod carrying;
+mod shapes;
+
+pub use carrying::carry;

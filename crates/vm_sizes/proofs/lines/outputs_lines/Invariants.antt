@@ -1,0 +1,8 @@
+use Rattle.std.proofs.Common.{◌≡◌, ◌+◌, map, drop}
+use Rattle.st_tree.specs.View.{view_argument}
+use Rattle.vm_sizes.specs.Sizes as sizes
+use Rattle.vm_sizes.proofs.lines.outputs_lines.Given as goal
+
+-- what is counted, and what is left to count, is all
+abbrev pub invariant-loop-argument : goal.invariant-loop-argument
+invariant-loop-argument l = l.total + sizes.outputs_lines (map view_argument (drop l.argument-index l.arguments)) ≡ sizes.outputs_lines (map view_argument l.arguments)

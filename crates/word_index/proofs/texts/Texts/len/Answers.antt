@@ -1,6 +1,0 @@
-use Rattle.std.proofs.Common.{length, ap, sym, ◌∙◌}
-use Rattle.word_index.proofs.Ending.{count_is}
-use Rattle.word_index.proofs.texts.Texts.len.Goals as goal
-
-pub returns-clause-count : goal.returns-clause-count
-returns-clause-count c = c.len.ensures ∙ c.self.inside.ends.ok.0 ∙ sym (count_is 0 _ _) ∙ ap length c.self.view_is
