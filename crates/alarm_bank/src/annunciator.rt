@@ -157,9 +157,10 @@ impl Annunciator {
         requires sups { length sups.now ≡ length self.old.bank.alarms }
         requires moment { moment ≤ LAST_MOMENT }
         ensures { self.new
-            ≡ record self.old
-            {bank = record self.old.bank
-            { alarms = scan_each conds.now sups.now moment self.old.bank.alarms; moment = moment }} }
+            ≡ record self.old {
+              bank = record self.old.bank
+                  { alarms = scan_each conds.now sups.now moment self.old.bank.alarms; moment = moment };
+            } }
     {
         for at in 0..conds.len() {
             let mut alarm = self.alarms[at];

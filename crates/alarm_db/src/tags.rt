@@ -4,9 +4,9 @@ ghost use Rattle.std.specs.Prelude.{◌≡◌, ◌++◌, ◌∷◌, [], ◌<◌,
 ghost use Rattle.std.specs.Str.{bytes_eq};
 ghost use Rattle.alarm_db.specs.Databases.{is_among};
 
+use base_words::{Case, Table};
 use std::alloc::{AllocError, Global};
 use std::marker::Model;
-use base_words::{Case, Table};
 
 /// Tags, numbered from 0 in order; letter case counts. Contracts see a list of tags.
 pub struct Tags {

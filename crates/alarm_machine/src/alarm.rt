@@ -193,13 +193,21 @@ impl Alarm {
     #[tactic(auto, using(crate::proofs::Kept::state_back))]
     fn put(&mut self, state: AlarmState, condition: bool, suppressed: bool)
         requires { IsAlarm
-            (record
-            {latching = self.old.latching; max_shelve_ms = self.old.max_shelve_ms; state = state;
-            condition = condition; suppressed = suppressed}) }
+            (record {
+              latching = self.old.latching;
+              max_shelve_ms = self.old.max_shelve_ms;
+              state = state;
+              condition = condition;
+              suppressed = suppressed;
+            }) }
         ensures { self.new
-            ≡ record
-            {latching = self.old.latching; max_shelve_ms = self.old.max_shelve_ms; state = state;
-            condition = condition; suppressed = suppressed} }
+            ≡ record {
+              latching = self.old.latching;
+              max_shelve_ms = self.old.max_shelve_ms;
+              state = state;
+              condition = condition;
+              suppressed = suppressed;
+            } }
     {
         self.code = state.code();
         self.end = kept_end(state);

@@ -1,7 +1,7 @@
 //! The sources of a plant that is served, kept for whoever looks on.
 
-use serve_runs::PlantTexts;
 use explain_statements::told_of_fault;
+use serve_runs::PlantTexts;
 use std::alloc::{AllocError, Global};
 use std::cell::Cell;
 

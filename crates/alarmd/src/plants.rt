@@ -8,8 +8,8 @@ use crate::example::{ALARMS, PLANT, PLANT_NAME, SOURCE, SOURCE_NAME};
 use crate::prints::{stopped, stopped_by};
 use crate::telling::{OfAccepted, Telling};
 use crate::watching::{Looker, Watching};
-use serve_arguments::Ended;
 use engine::{Alone, Crew, Done, Job, Start};
+use serve_arguments::Ended;
 use serve_runs::{
     Disk, Ends, PlantFiles, PlantTexts, Reading, RunEnd, ServeFault, Writing, check_from, run,
     run_from,

@@ -3,10 +3,10 @@
 use crate::copies::KeptSources;
 use crate::greeting::greet;
 use crate::missing::why_missing;
-use plant_config::{ConfigFault, Observer, Plant, Unit};
 use explain_plant::{Warner, explain_all, warn};
-use serve_runs::{Folder, Listener, PlantTexts, listing};
 use explain_statements::statement_table;
+use plant_config::{ConfigFault, Observer, Plant, Unit};
+use serve_runs::{Folder, Listener, PlantTexts, listing};
 use std::alloc::{AllocError, Global};
 use std::rt::Files;
 

@@ -3,8 +3,8 @@
 ghost use Rattle.std.specs.Prelude.{IfOk};
 ghost use Rattle.serve_arguments.specs.Choices.{HasWorkers};
 
-use serve_arguments::{Choice, UsageFault, choose};
 use plant_types::Text;
+use serve_arguments::{Choice, UsageFault, choose};
 use std::alloc::{AllocError, Global};
 use std::rt::Env;
 use std::{env, io};

@@ -16,8 +16,8 @@ use crate::lines::emit;
 use crate::numbers::{clock_of, member_slot, output_instr, pt_instr, slot_of};
 use crate::scope::Scope;
 use acc_vm::Instr;
-use logic_walk::Seat;
 use logic_cells::Standard;
+use logic_walk::Seat;
 use plant_types::Place;
 use st_tree::Argument;
 use std::alloc::AllocError;
@@ -107,8 +107,10 @@ pub(crate) fn emit_standard(
     ensures { IfOk result (λ _. out.new.items
         ≡ out.old.items
         ++ ((pt_instr of scope.now.base seat.now, place)
-        ∷ ((Enter (scope.now.base.clocks + seat.now.clocks) (member_slot scope.now.base seat.now 0),
-        place) ∷ []))) }
+        ∷ ((
+          Enter (scope.now.base.clocks + seat.now.clocks) (member_slot scope.now.base seat.now 0),
+          place,
+        ) ∷ []))) }
 {
     let load = pt_instr(of, scope.base, seat);
     let clock = clock_of(scope.base, seat);

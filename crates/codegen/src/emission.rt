@@ -21,13 +21,13 @@ use crate::numbers::{base_of, left_of, slot_of};
 use crate::scope::Scope;
 use acc_vm::Instr;
 use logic_walk::{Base, Frame, SeatOf};
+use plant_types::Place;
+use st_tree::{Argument, Branch, Choice, Span, Stmt, count_turns};
+use std::alloc::AllocError;
 use vm_sizes::{
     Count, body_lines, branches_lines, choices_lines, constant_span, expr_lines, inputs_lines,
     stmt_lines,
 };
-use plant_types::Place;
-use st_tree::{Argument, Branch, Choice, Span, Stmt, count_turns};
-use std::alloc::AllocError;
 
 /// Appends the code of the frame of a number among so many first ones, at a base and a path, from a line's number on.
 #[cycle(code)]

@@ -6,8 +6,8 @@ ghost use Rattle.codegen.specs.Codes.{output_instr, pt_instr};
 ghost use Rattle.codegen.specs.Within.{fits, has_row, has_output, has_pt};
 
 use acc_vm::Instr;
-use logic_walk::{Base, Seat, SeatOf};
 use logic_cells::Standard;
+use logic_walk::{Base, Seat, SeatOf};
 use plant_types::Bounds;
 
 /// The turns that are left after the first one, as a word.

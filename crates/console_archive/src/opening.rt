@@ -5,12 +5,12 @@ ghost use Rattle.std.specs.Prelude.{◌≡◌, ◌<◌, [], IfOk};
 use crate::book::Book;
 use crate::lock::Archive;
 use crate::recorder::Recorder;
+use base_trace::Trace;
 use console_entries::open_board;
 use engine::{Engine, Plant};
 use std::alloc::{AllocError, Global};
 use std::sync::ledger::{Blank, Ledger, Share};
 use std::sync::{Arc, Wait};
-use base_trace::Trace;
 
 /// The archive of a plant before the first event, and the whole share of its ledger.
 fn open_archive<L: Ledger>(

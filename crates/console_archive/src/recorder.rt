@@ -12,17 +12,17 @@ use crate::both::{
     ReadyReload, commit_order, commit_reload, commit_scan, ready_order, ready_reload, ready_scan,
 };
 use crate::lock::Archive;
-use console_entries::{lay_order, lay_reload, lay_scan};
+use base_trace::Trace;
 use console_boards::BoardWriter;
+use console_entries::{lay_order, lay_reload, lay_scan};
+use console_orders::{NotTaken, Recording};
 use engine::{
     Crew, Done, Engine, EngineFault, Job, Order, Pair, Plant, ReloadRefused, Reloaded, Reply,
     Report, Start,
 };
-use console_orders::{NotTaken, Recording};
 use std::alloc::Global;
 use std::sync::ledger::{Ledger, Share};
 use std::sync::{Arc, Wait};
-use base_trace::Trace;
 
 /// That an order was no event, or that an event isn't shown: memory was refused, or the history is full.
 #[derive(Drop)]

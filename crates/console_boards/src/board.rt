@@ -8,8 +8,8 @@ use crate::entry::Entry;
 use crate::picture::Picture;
 use crate::tally::Tally;
 use alarm_bank::Annunciator;
-use console_log::Mark;
 use base_trace::{Remembered, Trace};
+use console_log::Mark;
 
 /// The alarms of a plant after a list of entries, which contracts alone see. Each of the entries might come after those before it. It counts the reloads among
 /// them, and the orders of the consoles of its opening picture.

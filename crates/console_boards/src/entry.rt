@@ -1,7 +1,7 @@
 use alarm_bank::{BankEvent, NewAlarm};
 use alarm_machine::{Change, OrderFault};
-use console_log::Mark;
 use alarm_orders::Order;
+use console_log::Mark;
 use plant_types::Items;
 
 /// What an order is answered: the change of its alarm's code, if there is one, or why it is refused.

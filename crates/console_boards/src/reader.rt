@@ -9,8 +9,8 @@ use crate::board::Board;
 use crate::entry::Entry;
 use crate::rule::Grows;
 use crate::view::View;
-use left_right::reader::{Reader, Reading};
 use console_log::Mark;
+use left_right::reader::{Reader, Reading};
 
 /// A reader of a board that isn't reading. It knows how many entries it saw last, and has a mark of them.
 #[derive(Drop)]

@@ -1,7 +1,7 @@
 use crate::entry::Entry;
 use crate::picture::Picture;
-use console_log::Mark;
 use base_trace::Trace;
+use console_log::Mark;
 
 /// What a reader or the writer knows of a board: the story that it saw last, the one that it was told of, and a mark in the log of the board. No value
 /// of it is made.

@@ -8,8 +8,8 @@ use crate::board::Board;
 use crate::entry::{Entry, Operation};
 use crate::rule::Grows;
 use crate::view::View;
-use left_right::writer::Writer;
 use console_log::{Log, Mark};
+use left_right::writer::Writer;
 
 /// The writer of a board, with a log of all that was laid by. End it by `end`, after each reader has left.
 ///

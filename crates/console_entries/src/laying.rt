@@ -19,9 +19,9 @@ use alarm_delays::Delays;
 use alarm_watch::value_at;
 use console_boards::{Answer, BoardWriter, Entry};
 use engine::{Engine, Prepared, PreparedOrder};
+use engine_system::{Reply, news_of};
 use logic_cells::Cells;
 use plant_config::{AlarmRow, Plant};
-use engine_system::{Reply, news_of};
 use plant_types::Items;
 use std::alloc::{AllocError, Global};
 

@@ -8,9 +8,9 @@ ghost use Rattle.console_entries.specs.Showing.{HasHistory};
 
 use alarm_bank::{Annunciator, Bank};
 use console_boards::{Board, BoardWriter, Tally};
+use engine_system::opening_state;
 use plant_config::Plant;
 use plant_file::Console;
-use engine_system::opening_state;
 use std::alloc::{AllocError, Global};
 use std::sync::Wait;
 

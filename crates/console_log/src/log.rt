@@ -4,9 +4,9 @@ ghost use Rattle.console_log.specs.Rules.{word_of};
 
 use crate::mark::Mark;
 use crate::rule::{Adds, Counts, Nothing};
+use base_trace::Remembered;
 use logbook::{Offer, Seen, Start, Word};
 use std::marker::Model;
-use base_trace::Remembered;
 
 /// A log that only grows, and all that was added to it by this end.
 #[derive(Drop)]

@@ -1,7 +1,7 @@
 //! The rule of a log: its word is the number of its entries.
 
-use logbook::{Gain, Plain, Play, Rule};
 use base_trace::Remembered;
+use logbook::{Gain, Plain, Play, Rule};
 
 /// The rule between any two steps.
 pub struct Counts;

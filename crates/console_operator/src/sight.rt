@@ -8,8 +8,8 @@ ghost use Rattle.console_operator.specs.Sights.{seen_by, told_by, log_by, looked
 
 use alarm_machine::AlarmState;
 use console_boards::{BoardReader, BoardReading, Entry};
-use core::mem::replace_with;
 use console_log::Mark;
+use core::mem::replace_with;
 
 /// How a console stands to its board.
 #[derive(Drop)]

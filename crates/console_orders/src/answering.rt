@@ -4,8 +4,8 @@ ghost use Rattle.std.specs.Prelude.{◌≡◌, ◌≤◌, ◌*◌, length};
 ghost use Rattle.console_orders.specs.Turns.{TookOne, TookPart, TookParts, UnlessRefused, is_refused};
 
 use crate::recording::{NotTaken, Recording};
-use console_link::Lane;
 use alarm_orders::Order;
+use console_link::Lane;
 use engine_system::Reply;
 use std::alloc::Global;
 

@@ -17,24 +17,24 @@ use crate::reload::{PreparedReload, ReloadRefused, Reloaded};
 use alarm_bank::{Marks, Summary};
 use alarm_delays::Delays;
 use alarm_machine::{AlarmState, Verb};
+use alarm_orders::Order;
+use base_names::NameList;
+use base_trace::Shown;
 use crew::Crew;
 use engine_history::{Event, History};
-use journal_core::{Entry, Log, row_text};
-use base_names::NameList;
-use alarm_orders::Order;
-use plant_config::Plant;
 use engine_system::{
     Before, EngineFault, MOST_EVENTS, Prepared, PreparedOrder, ReadyReload, ReadyScan, Reply,
     Report, Room, RunRoom, State, alarm_state, apply, apply_scan, empty_report, may_reload,
     opening_state, prepared_order, prepared_scan, ready_reload,
 };
-use plant_types::{Items, Pair, Value};
+use journal_core::{Entry, Log, row_text};
 use level_scans::{Levelled, Workspace, plan_levels};
+use plant_config::Plant;
+use plant_types::{Items, Pair, Value};
 use slice_store::{Done, Job, Start};
 use std::alloc::{AllocError, Global};
 use std::marker::Model;
 use std::mem::replace;
-use base_trace::Shown;
 
 /// A plant, and what the events so far made of it.
 pub struct Engine {
@@ -279,9 +279,12 @@ impl Engine {
     /// it leaves, for its memory.
     fn put_scan(&mut self, ready: &mut ReadyScan)
         requires { Fits self.old
-            (record
-            {event = Event.Scan ready.old.image.items ready.old.moment; effect = ready.old.effect; report
-            = ready.old.report}) }
+            (record {
+              event = Event.Scan ready.old.image.items ready.old.moment;
+              effect = ready.old.effect;
+              report
+                  = ready.old.report;
+            }) }
         ensures plant { self.new.plant ≡ self.old.plant }
         ensures history { self.new.history
             ≡ self.old.history ++ Event.Scan ready.old.image.items ready.old.moment ∷ [] }

@@ -11,12 +11,12 @@ ghost use Rattle.engine.specs.Journal.{refusal_of, scan_entries, order_entries, 
 ghost use Rattle.engine.specs.RowNames.{HaveNames, HaveOtherNames};
 
 use alarm_machine::{Alarm, Change, OrderFault, Verb};
-use journal_core::{Entry, Log, Row, row_text};
-use base_names::NameList;
 use alarm_orders::Order;
-use plant_config::Plant;
-use engine_system::{Effect, Report, State};
+use base_names::NameList;
 use base_stamps::Epoch;
+use engine_system::{Effect, Report, State};
+use journal_core::{Entry, Log, Row, row_text};
+use plant_config::Plant;
 use std::alloc::{AllocError, Global};
 
 /// Why an order is refused, if it is.

@@ -16,19 +16,19 @@ mod reload;
 
 pub use alarm_bank::Summary;
 pub use alarm_machine::{AlarmState, Change, Code, OrderFault, Verb};
+pub use alarm_orders::Order;
+pub use base_stamps::Epoch;
 pub use crew::{Alone, Crew, CrewFault};
 pub use engine::Engine;
 pub use engine_history::Event;
+pub use engine_system::{EngineFault, Prepared, PreparedOrder, Reply, Report};
 pub use journal_core::{Entry, Log, Row};
 pub use laws::{
     event_keeps_plant, lawful_history_is_short, lawful_history_keeps_consoles_and_epoch,
     lawful_history_stays_in_range, outputs_are_worth_their_numbers, system_keeps_its_plant,
 };
-pub use alarm_orders::Order;
 pub use plant_config::{AlarmRow, ConfigFault, Files, Limit, Plant, Variable};
 pub use plant_file::Console;
-pub use engine_system::{EngineFault, Prepared, PreparedOrder, Reply, Report};
 pub use plant_types::{Given, Items, Kind, Pair, Place, Region, Text, Trap, Value};
 pub use reload::{PreparedReload, ReloadRefused, Reloaded};
 pub use slice_store::{Done, Job, Start};
-pub use base_stamps::Epoch;

@@ -2,8 +2,8 @@
 
 ghost use Rattle.std.specs.Prelude.{◌≡◌};
 
-use plant_config::Plant;
 use engine_system::{EngineFault, ReadyReload};
+use plant_config::Plant;
 use std::marker::Model;
 
 /// A reload that was made ready to be committed.

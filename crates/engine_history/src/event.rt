@@ -1,9 +1,9 @@
 //! What happens to a plant.
 
 use alarm_orders::Order;
+use base_trace::Shown;
 use plant_config::Plant;
 use plant_types::{Items, Value};
-use base_trace::Shown;
 
 /// One event of the history.
 #[derive(Drop)]

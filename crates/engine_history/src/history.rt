@@ -3,8 +3,8 @@
 ghost use Rattle.std.specs.Prelude.{◌≡◌, ◌<◌, ◌++◌, [], ◌∷◌, length};
 
 use crate::event::Event;
-use std::marker::Model;
 use base_trace::Trace;
+use std::marker::Model;
 
 /// The events so far. No event is stored, and none takes memory: what became of them is kept by who adds them. Contracts see the list of them.
 pub struct History {

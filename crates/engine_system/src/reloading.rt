@@ -15,9 +15,9 @@ use crate::state::{State, state_with};
 use crate::steps::delays_of;
 use alarm_bank::{Bank, NewAlarm};
 use alarm_delays::Delays;
-use vm_carry::carry;
 use plant_config::Plant;
 use std::alloc::{AllocError, Global};
+use vm_carry::carry;
 
 /// A reload that was made ready: what it leaves of a state, and what it tells of the alarms.
 #[derive(Drop)]

@@ -214,7 +214,7 @@ pub fn apply_scan(effect: &mut ScanEffect, state: &mut State)
 pub fn apply(done: &Result<Effect, OrderFault>, state: &mut State)
     ensures { state.new
         ≡ record state.old
-        {faulted = faulted_by done.now state.old.faulted; alarms = alarms_by done.now state.old.alarms} }
+        { faulted = faulted_by done.now state.old.faulted; alarms = alarms_by done.now state.old.alarms } }
 {
     match done {
         Ok(Effect::Changed(number, alarm)) => {

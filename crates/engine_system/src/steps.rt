@@ -16,8 +16,8 @@ use alarm_bank::{Marks, Site};
 use alarm_machine::{Alarm, Change};
 use alarm_watch::{LastScan, Watch, value_at};
 use logic_cells::Cells;
-use plant_config::AlarmRow;
 use logic_source::Variable;
+use plant_config::AlarmRow;
 use plant_types::{Region, Value};
 use std::alloc::{AllocError, Global};
 

@@ -2,8 +2,8 @@
 
 use crate::part::Part;
 use crate::teller::{ARRAYS, BOUNDS, Teller, alone};
-use plant_types::{Bounds, Kind, Text};
 use explain_trees::{Sought, Wanted, kind_text};
+use plant_types::{Bounds, Kind, Text};
 use st_names::Scope;
 use st_parser::{SectionKind, Sort};
 use st_tree::Expr;

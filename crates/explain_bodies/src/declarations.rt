@@ -1,8 +1,8 @@
 //! Declarations are walked.
 
 use crate::teller::{CIRCLES, KINDS, NAMES, Teller, VARIABLES, alone};
-use plant_types::{Text, same_word};
 use explain_trees::{Cursor, Rule, kind_text, leads_back, nearest_global, type_hint};
+use plant_types::{Text, same_word};
 use st_names::{Scope, sort_kind};
 use st_parser::{Declaration, Section, SectionKind, Sort};
 

@@ -2,8 +2,8 @@
 
 use crate::part::{Form, Part, Worth};
 use crate::teller::{Breach, MEMBERS, Teller, alone};
-use plant_types::{Kind, Text, Trap};
 use explain_trees::{Member, Sought, Wanted};
+use plant_types::{Kind, Text, Trap};
 use st_names::Scope;
 use st_tree::{
     Binary, Expr, Literal, Unary, binary_kind, eval_binary, eval_unary, resolved_binary,

@@ -3,8 +3,8 @@
 use crate::expressions::wanted_beside;
 use crate::part::{Form, Part};
 use crate::teller::{KINDS, MEMBERS, NAMES, Teller, alone};
-use plant_types::{Kind, Text};
 use explain_trees::{Member, Wanted, kind_text, members_of, other_use, variable_hint};
+use plant_types::{Kind, Text};
 use st_names::Scope;
 use st_tree::{Binary, Unary};
 

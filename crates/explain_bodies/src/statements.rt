@@ -2,12 +2,12 @@
 
 use crate::part::{Part, Worth};
 use crate::teller::{Breach, KINDS, MEMBERS, STATEMENTS, Teller, alone};
-use plant_types::{Kind, Text, Trap, same_word};
+use base_words::Names;
 use explain_trees::{Member, Step, Wanted, kind_text};
+use plant_types::{Kind, Text, Trap, same_word};
 use st_names::Scope;
 use st_parser::SectionKind;
 use st_tree::{Argument, Expr};
-use base_words::Names;
 
 /// Why a constant has no value.
 fn why_none(trap: Trap) -> &'static str {

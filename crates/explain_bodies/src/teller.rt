@@ -1,10 +1,10 @@
 //! A walk over the trees of a plant's units, and what it tells.
 
-use plant_types::Text;
-use explain_trees::{Body, Cursor, Mistake, Rule, Told, Trees, filled};
-use std::alloc::{AllocError, Global};
-use explain_tokens::cause_at;
 use base_words::Names;
+use explain_tokens::cause_at;
+use explain_trees::{Body, Cursor, Mistake, Rule, Told, Trees, filled};
+use plant_types::Text;
+use std::alloc::{AllocError, Global};
 
 /// A rule that is broken, and where to read on.
 pub type Breach = (Rule, &'static str);

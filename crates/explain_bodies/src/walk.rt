@@ -1,11 +1,11 @@
 //! All units of a plant are walked.
 
 use crate::teller::Teller;
+use base_words::Names;
 use explain_trees::{Body, Cursor, Mistake, Rule, Source, Told, Trees, steps_of};
 use st_names::SharedNames;
 use st_parser::{Pou, Section, Unit};
 use std::alloc::{AllocError, Global};
-use base_words::Names;
 
 impl<'t> Teller<'t> {
     /// Begins a unit of a name that declares these sections itself.

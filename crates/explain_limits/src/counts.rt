@@ -2,11 +2,11 @@
 
 use crate::measures::{Measure, length_of, standard_slots};
 use crate::weights::{Scale, Weight};
+use base_words::Names;
 use explain_trees::{Entry, Form, mark_of};
 use st_names::{Declared, declared_in};
 use st_parser::{Pou, SectionKind, Sort};
 use std::alloc::{AllocError, Global};
-use base_words::Names;
 
 /// How deep a function block may be at most.
 const MOST_DEEP: u64 = 16;

@@ -3,12 +3,12 @@
 use crate::counts::Counts;
 use crate::measures::{Measure, length_of};
 use crate::totals::too_much;
+use explain_tokens::{Cause, cause_at, sign_at, span_of};
 use explain_trees::{
     Entry, Form, Source, Step, entries_of, filled, mark_of, sources_of, steps_of, units_of,
 };
 use st_parser::{Pou, SectionKind, Sort, Unit};
 use std::alloc::{AllocError, Global};
-use explain_tokens::{Cause, cause_at, sign_at, span_of};
 
 /// Where the limits of the language stand.
 pub const LIMITS: &str = "docs/LANGUAGE.md, \"Limits (this profile)\"";

@@ -4,9 +4,9 @@ use crate::counts::Counts;
 use crate::limits::{Found, LIMITS, for_mark};
 use crate::measures::Measure;
 use crate::weights::Weight;
+use explain_tokens::cause_at;
 use explain_trees::{Entry, Form, Source, filled, mark_of};
 use std::alloc::{AllocError, Global};
-use explain_tokens::cause_at;
 
 /// Where it stands what programs cost.
 const COSTS: &str = "docs/LANGUAGE.md, \"To read C10 COST\"";

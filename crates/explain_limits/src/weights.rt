@@ -1,10 +1,10 @@
 //! What bodies weigh, by their size or their cost.
 
 use crate::measures::Measure;
-use plant_types::Text;
-use explain_trees::mark_of;
-use st_tree::{Argument, Branch, Choice, Expr, Stmt};
 use base_words::Names;
+use explain_trees::mark_of;
+use plant_types::Text;
+use st_tree::{Argument, Branch, Choice, Expr, Stmt};
 
 /// By what a body is weighed: the names of its instances, and what each counts.
 #[derive(Drop)]

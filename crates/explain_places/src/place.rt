@@ -5,8 +5,8 @@ ghost use Rattle.std.specs.List.{suffix_len};
 ghost use Rattle.st_lexer.specs.Lexes.{mark_len};
 ghost use Rattle.explain_places.specs.Places.{place_in, text_of};
 
-use plant_folder::PlantTexts;
 use explain_tokens::{FileOf, Spot, part};
+use plant_folder::PlantTexts;
 
 /// A place in a text. Lines count from 1, and so do the bytes of a line; a byte order mark at the text's start isn't counted.
 #[derive(Clone, Copy, Drop)]

@@ -1,11 +1,11 @@
 //! How a cause is shown.
 
 use crate::place::{Place, line_around, place_of, text_of};
+use explain_tokens::{FileOf, Spot, part};
 use plant_config::Plant;
 use plant_folder::PlantTexts;
 use plant_types::Text;
 use std::alloc::{AllocError, Global};
-use explain_tokens::{FileOf, Spot, part};
 
 /// A line with more bytes isn't shown.
 const LONGEST_LINE: usize = 200;

@@ -6,11 +6,11 @@ use crate::keys::Mark;
 use crate::telling::Refused;
 use alarm_db::{Column, RowFault, RowMistake, Version};
 use explain_places::place_at;
+use explain_tokens::{FileOf, part};
 use explain_trees::no_bool_global;
 use st_parser::Unit;
 use std::alloc::AllocError;
 use std::str;
-use explain_tokens::{FileOf, part};
 
 /// What is said of a field that goes on in the next line.
 const GOES_ON: &str =

@@ -2,11 +2,11 @@
 
 use crate::keys::{Keys, Mark, NOBODY, keys_of};
 use crate::telling::{MOST_FAULTS, Refused};
-use plant_file::{Mistake, PlantFileFault, Unread, Why, read};
 use base_stamps::Epoch;
+use explain_tokens::{FileOf, Spot, part, within_one};
+use plant_file::{Mistake, PlantFileFault, Unread, Why, read};
 use std::alloc::{AllocError, Global};
 use std::str;
-use explain_tokens::{FileOf, Spot, part, within_one};
 use toml::Value;
 
 /// What is said of a text that looks like UTF-16.

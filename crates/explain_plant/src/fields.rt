@@ -2,8 +2,8 @@
 
 use crate::keys::Mark;
 use explain_places::mark_len;
-use std::alloc::{AllocError, Global};
 use explain_tokens::part;
+use std::alloc::{AllocError, Global};
 
 /// Where the field that begins at a byte ends: at a comma or a line end that doesn't stand in quotes, or at the text's end.
 fn field_end(text: &[u8], from: usize) -> usize {

@@ -1,9 +1,9 @@
 //! Where the keys of a plant file stand, and what stands under them. What a document says, and what is wrong in it, its reader tells; this only finds the bytes
 //! of it.
 
+use explain_tokens::part;
 use std::alloc::{AllocError, Global};
 use std::str;
-use explain_tokens::part;
 use toml::Value;
 use toml_parser::bytes::is_bare;
 use toml_parser::text::{skip_blank, skip_ws};

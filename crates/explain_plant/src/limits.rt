@@ -4,9 +4,9 @@ use crate::fields::Rows;
 use crate::keys::{Mark, keys_of};
 use crate::telling::Refused;
 use explain_limits::{Measure, where_past};
+use explain_tokens::{Cause, FileOf};
 use plant_config::Limit;
 use std::alloc::AllocError;
-use explain_tokens::{Cause, FileOf};
 
 /// What a plant may have at most.
 const MOST_CONSOLES: usize = 32;

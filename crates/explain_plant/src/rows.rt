@@ -5,13 +5,13 @@ use crate::fields::{field_of, fields_of_row, last_of};
 use crate::keys::Mark;
 use crate::telling::{MOST_FAULTS, Refused};
 use alarm_db::{Column, DatabaseRow, Examined, RowFault, RowMistake, Version, examine};
+use base_words::Names;
+use explain_tokens::part;
+use explain_trees::{entries_of, sources_of, units_of};
 use plant_file::{PlantFileFault, TextSet, read};
 use plant_types::Kind;
-use explain_trees::{entries_of, sources_of, units_of};
 use st_parser::{Sort, Unit};
 use std::alloc::{AllocError, Global};
-use explain_tokens::part;
-use base_words::Names;
 
 /// A table has at most so many columns.
 const MOST_COLUMNS: usize = 9;

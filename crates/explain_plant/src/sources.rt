@@ -2,14 +2,14 @@
 //! (C11 to C14).
 
 use crate::telling::{MOST_FAULTS, REFUSALS, Refused};
-use explain_uses::{OpenComment, swallower};
 use explain_bodies::{Mistake, Rule, mistakes};
 use explain_limits::too_long;
-use plant_types::Text;
 use explain_sources::{Reading, misspelled_at, tell, ungrammatical};
-use explain_trees::{sources_of, units_of};
-use std::alloc::{AllocError, Global};
 use explain_tokens::{Cause, FileOf, Spot, byte_at, cause_of, part};
+use explain_trees::{sources_of, units_of};
+use explain_uses::{OpenComment, swallower};
+use plant_types::Text;
+use std::alloc::{AllocError, Global};
 
 /// So many tokens are read at least, and one more for each byte of the sources.
 const LEAST_TOKENS: usize = 100_000;

@@ -7,12 +7,12 @@ ghost use Rattle.explain_plant.specs.Told.{BeginsWith};
 
 use crate::keys::Mark;
 use explain_bodies::Rule;
+use explain_places::shown;
+use explain_tokens::{Cause, FileOf, Spot, cause_of};
+use explain_trees::filled;
 use plant_config::ConfigFault;
 use plant_folder::PlantTexts;
-use explain_places::shown;
-use explain_trees::filled;
 use std::alloc::{AllocError, Global};
-use explain_tokens::{Cause, FileOf, Spot, cause_of};
 
 pub const MOST_FAULTS: usize = 20;
 

@@ -2,13 +2,13 @@
 
 use crate::fields::Rows;
 use alarm_db::{Column, Version};
+use base_words::Names;
+use explain_places::shown;
+use explain_tokens::{FileOf, Spot};
 use explain_uses::{Found, look};
 use plant_config::{Observer, Plant, Unit};
 use plant_folder::PlantTexts;
-use explain_places::shown;
 use std::alloc::{AllocError, Global};
-use explain_tokens::{FileOf, Spot};
-use base_words::Names;
 
 /// An observer who keeps what the sources of a plant do with their variables, for what is told of the plant where it is accepted.
 #[derive(Default, Drop)]

@@ -2,10 +2,10 @@
 
 use crate::rules::{told_by_place, too_deep, wanted};
 use crate::words::misnomer;
+use explain_tokens::{Cause, Place, cause_at, closing_of, fits, tokens_of};
 use plant_types::same_word;
 use st_lexer::place_of;
 use std::alloc::{AllocError, Global};
-use explain_tokens::{Cause, Place, cause_at, closing_of, fits, tokens_of};
 
 /// Where the grammar stands.
 pub const GRAMMAR: &str = "docs/LANGUAGE.md, \"Grammar\"";

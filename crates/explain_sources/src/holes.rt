@@ -1,9 +1,9 @@
 //! A text in which bytes begin no token: what stands in their place.
 
 use crate::spelling::{first_character, run_len};
+use explain_tokens::{byte_at, part, tokens_of};
 use st_lexer::{LexFault, Token, lex};
 use std::alloc::{AllocError, Global};
-use explain_tokens::{byte_at, part, tokens_of};
 
 /// The most places of a text that are passed over.
 const MOST_HOLES: usize = 20;

@@ -2,9 +2,9 @@
 
 use crate::grammar::{has_nested, unopened};
 use crate::words::misnomer;
+use explain_tokens::{Place, closing_of, fits, opens_section, sign_of};
 use plant_types::same_word;
 use std::cmp::Ordering;
-use explain_tokens::{Place, closing_of, fits, opens_section, sign_of};
 
 /// What is left out of tokens, from the one of a number to before another, and what is put in its place, as it is written.
 #[derive(Clone, Copy, Drop)]

@@ -1,7 +1,7 @@
 //! What is said of a token by where it stands and what stands beside it (C5).
 
-use st_lexer::{Token, TokenKind};
 use explain_tokens::{Place, fits, said_of};
+use st_lexer::{Token, TokenKind};
 
 /// Each rule has where the token stands, what opens the unit, the section or the statement in which it does, the token before it, the token itself and the one
 /// behind it, and then what is said. A word before it behind a point is an `output`, one behind an ELSE that seems to begin a condition `otherwise`; a `)` or

@@ -1,9 +1,9 @@
 //! What begins no token (C4).
 
+use explain_tokens::{Cause, cause_at, fits, part};
 use plant_types::{is_name_byte, same_word};
 use std::alloc::{AllocError, Global};
 use std::str;
-use explain_tokens::{Cause, cause_at, fits, part};
 
 /// Where the rules of spelling stand.
 const SPELLING: &str = "docs/LANGUAGE.md, \"Spelling\"";

@@ -4,10 +4,10 @@ use crate::grammar::cause_at_token;
 use crate::holes::{Lexed, tokens_with_holes};
 use crate::mend::{Mend, statement_start, way_on};
 use crate::spelling::misspelled_at;
+use explain_tokens::{Cause, Place, fits, tokens_of};
 use st_lexer::Token;
 use st_parser::{ParseFault, parse};
 use std::alloc::{AllocError, Global};
-use explain_tokens::{Cause, Place, fits, tokens_of};
 
 /// A unit is read at most so often.
 const MOST_READINGS: usize = 40;

@@ -1,8 +1,8 @@
 //! Words that are written otherwise here: those of other dialects, and words that are nearly a keyword (C5).
 
 use crate::grammar::GRAMMAR;
-use plant_types::same_word;
 use explain_tokens::{Place, closing_of, fits, part, said_of, within_one};
+use plant_types::same_word;
 
 /// Where it stands what of the standard isn't there.
 const STANDARD: &str = "docs/LANGUAGE.md, \"What of IEC 61131-3 is here\"";

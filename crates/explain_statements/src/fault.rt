@@ -2,11 +2,11 @@
 
 use crate::routines::statements_of;
 use crate::sources::{Found, Source, routine_at, sources_of};
-use plant_folder::PlantTexts;
 use explain_places::shown;
+use explain_tokens::{FileOf, Spot, cause_at, sign_at, span_of, word_at};
+use plant_folder::PlantTexts;
 use st_lexer::Token;
 use std::alloc::{AllocError, Global};
-use explain_tokens::{FileOf, Spot, cause_at, sign_at, span_of, word_at};
 
 /// Where it stands how statements trap.
 const TRAPS: &str = "docs/LANGUAGE.md, \"Traps\"";

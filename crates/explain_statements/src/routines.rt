@@ -1,9 +1,9 @@
 //! The blocks and programs of a source, and the statements of their bodies, by tokens.
 
+use explain_tokens::{opens_section, sign_at, sign_of, word_at};
 use plant_types::same_word;
 use st_lexer::Token;
 use std::alloc::{AllocError, Global};
-use explain_tokens::{opens_section, sign_at, sign_of, word_at};
 
 /// A block or a program among the tokens of its source.
 #[derive(Clone, Copy, Drop)]

@@ -1,10 +1,10 @@
 //! The sources of a plant with their tokens and routines.
 
 use crate::routines::{Routine, block_of, routines_of};
+use explain_tokens::{tokens_of, word_at};
 use plant_types::same_word;
 use st_lexer::Token;
 use std::alloc::{AllocError, Global};
-use explain_tokens::{tokens_of, word_at};
 
 /// A source: its text, the text's tokens, and its blocks and programs.
 #[derive(Drop)]

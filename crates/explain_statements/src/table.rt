@@ -2,9 +2,9 @@
 
 use crate::routines::{Routine, statements_of};
 use crate::sources::{Source, sources_of};
+use explain_tokens::{start_of, word_at};
 use plant_folder::PlantTexts;
 use std::alloc::{AllocError, Global};
-use explain_tokens::{start_of, word_at};
 
 /// A row of the table has about so many bytes.
 const WIDTH: usize = 96;

@@ -1,11 +1,11 @@
 //! The names of a unit.
 
 use crate::trees::Trees;
+use base_words::Names;
 use plant_types::{Kind, Text};
 use st_names::{BodyScope, Declared, Scope, sort_array, sort_kind};
 use st_parser::{Section, SectionKind, Sort};
 use std::alloc::AllocError;
-use base_words::Names;
 
 /// The name of a kind.
 pub fn kind_text(kind: Kind) -> &'static str {

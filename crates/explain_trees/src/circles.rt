@@ -1,11 +1,11 @@
 //! Function blocks that hold themselves (C8).
 
 use crate::trees::Trees;
+use base_words::Names;
 use plant_types::{Text, same_word};
 use st_names::declared_in;
 use st_parser::{Pou, Sort};
 use std::alloc::AllocError;
-use base_words::Names;
 
 /// Blocks behind so many aren't looked at.
 const MOST_BLOCKS: usize = 4_096;

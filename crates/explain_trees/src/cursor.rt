@@ -1,9 +1,9 @@
 //! Where the words, literals and operators of a tree stand: a walk of the tree in order of text goes along the tokens of its source.
 
+use explain_tokens::{part, sign_at, sign_before, sign_of, span_of, word_at};
 use plant_types::Text;
 use st_lexer::Token;
 use std::str;
-use explain_tokens::{part, sign_at, sign_before, sign_of, span_of, word_at};
 
 /// Of several tokens what has more bytes isn't quoted.
 const LONGEST_QUOTE: usize = 48;

@@ -2,10 +2,10 @@
 
 use crate::body::{Body, kind_text};
 use crate::entries::{Entry, Form, owner_of};
+use explain_tokens::{Hint, Nearest};
 use plant_types::{Kind, Text};
 use st_names::{Declared, Scope, sort_kind};
 use st_parser::Sort;
-use explain_tokens::{Hint, Nearest};
 
 /// What a name has to be.
 #[derive(Clone, Copy, Drop)]

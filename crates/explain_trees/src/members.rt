@@ -2,11 +2,11 @@
 
 use crate::texts::filled;
 use crate::trees::Trees;
+use explain_tokens::Nearest;
 use plant_types::Text;
 use st_names::declared_in;
 use st_parser::SectionKind;
 use std::alloc::AllocError;
-use explain_tokens::Nearest;
 
 /// How a name behind a call's parenthesis or an instance's point is used.
 #[derive(Clone, Copy, PartialEq, Eq, Drop)]

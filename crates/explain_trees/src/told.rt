@@ -1,7 +1,7 @@
 //! The mistakes that were found.
 
-use std::alloc::{AllocError, Global};
 use explain_tokens::Cause;
+use std::alloc::{AllocError, Global};
 
 /// The most mistakes that are told.
 const MOST_MISTAKES: usize = 20;

@@ -1,13 +1,13 @@
 //! The sources of a plant, and their trees.
 
 use crate::entries::{Entry, Form, entries_of};
+use base_words::Names;
+use explain_tokens::tokens_of;
 use plant_types::Text;
 use st_lexer::Token;
 use st_names::{SharedNames, declared_in};
 use st_parser::{ParseFault, Pou, SectionKind, Sort, Unit, parse};
 use std::alloc::{AllocError, Global};
-use explain_tokens::tokens_of;
-use base_words::Names;
 
 /// A source: its name, its text and the text's tokens.
 #[derive(Drop)]

@@ -2,8 +2,8 @@
 
 use crate::looking::Looking;
 use crate::places::Sought;
-use plant_types::{Region, Text};
 use explain_trees::{Cursor, Step, mark_of};
+use plant_types::{Region, Text};
 use st_parser::Sort;
 use st_tree::{Argument, Binary, Choice, Expr, Label};
 

@@ -1,9 +1,9 @@
 //! Comments that go on to the end of the next one.
 
-use plant_types::{is_name_byte, same_word};
-use explain_trees::Cursor;
-use std::alloc::{AllocError, Global};
 use explain_tokens::{Cause, cause_at, part};
+use explain_trees::Cursor;
+use plant_types::{is_name_byte, same_word};
+use std::alloc::{AllocError, Global};
 
 /// Where it stands how comments are written.
 const SPELLING: &str = "docs/LANGUAGE.md, \"Spelling\"";

@@ -1,11 +1,11 @@
 //! What was found in the sources of a plant.
 
 use crate::comments::has_word;
-use plant_types::Region;
+use explain_tokens::{Cause, cause_at, part};
 use explain_trees::filled;
+use plant_types::Region;
 use std::alloc::{AllocError, Global};
 use std::str;
-use explain_tokens::{Cause, cause_at, part};
 
 /// The most warnings that are told.
 const MOST_WARNINGS: usize = 20;

@@ -3,13 +3,13 @@
 use crate::comments::swallower;
 use crate::found::{Found, Uses};
 use crate::places::{Passed, Sought, place_of};
-use plant_types::{Region, Text};
+use base_words::Names;
+use explain_tokens::tokens_of;
 use explain_trees::{Entry, Form, entries_of, mark_of};
+use plant_types::{Region, Text};
 use st_lexer::Token;
 use st_parser::{SectionKind, Unit};
 use std::alloc::{AllocError, Global};
-use explain_tokens::tokens_of;
-use base_words::Names;
 
 /// Nothing is done.
 const UNUSED: Uses = Uses {

@@ -1,8 +1,8 @@
 //! Where literals and operators stand, which have no place in a tree.
 
 use crate::comments::comment_at;
-use st_lexer::Token;
 use explain_tokens::{sign_at, sign_before};
+use st_lexer::Token;
 
 /// How far a walk of a body has come: the byte of the name that it passed last, and how many literals and divisions it passed behind that.
 #[derive(Clone, Copy, Drop)]

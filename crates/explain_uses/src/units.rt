@@ -3,13 +3,13 @@
 use crate::found::{Shared, Uses};
 use crate::looking::Looking;
 use crate::places::address_behind;
-use plant_types::{Region, Text};
+use base_words::Names;
+use explain_tokens::part;
 use explain_trees::{Entry, Form, mark_of, steps_of};
+use plant_types::{Region, Text};
 use st_names::{Declared, declared_in};
 use st_parser::{Pou, PouKind, SectionKind, Sort, Unit};
 use std::str;
-use explain_tokens::part;
-use base_words::Names;
 
 /// What is nearly surely wrong with what a unit declares itself; empty where nothing is.
 fn own_doubt(declared: &Declared<'_>, uses: Uses) -> &'static str {

@@ -5,8 +5,8 @@ ghost use Rattle.journal_core.specs.Bodies.{fault_body, alarm_body, shelf_text, 
 
 use crate::row::{Entry, Row};
 use alarm_machine::{Change, OrderFault, Verb};
-use plant_types::Trap;
 use base_stamps::Epoch;
+use plant_types::Trap;
 use std::alloc::{AllocError, Global};
 
 /// How many bytes are reserved for a row beside those of its name: few rows have more.

@@ -10,11 +10,11 @@ ghost use Rattle.logic_source.specs.Worlds.{World};
 ghost use Rattle.logic_source.specs.Carried.{carried};
 ghost use Rattle.logic_frames.specs.Stands.{StandFor};
 
-use vm_carry::carry;
 use logic_cells::Cells;
-use vm_logic::Framed;
 use slice_store::Store;
 use std::alloc::{AllocError, Global};
+use vm_carry::carry;
+use vm_logic::Framed;
 
 /// A copy of the cells of a store.
 fn cells_of(alloc: Global, store: &Store) -> Result<Cells, AllocError>

@@ -7,9 +7,9 @@ ghost use Rattle.level_plan.specs.Accesses.{StaysWithin};
 ghost use Rattle.level_runs.specs.Accesses.{AreGlobalsOf, ArePartsOf, IsAccessOf};
 ghost use Rattle.level_runs.specs.Plans.{IsPlanOf};
 
-use vm_slices::Part;
 use level_plan::{Access, Extent, Levels, plan};
 use std::alloc::{AllocError, Global};
+use vm_slices::Part;
 
 /// The globals among slots, each in an extent of its own.
 fn globals_among(alloc: Global, slots: &[u32], globals: usize) -> Result<Vec<Extent>, AllocError>

@@ -17,10 +17,10 @@ use crew::{Crew, CrewFault};
 use level_jobs::{ProgramFault, run_levels};
 use logic_cells::Cells;
 use plant_types::{Place, Trap};
-use vm_logic::{Framed, place_is_in_source, programs_share_no_cell, sound_source_is_small};
 use slice_store::{Done, Job, Reserve, Start, Store};
 use std::alloc::{AllocError, Global};
 use std::mem::replace;
+use vm_logic::{Framed, place_is_in_source, programs_share_no_cell, sound_source_is_small};
 
 /// Runs the programs level by level by a crew, and tells the faults by their programs' own paths. Its jobs take the memory of earlier
 /// ones, and the store that of the cells and flags.

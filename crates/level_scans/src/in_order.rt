@@ -10,8 +10,8 @@ ghost use Rattle.level_scans.specs.Runs.{run_by, ended_by, ProgramsRan};
 
 use logic_cells::Cells;
 use plant_types::{Place, Trap};
-use vm_logic::{Framed, Stack, Walked, run, sound_source_is_small};
 use std::alloc::AllocError;
+use vm_logic::{Framed, Stack, Walked, run, sound_source_is_small};
 
 /// Runs the program of a number, from 0, unless it is faulted, and returns its fault. What it assigned before a fault is kept.
 fn run_program(

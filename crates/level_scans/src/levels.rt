@@ -7,11 +7,11 @@ ghost use Rattle.level_scans.specs.Levels.{AreLevelsOf};
 use crate::parts::{parts_of, shared};
 use level_plan::Levels;
 use level_runs::plan_of;
-use vm_logic::Framed;
 use slice_store::Parts;
 use std::alloc::{AllocError, Global};
 use std::marker::Model;
 use std::sync::Arc;
+use vm_logic::Framed;
 
 /// The programs of a plant, each in its part of the cells, and the levels in which they may run together. Contracts see these.
 pub struct Levelled {

@@ -5,8 +5,8 @@ ghost use Rattle.level_scans.specs.Faults.{IsOfProgram, placed_fault};
 
 use level_jobs::ProgramFault;
 use plant_types::{Place, Trap};
-use vm_logic::Framed;
 use std::alloc::{AllocError, Global};
+use vm_logic::Framed;
 
 /// A fault, with the number that its path has among those of all programs.
 fn placed(framed: &Framed, fault: &ProgramFault) -> (Place, Trap)

@@ -17,9 +17,9 @@ use crate::workspace::Workspace;
 use crew::{Crew, CrewFault};
 use logic_cells::Cells;
 use plant_types::{Place, Trap};
-use vm_logic::Framed;
 use slice_store::{Done, Job, Start};
 use std::alloc::{AllocError, Global};
+use vm_logic::Framed;
 
 /// Makes the levels of a plant's programs, unless they are there or the crew that is to run these is alone.
 pub fn plan_levels(

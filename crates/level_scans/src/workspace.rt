@@ -1,8 +1,8 @@
 //! Memory for the runs of programs.
 
-use vm_logic::Stack;
 use slice_store::Reserve;
 use std::alloc::Global;
+use vm_logic::Stack;
 
 /// Memory for the programs' runs, which one scan after another uses: for runs in program order, and for the jobs of a crew. What it holds
 /// doesn't matter.

@@ -5,10 +5,10 @@ ghost use Rattle.base_words.specs.Names.{find_name};
 ghost use Rattle.logic_carry.specs.Paths.{Grows};
 ghost use Rattle.logic_carry.specs.Shapes.{IsNumbered, AreOwn, AreRows, AreParts, as_local};
 
+use base_words::Names;
 use logic_source::{BlockRef, Instance, Local, Row, Variable};
 use plant_types::{Bounds, Kind};
 use std::alloc::{AllocError, Global};
-use base_words::Names;
 
 /// A variable: the number of its name's word, and its kind.
 #[derive(Clone, Copy, Drop)]

@@ -7,10 +7,10 @@ ghost use Rattle.logic_source.specs.Names.{global_words, own_words, row_words, i
 ghost use Rattle.logic_source.specs.Source.{row_cells};
 ghost use Rattle.logic_frames.specs.Scoped.{kind_among, array_among, block_among, row_names, laid_from, local_names, local_kinds, global_names, global_kinds, own_variables, global_variables, AreVariables, AreArrays, AreInstances};
 
+use base_words::Names;
 use logic_source::{BlockRef, Instance, Local, Row, Variable};
 use plant_types::{Bounds, Kind};
 use std::alloc::{AllocError, Global};
-use base_words::Names;
 
 /// An array, as bodies are numbered by it.
 #[derive(Clone, Copy, Drop)]

@@ -5,10 +5,10 @@ ghost use Rattle.base_words.specs.Names.{is_among};
 ghost use Rattle.logic_source.specs.Source.{view_routine};
 ghost use Rattle.logic_frames.specs.Reached.{flagged, number_of, numbers_of, flag_all, flag_asked, flag_programs, flag_onward, flag_back, reached};
 
+use base_words::Names;
 use logic_seats::{called_in, is_among};
 use logic_source::{BlockRef, Instance, Routine};
 use std::alloc::{AllocError, Global};
-use base_words::Names;
 
 /// Whether a number is flagged; not past the last flag.
 pub fn flagged(flags: &[bool], number: usize) -> bool

@@ -5,10 +5,10 @@ ghost use Rattle.plant_types.specs.Words.{same_word};
 ghost use Rattle.logic_source.specs.Source.{view_routine};
 ghost use Rattle.logic_limits.specs.Measures.{block_of, or_else, AreNamed};
 
+use base_words::Names;
 use logic_source::{BlockRef, Instance, Routine};
 use plant_types::Text;
 use std::alloc::{AllocError, Global};
-use base_words::Names;
 
 /// Names of instances, each once, and of which block each is.
 pub struct Instances {

@@ -5,11 +5,11 @@ ghost use Rattle.logic_walk.specs.Frames.{AreInTurn, frame_paths};
 ghost use Rattle.logic_walk.specs.Paths.{path_suffix, begins_by, last_by};
 
 use crate::outlines::{Outline, copy_outlines, outlines_of};
+use base_trace::Shown;
 use logic_walk::{Frame, Seat, SeatOf};
 use plant_types::Text;
 use std::alloc::{AllocError, Global};
 use std::marker::Model;
-use base_trace::Shown;
 
 /// A table of frames, of which the instances alone are left. Contracts see the frames.
 pub struct SeatTable {

@@ -7,10 +7,10 @@ ghost use Rattle.base_words.specs.Names.{is_among};
 ghost use Rattle.st_tree.specs.View.{view_stmt, view_body, view_branches, view_choices};
 ghost use Rattle.logic_source.specs.Paths.{called_in, called_in_stmt, called_in_branches, called_in_choices};
 
+use base_words::Names;
 use plant_types::Text;
 use st_tree::{Branch, Choice, Stmt};
 use std::alloc::{AllocError, Global};
-use base_words::Names;
 
 /// Whether a name is among names, in any letter case.
 pub fn is_among(names: &Names, name: &Text) -> bool

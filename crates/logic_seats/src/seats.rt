@@ -5,12 +5,12 @@ ghost use Rattle.base_words.specs.Names.{is_among};
 ghost use Rattle.logic_seats.specs.Seats.{Fits, plus, extent_called, extent_by, starts_by, any_starts, seated_by, seat_by, seats_by, ends_by};
 
 use crate::called::is_among;
-use logic_walk::{Seat, SeatOf};
+use base_words::Names;
 use logic_cells::Standard;
 use logic_source::{BlockRef, Instance};
+use logic_walk::{Seat, SeatOf};
 use st_tree::Stmt;
 use std::alloc::{AllocError, Global};
-use base_words::Names;
 
 /// How many values, clocks and path numbers something has.
 #[derive(Clone, Copy, Drop)]

@@ -5,10 +5,10 @@ ghost use Rattle.st_names.specs.Taken.{repeats};
 ghost use Rattle.st_parser.specs.Units.{PlainPou, view_pou, view_unit};
 ghost use Rattle.logic_source.specs.Pous.{pous_of, block_pous, program_pous, pou_word};
 
+use base_words::Names;
 use st_parser::{Pou, PouKind, Unit};
 use std::alloc::{AllocError, Global};
 use std::mem::replace;
-use base_words::Names;
 
 /// The blocks, and apart from them the programs.
 #[derive(Drop)]

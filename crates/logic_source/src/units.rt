@@ -15,6 +15,7 @@ ghost use Rattle.logic_source.specs.Units.{block_ref, global_of, local_of, globa
 
 use crate::logic::{BlockRef, Instance, Local, Logic, Routine, Row, Variable};
 use crate::pous::{Pous, names_of, pous_of};
+use base_words::Names;
 use plant_types::{Text, same_word};
 use st_names::{Declared, declared_in};
 use st_parser::{Pou, Section, SectionKind, Sort, Unit};
@@ -22,7 +23,6 @@ use st_tree::{Stmt, copy_expr};
 use st_typing::Typed;
 use std::alloc::{AllocError, Global};
 use std::mem::replace;
-use base_words::Names;
 
 /// Adds a declared variable to the globals; an array and an instance are none.
 fn push_global(

@@ -6,8 +6,8 @@ ghost use Rattle.plant_config.specs.Refusals.{IsRefused};
 
 use crate::fault::ConfigFault;
 use crate::files::Handed;
-use plant_file::PlantFile;
 use base_stamps::Epoch;
+use plant_file::PlantFile;
 
 /// The epoch of a plant file, or C3.
 #[tactic(auto, unfolding(crate::specs::Refusals::IsRefused))]

@@ -7,8 +7,8 @@ ghost use Rattle.plant_config.specs.Refusals.{IsRefused};
 
 use crate::fault::{ConfigFault, Limit};
 use crate::files::Handed;
-use plant_file::PlantFile;
 use base_stamps::Epoch;
+use plant_file::PlantFile;
 
 /// The most sources of a plant (this profile).
 const SOURCES: usize = 64;

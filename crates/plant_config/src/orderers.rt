@@ -9,9 +9,9 @@ ghost use Rattle.plant_config.specs.Stages.{HasEpoch, IsLimited};
 use crate::fault::ConfigFault;
 use crate::files::Handed;
 use crate::limits::check_limits;
+use base_stamps::Epoch;
 use plant_file::{Console, PlantFile};
 use plant_types::Items;
-use base_stamps::Epoch;
 use std::alloc::{AllocError, Global};
 
 /// Whether an area is among these.

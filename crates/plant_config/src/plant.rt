@@ -27,16 +27,16 @@ use crate::rows::{AlarmRow, copy_rows};
 use crate::running::{database_of, known_alarms, logic_of};
 use crate::spelling::{refused, units_of};
 use alarm_db::Tags;
-use plant_file::{Console, PlantFile};
+use base_stamps::Epoch;
 use logic_source::Variable;
+use plant_file::{Console, PlantFile};
 use plant_types::{Items, same_word};
-use vm_logic::{Framed, Heading};
 use st_parser::Unit;
 use st_typing::{Typed, check};
-use base_stamps::Epoch;
 use std::alloc::{AllocError, Global};
 use std::marker::Model;
 use std::thread::Threads;
+use vm_logic::{Framed, Heading};
 
 /// An accepted plant. Its areas, alarms, globals and programs are numbered from 0: areas as the plant file lists them, alarms in the order of the
 /// database, globals and programs in the order of the sources and, in a source, of its text.

@@ -2,9 +2,9 @@
 
 ghost use Rattle.std.specs.Prelude.{◌≡◌, IfOk};
 
+use base_trace::Shown;
 use plant_types::Text;
 use std::alloc::{AllocError, Global};
-use base_trace::Shown;
 
 /// An alarm of a plant. Areas and globals are named by their numbers, from 0 in the order of their declaration.
 pub struct AlarmRow {

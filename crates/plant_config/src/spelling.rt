@@ -11,13 +11,13 @@ ghost use Rattle.plant_config.specs.Refusals.{IsRefused};
 
 use crate::fault::{ConfigFault, Limit};
 use crate::files::Handed;
+use base_stamps::Epoch;
 use plant_file::PlantFile;
-use st_sources::{SourceFault, unit_name};
 use plant_types::Text;
 use st_names::UnitPlace;
 use st_parser::Unit;
+use st_sources::{SourceFault, unit_name};
 use st_typing::{Mistyped, TypeFault};
-use base_stamps::Epoch;
 use std::alloc::{AllocError, Global};
 use std::thread::Threads;
 

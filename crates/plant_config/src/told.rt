@@ -4,9 +4,9 @@ use crate::alarms::{area_number, bool_number};
 use crate::files::Handed;
 use alarm_db::{Column, DatabaseRow, Examined, RowFault, RowMistake, Version, examine};
 use plant_file::{PlantFile, TextSet};
-use vm_logic::Framed;
 use std::alloc::{AllocError, Global};
 use std::marker::Model;
+use vm_logic::Framed;
 
 /// The most mistakes that are told.
 const MOST_MISTAKES: usize = 20;

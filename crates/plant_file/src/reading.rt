@@ -123,13 +123,25 @@ fn file_with(
     consoles: Items<Console>,
 ) -> Result<PlantFile, AllocError>
     requires { IsPlantFile
-        (record
-        {name = name.now; epoch = epoch.now; areas = areas.now; sources = sources.now; alarms =
-        alarms.now; consoles = consoles}) }
+        (record {
+          name = name.now;
+          epoch = epoch.now;
+          areas = areas.now;
+          sources = sources.now;
+          alarms =
+              alarms.now;
+          consoles = consoles;
+        }) }
     ensures { IfOk result (λ file. file
-        ≡ record
-        {name = name.now; epoch = epoch.now; areas = areas.now; sources = sources.now; alarms =
-        alarms.now; consoles = consoles}) }
+        ≡ record {
+          name = name.now;
+          epoch = epoch.now;
+          areas = areas.now;
+          sources = sources.now;
+          alarms =
+              alarms.now;
+          consoles = consoles;
+        }) }
 {
     let name = Text::from_str(alloc, name)?;
     let epoch = Text::from_str(alloc, epoch)?;

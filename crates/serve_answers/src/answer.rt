@@ -14,15 +14,15 @@ ghost use Rattle.serve_faults.specs.Faults.{is_read, is_write, crew_faults};
 ghost use Rattle.serve_answers.specs.Listings.{list_text, journal_text};
 
 use alarm_machine::{Change, Verb};
-use serve_lines::{
-    AlarmFront, Command, OutFront, Pool, push_alarm, push_done, push_fault, push_out, push_refused,
-    push_reply, put_alarm, put_out, read_command,
-};
 use engine::{Crew, Done, Engine, EngineFault, Job, Order, Reply, Report, Start};
 use itoa::Buffer;
 use plant_config::Plant;
 use plant_types::{Pair, Place, Trap, Value};
 use serve_faults::ServeFault;
+use serve_lines::{
+    AlarmFront, Command, OutFront, Pool, push_alarm, push_done, push_fault, push_out, push_refused,
+    push_reply, put_alarm, put_out, read_command,
+};
 use std::alloc::{AllocError, Global};
 use std::str;
 

@@ -9,9 +9,9 @@ ghost use Rattle.serve_answers.specs.Listings.{state_lines_of, code_lines, prior
 
 use alarm_bank::Summary;
 use alarm_machine::Code;
-use serve_lines::{push_count, push_row, push_state};
 use engine::Engine;
 use plant_config::Plant;
+use serve_lines::{push_count, push_row, push_state};
 use std::alloc::{AllocError, Global};
 
 /// Appends the STATE line of an alarm, none where it is normal, and returns how many lines that is.

@@ -11,10 +11,10 @@ ghost use Rattle.serve_answers.specs.Listings.{text_of, half_total, half_lines_o
 
 use crate::listings::{push_area, push_numbered, push_shown, row_total};
 use base_streams::Sink;
-use serve_lines::push_end;
 use engine::Engine;
 use plant_config::Plant;
 use serve_faults::{ServeFault, put_all};
+use serve_lines::push_end;
 use std::alloc::{AllocError, Global};
 
 /// How many bytes of an answer are held before they are written.

@@ -22,7 +22,7 @@ pub use plant_folder::{
     SourceText, accepted_line, fetch,
 };
 pub use serve_faults::{ServeFault, put_all};
-pub use service::{Ends, RunEnd, run, run_from};
 pub use serve_session::{Session, Step, out_text_is_one, requests_end, serve};
+pub use service::{Ends, RunEnd, run, run_from};
 pub use tables::listing;
 pub use verdict::{admit, admit_from, check_from};

@@ -6,8 +6,8 @@ ghost use Rattle.level_scans.specs.Levels.{AreLevelsOf};
 
 use crate::columns::{push_left, push_number, push_right};
 use crate::widths::first_width;
-use plant_config::Plant;
 use level_scans::Levelled;
+use plant_config::Plant;
 use std::alloc::{AllocError, Global};
 
 /// How wide a column of costs or of alarms is.

@@ -14,6 +14,6 @@ mod session;
 
 pub use base_streams::{Failed, Feed, Reading, Sink, Writing};
 pub use laws::out_text_is_one;
-pub use serve_requests::requests_end;
 pub use serve_faults::{ServeFault, put_all};
+pub use serve_requests::requests_end;
 pub use session::{Session, Step, serve};

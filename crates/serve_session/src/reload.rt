@@ -12,12 +12,12 @@ ghost use Rattle.serve_session.specs.Reloads.{texts_in, names_in, names_for, rel
 ghost use Rattle.serve_session.specs.Session.{AsksFor, Serves, Continues};
 
 use base_streams::Sink;
-use serve_lines::{TextSizes, push_refused, push_reloaded};
 use engine::{Engine, EngineFault};
 use plant_config::{ConfigFault, Files, Plant};
 use plant_folder::{Listener, PlantTexts, verdict};
 use plant_types::{Items, Text};
 use serve_faults::{ServeFault, put_all};
+use serve_lines::{TextSizes, push_refused, push_reloaded};
 use std::alloc::{AllocError, Global};
 use std::thread::Threads;
 

@@ -7,12 +7,12 @@ ghost use Rattle.serve_session.specs.Session.{AsksFor, HasReadMore, HasReadAll, 
 
 use crate::reload::answer_reload;
 use base_streams::{Feed, Sink, empty_piece, fill};
-use serve_answers::{Said, answer_line, write_journal, write_list};
-use serve_lines::{Pool, reload_sizes};
 use engine::{Crew, Done, Engine, Job, Start};
 use plant_folder::Listener;
-use serve_requests::{Ended, Held, Splitter, Taken};
+use serve_answers::{Said, answer_line, write_journal, write_list};
 use serve_faults::{ServeFault, put_all};
+use serve_lines::{Pool, reload_sizes};
+use serve_requests::{Ended, Held, Splitter, Taken};
 use std::alloc::{AllocError, Global};
 use std::marker::Model;
 use std::sync::Wait;

@@ -13,12 +13,12 @@ ghost use Rattle.slice_store.specs.Level.{PutsPart, Takes};
 
 use crate::start::Start;
 use acc_vm::{Code, Own, Shared};
-use vm_slices::{Part, put_clocks};
 use crew::Work;
 use logic_cells::{Cells, Clock, Stop};
 use std::marker::Model;
 use std::sync::Arc;
 use std::sync::atomic::{AtomicI64, Ordering};
+use vm_slices::{Part, put_clocks};
 
 /// What a job has: where it starts, room for cells and a stack of its own, what it costs, and room for how its run ends; and
 /// what was read of the run. It lies in a place of its own, so that it isn't copied where the job, its run or their memory is handed on.

@@ -3,8 +3,8 @@
 ghost use Rattle.std.specs.Prelude.{◌≡◌, length};
 ghost use Rattle.slice_store.specs.Starts.{HasNumber, part_of};
 
-use vm_slices::Part;
 use std::marker::Model;
+use vm_slices::Part;
 
 /// The parts of all programs, in program order. Threads share the list as one. Contracts see a list of parts.
 pub struct Parts {

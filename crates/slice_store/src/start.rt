@@ -5,11 +5,11 @@ ghost use Rattle.std.specs.Arc.{arc_value};
 ghost use Rattle.slice_store.specs.Starts.{Begun, CanRun, HasNumber, part_of};
 
 use crate::parts::Parts;
-use vm_slices::{Part, same_cells};
 use logic_cells::Cells;
 use std::marker::Model;
 use std::mem::swap;
 use std::sync::Arc;
+use vm_slices::{Part, same_cells};
 
 /// Where a job starts: its number, which is 1 more than its program's, the moment in milliseconds, and the cells of its program's part as they
 /// were. It holds the list of all parts, of which its own is the one of its number: so all starts share one owners' count.
@@ -48,10 +48,10 @@ impl Start {
         requires there { HasNumber (arc_value parts) number }
         requires runs { CanRun
             (record
-            {number = number; part = part_of (arc_value parts) number; moment = moment; cells = cells}) }
+            { number = number; part = part_of (arc_value parts) number; moment = moment; cells = cells }) }
         ensures { result
             ≡ record
-            {number = number; part = part_of (arc_value parts) number; moment = moment; cells = cells} }
+            { number = number; part = part_of (arc_value parts) number; moment = moment; cells = cells } }
     {
         Start {
             number,
@@ -94,13 +94,21 @@ impl Start {
     pub(crate) fn renew(&mut self, number: u32, parts: Arc<Parts>, moment: u64, cells: &mut Cells)
         requires there { HasNumber (arc_value parts) number }
         requires runs { CanRun
-            (record
-            {number = number; part = part_of (arc_value parts) number; moment = moment; cells =
-            cells.old}) }
+            (record {
+              number = number;
+              part = part_of (arc_value parts) number;
+              moment = moment;
+              cells =
+                  cells.old;
+            }) }
         ensures { self.new
-            ≡ record
-            {number = number; part = part_of (arc_value parts) number; moment = moment; cells =
-            cells.old} }
+            ≡ record {
+              number = number;
+              part = part_of (arc_value parts) number;
+              moment = moment;
+              cells =
+                  cells.old;
+            } }
     {
         self.number = number;
         self.parts = parts;

@@ -81,7 +81,7 @@ fn start_of(number: u32, parts: &Arc<Parts>, moment: u64, cells: Cells) -> Resul
     requires clocks { length cells.clocks ≡ length (part_of (arc_value parts.now) number).clocks }
     ensures { IfOk result (λ start. start
         ≡ record
-        {number = number; part = part_of (arc_value parts.now) number; moment = moment; cells = cells}) }
+        { number = number; part = part_of (arc_value parts.now) number; moment = moment; cells = cells }) }
 {
     let _code = parts.numbered(number).code();
     let parts = Arc::try_clone(parts)?;
@@ -102,9 +102,13 @@ fn renewed(
     requires clocks { length cells.old.clocks ≡ length (part_of (arc_value parts.now) number).clocks }
     ensures put { IfOk result (λ could. IsTrue could
         → arc_value place.new
-        ≡ record
-        {number = number; part = part_of (arc_value parts.now) number; moment = moment; cells =
-        cells.old}) }
+        ≡ record {
+          number = number;
+          part = part_of (arc_value parts.now) number;
+          moment = moment;
+          cells =
+              cells.old;
+        }) }
     ensures kept { IfOk result (λ could. could ≡ false → cells.new ≡ cells.old) }
 {
     let _code = parts.numbered(number).code();
@@ -147,9 +151,13 @@ fn put_start(
     requires clocks { length cells.old.clocks ≡ length (part_of (arc_value parts.now) number).clocks }
     ensures { OnOk result
         (arc_value place.new
-        ≡ record
-        {number = number; part = part_of (arc_value parts.now) number; moment = moment; cells =
-        cells.old}) }
+        ≡ record {
+          number = number;
+          part = part_of (arc_value parts.now) number;
+          moment = moment;
+          cells =
+              cells.old;
+        }) }
 {
     if renewed(place, number, parts, moment, cells)? {
         return Ok(());

@@ -5,12 +5,12 @@ ghost use Rattle.st_tree.specs.View.{view_expr};
 ghost use Rattle.st_parser.specs.Units.{view_declaration, view_section};
 ghost use Rattle.st_names.specs.DeclaredNames.{declared_together, declared_by, declared_in, first_declared};
 
+use base_words::Names;
 use plant_types::{Region, Text};
 use st_parser::{Declaration, Section, SectionKind, Sort};
 use st_tree::Expr;
 use std::alloc::{AllocError, Global};
 use std::marker::Model;
-use base_words::Names;
 
 /// A declared name, and what it is declared as.
 pub struct Declared<'a> {

@@ -10,10 +10,10 @@ ghost use Rattle.st_names.specs.Asked.{Added};
 ghost use Rattle.std.specs.Prelude.{◌++◌, ◌∷◌, []};
 
 use crate::declared::Declared;
+use base_words::Names;
 use plant_types::Text;
 use st_tree::Argument;
 use std::alloc::{AllocError, Global};
-use base_words::Names;
 
 /// Adds a name. True if it was there already.
 pub fn add_name(alloc: Global, names: &mut Names, name: &Text) -> Result<bool, AllocError>

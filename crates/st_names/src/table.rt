@@ -3,9 +3,9 @@
 ghost use Rattle.std.specs.Prelude.{◌≡◌, [], not, is_some, IfOk, option_copied};
 ghost use Rattle.st_names.specs.Tables.{value_of, with_entry};
 
+use base_words::Names;
 use std::alloc::{AllocError, Global};
 use std::marker::Model;
-use base_words::Names;
 
 /// What names stand for: the value of each name, found in any letter case.
 ///

@@ -13,10 +13,10 @@ use crate::declared::{Declared, declared_in};
 use crate::place::UnitPlace;
 use crate::repeated::add_name;
 use crate::standard::is_standard;
+use base_words::Names;
 use plant_types::Text;
 use st_parser::{Pou, Unit};
 use std::alloc::{AllocError, Global};
-use base_words::Names;
 
 /// Adds a name. True if it is taken.
 #[tactic(auto, using(crate::proofs::Twice::standard_folded))]

@@ -12,6 +12,7 @@ use crate::message::{Answer, Lists, Parcel, lists_of, move_last, run_all, run_ba
 use crate::share::{LEAST_ROUND, cost_of, cut, kept, own_of, share_of};
 use crate::starts::{Begun, starts_of};
 use crate::waiting::next_of;
+use base_trace::Remembered;
 use crew::{Crew, CrewFault, Gate, Work};
 use crossbeam_channel::{Receiver, SendError, Sender};
 use std::alloc::{AllocError, Global};
@@ -20,7 +21,6 @@ use std::mem::replace;
 use std::sync::{Arc, Wait};
 use std::thread;
 use std::thread::{JoinHandle, Threads};
-use base_trace::Remembered;
 
 /// So many answers may wait for the caller: as many as a plant has programs at most.
 const MOST_ANSWERS: usize = 512;

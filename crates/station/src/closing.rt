@@ -7,8 +7,8 @@ ghost use Rattle.station.specs.Closings.{EndedOne, AreEnded};
 
 use console_boards::Entry;
 use console_link::{Finished, Lane};
-use engine::{Engine, Order, Reply};
 use console_log::Mark;
+use engine::{Engine, Order, Reply};
 use std::marker::Model;
 
 /// A station that was closed: its engine, its crew, and the orders that were left of the consoles that had ended.

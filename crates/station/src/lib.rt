@@ -17,12 +17,12 @@ mod opening;
 mod recording;
 mod station;
 
-pub use console_archive::{Archive, Book};
 pub use closing::Closing;
+pub use console_archive::{Archive, Book};
 pub use console_link::Answer;
+pub use console_operator::BoardView;
 pub use laws::{consoles_saw, consoles_stay};
 pub use opening::StationFault;
-pub use console_operator::BoardView;
 pub use station::{Station, Turn};
 
 /// An operator's console, which may go to a thread of its own.

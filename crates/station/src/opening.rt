@@ -6,8 +6,8 @@ ghost use Rattle.station.specs.Lanes.{numbers_of, links_of, AreOpened, HasNotLoo
 
 use console_boards::BoardWriter;
 use console_link::{Lane, open};
-use engine::{Order, Reply};
 use console_operator::Console;
+use engine::{Order, Reply};
 use std::alloc::{AllocError, AllocFailed, Global};
 
 /// Why there is no station.

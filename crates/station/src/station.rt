@@ -12,12 +12,12 @@ use crate::opening::StationFault;
 use crate::recording::open_consoles;
 use console_archive::{Archive, Recorder};
 use console_link::Lane;
+use console_operator::{Console, Finished};
+use console_orders::take_parts;
 use engine::{
     Crew, Done, Engine, EngineFault, Job, Order, Pair, Plant, ReloadRefused, Reloaded, Reply,
     Report, Start,
 };
-use console_operator::{Console, Finished};
-use console_orders::take_parts;
 use std::alloc::Global;
 use std::marker::Model;
 use std::sync::ledger::{Blank, Ledger};

@@ -8,11 +8,11 @@ use crate::losing::Losing;
 use crate::scans::push_scans;
 use crew::{Alone, BoxedGate, CrewFault, Scoped};
 use engine::{Done, Job, Plant, Start};
-use try_text::Page;
 use standing_crew::Standing;
 use std::alloc::Global;
 use std::sync::{Arc, Wait};
 use std::thread::Threads;
+use try_text::Page;
 
 /// Workers that stand ready, and pass the gate.
 type Workers = Standing<Job, Start, Done, Holding>;

@@ -31,12 +31,12 @@ use crews::{Kind, Plants, push_alone, push_losing, push_scoped, push_standing};
 use engine::Plant;
 use gates::{Holding, Watch};
 use plants::read_plant;
-use try_text::Page;
 use std::alloc::{AllocError, Global};
 use std::io;
 use std::io::Write;
 use std::sync::{Arc, Wait};
 use std::thread::Threads;
+use try_text::Page;
 
 /// A line of the table.
 #[derive(Clone, Copy, Drop)]

@@ -2,8 +2,8 @@
 
 use crate::gates::Watch;
 use engine::{Crew, Done, Engine, EngineFault, Job, Pair, Plant, Start};
-use try_text::Page;
 use std::alloc::Global;
+use try_text::Page;
 
 /// Adds the values of the outputs.
 fn push_outputs(page: &mut Page, engine: &Engine) {

@@ -3,10 +3,10 @@
 ghost use Rattle.alarm_machine.specs.declared.states.AlarmState.{AlarmState};
 
 use engine::{AlarmState, Order, OrderFault, Plant, Reply, Verb};
-use try_shift::Note;
 use station::Answer;
 use std::alloc::{AllocError, Global};
 use std::mem::swap;
+use try_shift::Note;
 
 /// How many orders a console's drill has.
 pub const DRILL: usize = 100;

@@ -1,11 +1,11 @@
 //! What the check of a plant's sources answers.
 
-use try_text::{File, Page};
 use st_lexer::{LexFault, lex};
 use st_names::UnitPlace;
 use st_parser::{ParseFault, Unit, parse};
 use st_typing::{TypeFault, check};
 use std::alloc::{AllocError, Global};
+use try_text::{File, Page};
 
 /// The unit that a text spells, if it spells one.
 fn unit_of(alloc: Global, text: &[u8]) -> Result<Option<Unit>, AllocError> {

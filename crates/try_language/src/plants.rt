@@ -1,12 +1,12 @@
 //! The files of a plant, and what is told of it.
 
 use crate::faults::{fault_of, is_of_tables};
-use plant_config::{ConfigFault, Plant};
 use explain_plant::{PlantTexts, Warner, explain_all, warn};
-use try_text::{File, Page};
 use explain_statements::{statement_table, told_of_fault};
+use plant_config::{ConfigFault, Plant};
 use std::alloc::{AllocError, Global};
 use std::thread::Threads;
+use try_text::{File, Page};
 
 /// The plant file of a plant that has none of its own.
 const PLANT: &[u8] = b"name = \"P\"

@@ -3,9 +3,9 @@
 use crate::judged::push_judged;
 use crate::plants::push_told;
 use crate::spelled::{Wanted, push_spelled};
-use try_text::{File, Page, have_gap};
 use std::alloc::{AllocError, Global};
 use std::thread::Threads;
+use try_text::{File, Page, have_gap};
 
 /// What is asked of a text, of the sources of a plant, or of a plant.
 #[derive(Clone, Copy, Drop)]

@@ -2,10 +2,10 @@
 
 use crate::tree::show_unit;
 use const_fold::fold_body;
-use try_text::{File, Page};
 use st_lexer::{LexFault, Token, lex};
 use st_parser::{ParseFault, Unit, parse};
 use std::alloc::{AllocError, Global};
+use try_text::{File, Page};
 
 /// What is printed of a text.
 #[derive(Clone, Copy, Drop)]

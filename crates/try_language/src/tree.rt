@@ -3,9 +3,9 @@
 //! Each operator with two operands stands in parentheses with them, and each literal with its kind; an integer without a kind stands in square brackets.
 
 use plant_types::{Kind, Region, Text, Value};
-use try_text::Page;
 use st_parser::{Declaration, Pou, PouKind, Section, SectionKind, Sort, Unit};
 use st_tree::{Argument, Binary, Branch, Choice, Expr, Label, Literal, Stmt, Unary};
+use try_text::Page;
 
 fn operator(op: &Binary) -> &str {
     match op {

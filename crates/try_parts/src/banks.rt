@@ -5,8 +5,8 @@ use crate::printing::{number_of, parts_of};
 use alarm_bank::{Annunciator, Bank, BankEvent, NewAlarm, Site};
 use alarm_machine::{Alarm, Change, OrderFault, Verb};
 use plant_types::Items;
-use try_text::Page;
 use std::alloc::{AllocError, Global};
+use try_text::Page;
 
 /// A bank of three alarms before its first scan, of which the second one latches; each may be shelved for 5000 ms.
 fn bank(alloc: Global) -> Result<Bank, AllocError> {

@@ -1,8 +1,8 @@
 //! The standard blocks (`std_blocks`), call by call.
 
 use crate::printing::{number_of, parts_of};
-use try_text::Page;
 use std_blocks::{TofState, TonState, TrigState};
+use try_text::Page;
 
 /// Adds what a timer shows.
 fn push_shown(page: &mut Page, shown: (bool, i64)) {

@@ -2,8 +2,8 @@
 
 use crate::printing::parts_of;
 use serve_arguments::{Choice, Ended, UsageFault, choose, status};
-use try_text::Page;
 use std::alloc::{AllocError, Global};
+use try_text::Page;
 
 /// The words of a text, each after a space; `""` is the empty word.
 fn words_of<'a>(alloc: Global, text: &'a str) -> Result<Vec<&'a str>, AllocError> {

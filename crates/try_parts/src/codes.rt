@@ -1,8 +1,8 @@
 //! Cells and their clocks (`logic_cells`).
 
 use logic_cells::{Cells, Clock, Standard};
-use try_text::Page;
 use std::alloc::{AllocError, Global};
+use try_text::Page;
 
 /// Adds the first value of cells and what their first clock shows.
 fn push_held(page: &mut Page, cells: &Cells) {

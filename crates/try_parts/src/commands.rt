@@ -2,13 +2,13 @@
 
 use crate::printing::{bytes_of, push_byte};
 use alarm_machine::{Change, Code, OrderFault};
+use plant_types::{Given, Trap, Value};
 use serve_lines::{
     Command, Pool, push_alarm, push_done, push_fault, push_out, push_refused, push_reply,
     read_command, reload_size, reload_sizes,
 };
-use plant_types::{Given, Trap, Value};
-use try_text::Page;
 use std::alloc::{AllocError, Global};
+use try_text::Page;
 
 /// Adds what is given for an input: a truth or a number.
 fn push_given(page: &mut Page, given: Given) {

@@ -2,11 +2,11 @@
 
 use crate::printing::{moment_of, number_of, parts_of};
 use alarm_machine::{Change, Code, OrderFault, Verb};
+use base_stamps::Epoch;
 use journal_core::{Entry, Row, row_text};
 use plant_types::{Place, Trap};
-use try_text::Page;
-use base_stamps::Epoch;
 use std::alloc::Global;
+use try_text::Page;
 
 /// The stamp of a moment after an epoch; `-` where the text is no epoch.
 pub fn push_stamp(alloc: Global, page: &mut Page, words: &str) {

@@ -2,8 +2,8 @@
 
 ghost use Rattle.std.specs.Prelude.{◌≤◌};
 
-use try_text::{Page, push_line};
 use std::alloc::{AllocError, Global};
+use try_text::{Page, push_line};
 
 /// The digits of hexadecimal numbers.
 const DIGITS: &[u8; 16] = b"0123456789abcdef";

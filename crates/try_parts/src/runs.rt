@@ -9,11 +9,11 @@ use crate::sources::typed_of;
 use logic_cells::Cells;
 use logic_limits::LimitFault;
 use st_sources::one_answer;
-use vm_logic::{Framed, Stack, Walked, run_counted, standing_cells_are_there};
-use try_text::Page;
-use try_walks::Walker;
 use st_typing::Typed;
 use std::alloc::{AllocError, Global};
+use try_text::Page;
+use try_walks::Walker;
+use vm_logic::{Framed, Stack, Walked, run_counted, standing_cells_are_there};
 
 /// Adds how a program ends that runs at a moment: the path, the statement's number as many points, and the trap.
 fn push_run(

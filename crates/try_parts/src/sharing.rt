@@ -3,9 +3,9 @@
 use alarm_bank::{Bank, BankEvent, Site};
 use alarm_machine::{Alarm, Change, Code, Verb};
 use plant_types::Items;
-use try_text::Page;
 use std::alloc::{AllocError, Global};
 use std::thread::Threads;
+use try_text::Page;
 
 /// A bank of so many alarms, none of which latches; each may be shelved for 5000 ms.
 fn bank(alloc: Global, count: u32) -> Result<Bank, AllocError> {

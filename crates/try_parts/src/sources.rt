@@ -9,9 +9,9 @@ use crate::runs::push_judged;
 use logic_limits::{LimitFault, limits};
 use logic_source::{BlockRef, Logic, Routine, logic_of, order_is_of_source};
 use st_sources::units;
-use try_text::Page;
 use st_typing::{Typed, check};
 use std::alloc::{AllocError, Global};
+use try_text::Page;
 
 /// The name of what an instance is of; a block type's number.
 fn of_text(of: BlockRef) -> &'static str {

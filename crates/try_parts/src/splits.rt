@@ -2,8 +2,8 @@
 
 use crate::printing::{bytes_of, push_byte};
 use serve_requests::{Ended, Held, Splitter, Taken};
-use try_text::Page;
 use std::alloc::{AllocError, Global};
+use try_text::Page;
 
 /// How many bytes are printed at most; of more the number is.
 const SHOWN: usize = 64;

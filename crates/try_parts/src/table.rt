@@ -13,9 +13,9 @@ use crate::sources::push_source;
 use crate::splits::push_split;
 use crate::trees::{push_copied, push_labels, push_named_body, push_named_sum};
 use crate::values::{push_fitted, push_lists, push_name, push_names, push_same, push_truths};
-use try_text::Page;
 use std::alloc::{AllocError, Global};
 use std::thread::Threads;
+use try_text::Page;
 use try_twins::{push_level_row, push_seed};
 
 /// Adds the answer to a row of words, values, alarms or blocks; of any other row that of `push_other`.

@@ -4,11 +4,11 @@
 ghost use Rattle.std.specs.Prelude.{◌≡◌, ℕ, IfOk};
 ghost use Rattle.st_tree.specs.View.{view_expr};
 
-use try_text::Page;
 use st_tree::{
     Binary, Expr, Label, Literal, Pass, Stmt, copy_body, copy_labels, map_body, map_expr,
 };
 use std::alloc::{AllocError, Global};
+use try_text::Page;
 
 /// FOR v4 := 1 TO 9 BY 2 DO v5 := v6.8; END_FOR.
 fn repeated(alloc: Global) -> Result<Stmt<usize>, AllocError> {

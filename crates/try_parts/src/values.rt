@@ -2,8 +2,8 @@
 
 use crate::printing::{bytes_of, parts_of, push_byte, truth_text};
 use plant_types::{Given, Items, Kind, Text, Value, fitted, is_name, same_word};
-use try_text::Page;
 use std::alloc::{AllocError, Global};
+use try_text::Page;
 
 /// Whether two words are one.
 pub fn push_same(alloc: Global, page: &mut Page, words: &str) {

@@ -3,10 +3,10 @@
 use engine::{Crew, Done, Engine, Job, Start};
 use plant_config::Plant;
 use serve_runs::{Deaf, Feed, Reading, ServeFault, Sink, Writing, serve};
-use try_text::Page;
 use std::alloc::Global;
 use std::sync::Wait;
 use std::thread::Threads;
+use try_text::Page;
 
 /// Adds the line of a plant that is only checked.
 pub fn push_accepted(page: &mut Page, plant: &Plant) {

@@ -1,11 +1,11 @@
 //! The programs of a plant beside the server: they run in both ways, by their codes and as the source is read.
 
 use alarm_machine::Verb;
-use serve_lines::{Command, Pool, TextSizes, read_command, reload_sizes};
 use engine::Engine;
 use plant_config::Plant;
-use try_text::Page;
+use serve_lines::{Command, Pool, TextSizes, read_command, reload_sizes};
 use std::alloc::{AllocError, Global};
+use try_text::Page;
 use try_twins::{Scanned, TwinScans, Walker, walker_of_sources};
 
 /// The runs beside a server, and room for the pairs of a scan.

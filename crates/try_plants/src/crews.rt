@@ -4,11 +4,11 @@ ghost use Rattle.std.specs.Prelude.{◌<◌, ◌≤◌};
 
 use crew::Ungated;
 use engine::{Done, Job, Start};
-use try_text::Page;
 use standing_crew::Standing;
 use std::alloc::{AllocError, Global};
 use std::sync::{Arc, Wait};
 use std::thread::Threads;
+use try_text::Page;
 
 /// Workers that run the programs of a plant.
 pub type Workers = Standing<Job, Start, Done, Ungated>;

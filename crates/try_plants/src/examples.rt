@@ -9,12 +9,12 @@ use engine::{Alone, Crew, Done, Job, Start};
 use serve_runs::{
     Deaf, Disk, Ends, PlantFiles, Reading, ServeFault, Writing, check_from, run_from,
 };
-use try_text::Page;
 use std::alloc::Global;
 use std::fs;
 use std::rt::Files;
 use std::sync::Wait;
 use std::thread::Threads;
+use try_text::Page;
 
 /// What there is to say of the plant of a plant file's path.
 fn checked<R: Files + Threads + Sync>(

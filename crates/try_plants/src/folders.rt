@@ -8,10 +8,10 @@ use serve_runs::{
     Deaf, Ends, FileFault, Folder, PlantFiles, PlantTexts, Reading, RunEnd, ServeFault, Writing,
     check_from, run, run_from,
 };
-use try_text::{File, Page};
 use std::alloc::Global;
 use std::sync::Wait;
 use std::thread::Threads;
+use try_text::{File, Page};
 
 /// A folder `plant` with the files of a plant.
 #[derive(Drop)]

@@ -4,10 +4,10 @@ use crate::sessions::push_session;
 use crate::steps::push_step;
 use engine::{Crew, Done, Engine, Job, Start};
 use plant_config::Plant;
-use try_text::Page;
 use std::alloc::Global;
 use std::sync::Wait;
 use std::thread::Threads;
+use try_text::Page;
 
 /// Gives an engine the commands of lines, each by the engine's call for it.
 fn give<H, C: Crew<Job, Start, Done, H>>(

@@ -4,14 +4,11 @@ use alarm_machine::{
     code_changes_are_reported, codes_print_differently, new_condition_in_service_needs_ack,
     no_unsuppressed_scan_acknowledges, repeated_scan_changes_nothing,
 };
+use logic_cells::called_clock;
 use logic_frames::{
     fitting_names_are_known, frames_agree, frames_begin, frames_have_paths, frames_have_standards,
     instances_have_numbers, typed_names_are_known, variables_have_numbers,
 };
-use st_blocks::{one_nesting_fault, sound_or_not};
-use logic_walk::{frame_runs_its_body, seats_lie_apart};
-use logic_cells::called_clock;
-use plant_config::{accepted_or_refused, one_plant, one_refusal};
 use logic_limits::block_type_counts;
 use logic_source::{
     answered_by_rule, block_type_begins, block_type_has_clocks, block_type_has_values,
@@ -21,17 +18,20 @@ use logic_source::{
     program_values_stand, typed_names_are_distinct, typed_types_are_there, value_of_number,
     value_written, values_stand_once,
 };
+use logic_walk::{frame_runs_its_body, seats_lie_apart};
+use plant_config::{accepted_or_refused, one_plant, one_refusal};
 use serve_runs::{out_text_is_one, requests_end};
+use st_blocks::{one_nesting_fault, sound_or_not};
+use st_lexer::{one_answer, one_cut, some_answer, word_spelling};
+use st_parser::one_unit;
 use st_sources::spelled_or_stopped;
+use st_tree::{constant_of_is_value_of, control_values_count_to_bound, kind_of_expr_is_kind_in};
+use st_typing::{one_type_fault, typed_or_not};
 use vm_logic::{
     as_many_cells, assigned_global_stays_in_range, cell_of_global, each_found, found_global,
     global_is_in_range, opening_world_is_in_range, program_stays_in_range, sound_source_is_small,
     written_cell,
 };
-use st_lexer::{one_answer, one_cut, some_answer, word_spelling};
-use st_parser::one_unit;
-use st_tree::{constant_of_is_value_of, control_values_count_to_bound, kind_of_expr_is_kind_in};
-use st_typing::{one_type_fault, typed_or_not};
 
 /// Calls the laws of alarms.
 fn laws_of_alarms() {

@@ -65,7 +65,6 @@ mod table;
 
 use crews::Crews;
 use examples::push_examples_by_all;
-use try_text::Page;
 use std::alloc::Global;
 use std::io;
 use std::io::Write;
@@ -73,6 +72,7 @@ use std::rt::Files;
 use std::sync::Wait;
 use std::thread::Threads;
 use table::push_answers_to;
+use try_text::Page;
 
 /// Adds what a table is answered, and a last line where all crews answer alike. The crews are let go here alone.
 fn push_all<R: Files + Threads + Wait + Clone + Send + Sync + Drop + 'static>(

@@ -1,9 +1,9 @@
 //! The files of a plant, as the table gives them, and the plant that they make.
 
 use plant_config::{ConfigFault, Files, Plant};
-use try_text::{File, Page};
 use std::alloc::{AllocError, Global};
 use std::thread::Threads;
+use try_text::{File, Page};
 use try_twins::{Unready, Walker, walker_of_sources};
 
 /// What stands in `plant.toml` where the table gives a plant none of its own.

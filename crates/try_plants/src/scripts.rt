@@ -12,10 +12,10 @@ use crate::steps::push_step;
 use engine::{Alone, Crew, Done, Engine, Job, Start};
 use plant_config::Plant;
 use serve_runs::listing;
-use try_text::{Page, push_line};
 use std::alloc::Global;
 use std::sync::Wait;
 use std::thread::Threads;
+use try_text::{Page, push_line};
 use try_twins::Walker;
 
 /// Adds a line to commands.

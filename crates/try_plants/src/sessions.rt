@@ -5,10 +5,10 @@ ghost use Rattle.std.specs.Prelude.{◌≡◌, false};
 use engine::{Crew, Done, Engine, Job, Start};
 use plant_config::Plant;
 use serve_runs::{Deaf, Failed, Feed, ServeFault, Sink, serve};
-use try_text::Page;
 use std::alloc::{AllocError, Global};
 use std::sync::Wait;
 use std::thread::Threads;
+use try_text::Page;
 
 /// More calls than a session makes, and more bytes than it reads or writes.
 const NO_LIMIT: usize = 1_000_000_000;

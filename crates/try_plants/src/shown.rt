@@ -2,11 +2,11 @@
 
 use engine::{CrewFault, EngineFault};
 use plant_config::{AlarmRow, ConfigFault, Limit, Plant};
-use serve_runs::ServeFault;
 use plant_types::{Kind, Region};
-use vm_logic::{Framed, Stack, Walked, run, standing_cells_are_there};
-use try_text::Page;
+use serve_runs::ServeFault;
 use std::alloc::{AllocError, Global};
+use try_text::Page;
+use vm_logic::{Framed, Stack, Walked, run, standing_cells_are_there};
 
 fn kind_text(kind: Kind) -> &'static str {
     match kind {

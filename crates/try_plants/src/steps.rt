@@ -2,11 +2,11 @@
 
 use crate::answers::push_seen;
 use alarm_machine::{Code, Verb};
-use serve_lines::{Command, Pool, read_command};
 use engine::{Crew, Done, Engine, EngineFault, Job, Order, Pair, Report, Start};
 use plant_config::Plant;
-use try_text::Page;
+use serve_lines::{Command, Pool, read_command};
 use std::alloc::Global;
+use try_text::Page;
 
 /// The order of a verb for the alarm with a tag, or for the program with a name.
 fn order_of(plant: &Plant, verb: Verb, word: &[u8]) -> Order {

@@ -4,10 +4,10 @@ use crate::answers::push_page;
 use crate::crews::Crews;
 use crate::plants::{Asked, Plan, put_file, put_first};
 use crate::scripts::{page_again, push_plan_by_all};
-use try_text::{File, Page, have_gap};
 use std::alloc::Global;
 use std::sync::Wait;
 use std::thread::Threads;
+use try_text::{File, Page, have_gap};
 
 /// What the table has said so far.
 #[derive(Drop)]

@@ -6,8 +6,8 @@ use crate::names::{
     Routine, Row, THIRD, TIME_ROWS, TIMES,
 };
 use plant_types::Kind;
-use try_text::Page;
 use std::alloc::{AllocError, Global};
+use try_text::Page;
 
 /// Something still to be written.
 #[derive(Clone, Copy, Drop)]

@@ -5,7 +5,6 @@ ghost use Rattle.std.specs.Prelude.{◌≡◌};
 use crate::crews::Workers;
 use crate::day::DayFault;
 use crate::events::Events;
-use try_desks::Watch;
 use engine::{Engine, Plant};
 use station::Station;
 use std::alloc::Global;
@@ -14,6 +13,7 @@ use std::sync::ledger::Ledger;
 use std::thread;
 use std::thread::Threads;
 use std::time::{Clock, Duration};
+use try_desks::Watch;
 
 /// How often the owner looks at most whether orders are under way.
 const MOST_LOOKS: u32 = 1_000_000;

@@ -2,11 +2,11 @@
 
 use crate::crews::Workers;
 use crate::events::Events;
-use try_desks::{Post, is_outdated};
 use engine::{Engine, Entry, Log};
-use try_text::Page;
-use try_shift::{Note, Orders, are_told, count};
 use station::Closing;
+use try_desks::{Post, is_outdated};
+use try_shift::{Note, Orders, are_told, count};
+use try_text::Page;
 
 /// How many orders may be left of a console at most.
 const MOST_LEFT: u32 = 64;

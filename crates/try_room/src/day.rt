@@ -5,9 +5,8 @@ ghost use Rattle.station.specs.Lanes.{KeepsConsoles};
 use crate::change::{change, is_due};
 use crate::crews::Workers;
 use crate::events::Events;
-use serve_lines::{Command, Pool, read_command};
-use try_desks::Watch;
 use engine::{AlarmState, Engine, EngineFault, Pair, Plant};
+use serve_lines::{Command, Pool, read_command};
 use station::Station;
 use std::alloc::{AllocError, Global};
 use std::sync::Wait;
@@ -15,6 +14,7 @@ use std::sync::ledger::Ledger;
 use std::thread;
 use std::thread::Threads;
 use std::time::{Clock, Duration};
+use try_desks::Watch;
 
 /// How many turns the owner takes at most between two scans of the script.
 const MOST_TURNS: u32 = 100_000;

@@ -2,10 +2,10 @@
 
 use engine::Plant;
 use plant_folder::{Deaf, Disk, FetchFault, Fetched, PlantFiles, PlantTexts, fetch, verdict};
-use try_text::Page;
 use std::alloc::{AllocError, Global};
 use std::rt::Files;
 use std::thread::Threads;
+use try_text::Page;
 
 /// The plant file of the house.
 const FIRST: &str = "house/plant.toml";

@@ -1,6 +1,5 @@
 //! The keeper: a thread that has the archive and keeps its journal, page by page, while the station turns.
 
-use try_desks::Watch;
 use station::Archive;
 use std::alloc::{AllocError, Global};
 use std::sync::ledger::Ledger;
@@ -8,6 +7,7 @@ use std::sync::{Arc, Wait};
 use std::thread;
 use std::thread::{JoinHandle, Threads};
 use std::time::{Clock, Duration};
+use try_desks::Watch;
 
 /// How many rows a page of the keeper has at most.
 const PAGE: u32 = 16;

@@ -29,7 +29,6 @@ mod reports;
 mod room;
 mod shift;
 
-use try_desks::Watch;
 use crews::workers;
 use house::read_houses;
 use room::run;
@@ -43,6 +42,7 @@ use std::rt::Runtime;
 use std::sync::Wait;
 use std::sync::ledger::Blank;
 use std::thread::Threads;
+use try_desks::Watch;
 
 /// How many workers run the programs of the plant, of which the owner is one.
 const WORKERS: u32 = 2;

@@ -4,12 +4,12 @@ use crate::day::DayFault;
 use crate::events::Events;
 use crate::keeper::Kept;
 use engine::{Engine, Entry, Log, Verb};
-use try_text::Page;
-use try_shift::{Orders, count};
 use station::Archive;
 use std::alloc::{AllocError, Global};
 use std::sync::Wait;
 use std::sync::ledger::Ledger;
+use try_shift::{Orders, count};
+use try_text::Page;
 
 /// How many rows the last page has.
 const PAGE: u32 = 12;

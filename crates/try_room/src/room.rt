@@ -9,13 +9,13 @@ use crate::house::Houses;
 use crate::keeper::{end_keeper, start_keeper};
 use crate::reports::{push_end, push_history, push_kept};
 use crate::shift::Shift;
-use try_desks::{Ended, Plants, join_all, seat_all};
 use station::Station;
 use std::alloc::Global;
 use std::sync::Wait;
 use std::sync::ledger::{Blank, Ledger};
 use std::thread::Threads;
 use std::time::Clock;
+use try_desks::{Ended, Plants, join_all, seat_all};
 
 /// The whole life of a station: its consoles go to threads of their own, the owner goes through the script, in which its plant is changed, the consoles come
 /// back, and what there is to tell is added. Tells whether the day was whole.

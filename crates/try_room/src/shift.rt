@@ -1,10 +1,10 @@
 //! What a shift has beside the station: its script, what owner and consoles tell each other, the owner's events, and the text of the report.
 
 use crate::events::Events;
-use try_desks::Watch;
-use try_text::Page;
 use std::alloc::Global;
 use std::sync::Arc;
+use try_desks::Watch;
+use try_text::Page;
 
 /// What a shift has beside the station.
 #[derive(Drop)]

@@ -5,8 +5,8 @@ ghost use Rattle.try_shift.specs.Shifts.{time_of, target_of, refusal_of, telling
 
 use crate::counts::rank;
 use alarm_machine::{OrderFault, Verb};
-use journal_core::{Entry, Log};
 use alarm_orders::Order;
+use journal_core::{Entry, Log};
 
 /// What an operator keeps of an answer.
 #[derive(Clone, Copy, Drop)]

@@ -9,9 +9,9 @@ ghost use Rattle.try_stations.specs.Seated.{EndAll};
 
 use crate::orders::push_order;
 use crate::workers::Workers;
-use try_text::Page;
 use station::{Closing, Console, Finished};
 use std::alloc::Global;
+use try_text::Page;
 
 /// Keeps an ended console; where memory is refused twice it is let go.
 fn keep(finished: &mut Vec<Finished>, end: Finished)

@@ -6,12 +6,12 @@ use crate::ending::{end_all, push_end};
 use crate::rows::push_rows;
 use crate::workers::{Workers, workers_of};
 use engine::Plant;
-use try_text::Page;
 use station::Station;
 use std::alloc::Global;
 use std::sync::Wait;
 use std::sync::ledger::{Blank, Ledger};
 use std::thread::Threads;
+use try_text::Page;
 
 /// The whole life of a station: it does what its rows say, and adds what they give; the files are its plant's. Where there is no station memory was refused. (A `&str` in its
 /// signature would keep the caller from picking the ledger.)

@@ -6,9 +6,9 @@ use crate::asking::{Asked, Told, ask};
 use crate::orders::{order_of, push_order, push_reply};
 use crate::rows::{cut, number};
 use engine::{Engine, Order, Reply};
-use try_text::Page;
 use station::{Answer, Console};
 use std::alloc::Global;
+use try_text::Page;
 
 /// Adds what a board shows.
 fn push_shown(page: &mut Page, events: u64, state: Option<engine::AlarmState>) {

@@ -48,7 +48,6 @@ mod workers;
 
 use living::run;
 use plants::{parted, read_plant};
-use try_text::Page;
 use std::alloc::Global;
 use std::io;
 use std::io::Write;
@@ -56,6 +55,7 @@ use std::marker::Brand;
 use std::sync::Wait;
 use std::sync::ledger::Blank;
 use std::thread::Threads;
+use try_text::Page;
 
 /// How often a station is lived at most, where memory is refused.
 const MOST_LIVES: u32 = 100;

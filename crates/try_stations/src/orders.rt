@@ -1,9 +1,9 @@
 //! The orders of the table, and their texts.
 
-use serve_lines::{Command, Pool, read_command};
 use engine::{Engine, Order, Plant, Reply, Verb};
-use try_text::Page;
+use serve_lines::{Command, Pool, read_command};
 use std::alloc::{AllocError, Global};
+use try_text::Page;
 
 /// The number of what a word names as an order's target.
 fn target_of(plant: &Plant, verb: Verb, word: &[u8]) -> Option<u32> {

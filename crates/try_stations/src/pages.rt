@@ -2,11 +2,11 @@
 
 use crate::rows::{cut, number};
 use engine::Engine;
-use try_text::Page;
 use station::Archive;
 use std::alloc::{AllocError, Global};
 use std::sync::Wait;
 use std::sync::ledger::Ledger;
+use try_text::Page;
 
 /// A page of the archive; where memory is refused it is asked for once more.
 fn page_again<L: Ledger, R: Wait>(

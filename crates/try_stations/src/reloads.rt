@@ -6,12 +6,12 @@ use crate::plants::read_plant;
 use crate::rows::cut;
 use crate::workers::Workers;
 use engine::{EngineFault, ReloadRefused, Reloaded};
-use try_text::Page;
 use station::Station;
 use std::alloc::{AllocError, Global};
 use std::sync::Wait;
 use std::sync::ledger::Ledger;
 use std::thread::Threads;
+use try_text::Page;
 
 /// Files of a plant with a text in the place of another one, where that stands in them first: by the words `OLD => NEW`.
 fn changed(alloc: Global, files: &str, words: &str) -> Result<String, AllocError> {

@@ -7,12 +7,12 @@ use crate::pages::{push_compared, push_page};
 use crate::reloads::push_reload;
 use crate::turns::push_turn_of;
 use crate::workers::Workers;
-use try_text::Page;
 use station::{Console, Station};
 use std::alloc::Global;
 use std::sync::Wait;
 use std::sync::ledger::Ledger;
 use std::thread::Threads;
+use try_text::Page;
 
 /// The two parts of words around their first blank.
 pub fn cut(words: &str) -> (&str, &str) {

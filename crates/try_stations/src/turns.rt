@@ -4,13 +4,13 @@ ghost use Rattle.try_stations.specs.Seated.{AreOf};
 
 use crate::counts::{count, is_kept};
 use crate::workers::Workers;
-use serve_lines::{Command, Pool, push_alarm, push_out, read_command};
 use engine::{Engine, EngineFault, Pair, Plant, Report};
-use try_text::Page;
+use serve_lines::{Command, Pool, push_alarm, push_out, read_command};
 use station::{Console, Station, Turn};
 use std::alloc::{AllocError, Global};
 use std::sync::Wait;
 use std::sync::ledger::Ledger;
+use try_text::Page;
 
 /// How many events a history takes.
 const MOST_EVENTS: u64 = 1_000_000;

@@ -2,9 +2,9 @@
 
 use crew::Work;
 use logic_cells::Stop;
-use try_random::Dice;
 use slice_store::{Done, Job};
 use std::alloc::{AllocError, Global};
+use try_random::Dice;
 
 /// How the run of a job ended.
 #[derive(Clone, Copy, Drop)]

@@ -7,12 +7,12 @@ ghost use Rattle.level_scans.specs.Levels.{AreLevelsOf};
 
 use crate::jobs::{Ended, push_ended, run_shuffled};
 use crate::state::State;
-use vm_logic::{Framed, programs_share_no_cell, sound_source_is_small};
-use try_random::Dice;
 use level_scans::Levelled;
 use slice_store::{Done, Job, Misfit, Reserve, Store};
 use std::alloc::{AllocError, Global};
 use std::mem::replace;
+use try_random::Dice;
+use vm_logic::{Framed, programs_share_no_cell, sound_source_is_small};
 
 /// Why a scan gave up.
 #[derive(Clone, Copy, Drop)]

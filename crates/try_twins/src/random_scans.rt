@@ -9,12 +9,12 @@ use crate::levels::{Fault, run_by_levels};
 use crate::ready::{Ready, Unready, made_ready};
 use crate::state::{End, State, is_alike, opened, restart, run_in_order};
 use crate::twin::set;
-use logic_cells::Stop;
-use vm_logic::{Framed, Walked};
-use try_random::Dice;
 use level_scans::Levelled;
-use try_walks::Walker;
+use logic_cells::Stop;
 use std::alloc::{AllocError, Global};
+use try_random::Dice;
+use try_walks::Walker;
+use vm_logic::{Framed, Walked};
 
 /// What came of a source.
 #[derive(Clone, Copy, PartialEq, Eq, Drop)]

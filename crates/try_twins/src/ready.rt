@@ -2,10 +2,10 @@
 
 use logic_limits::LimitFault;
 use st_sources::{SourceFault, units};
-use vm_logic::Framed;
-use try_walks::Walker;
 use st_typing::{TypeFault, Typed, check};
 use std::alloc::Global;
+use try_walks::Walker;
+use vm_logic::Framed;
 
 /// Why a source isn't run.
 #[derive(Clone, Copy, Drop)]

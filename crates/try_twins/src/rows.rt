@@ -8,12 +8,12 @@ use crate::jobs::{run_jobs, run_of};
 use crate::levels::{gather, new_store, split};
 use crate::ready::{Ready, Unready, made_ready};
 use crate::state::{State, is_alike, opened, run_in_order};
-use vm_logic::{Framed, sound_source_is_small};
-use try_text::Page;
 use level_scans::Levelled;
 use slice_store::{Done, Misfit};
-use try_walks::Walker;
 use std::alloc::{AllocError, Global};
+use try_text::Page;
+use try_walks::Walker;
+use vm_logic::{Framed, sound_source_is_small};
 
 /// The runs that a level is handed: the words that name them.
 #[derive(Clone, Copy, Drop)]

@@ -5,9 +5,9 @@ ghost use Rattle.vm_logic.specs.Runs.{HasCells};
 
 use crate::twin::Twin;
 use plant_types::{Pair, Region, Value, fitted};
-use vm_logic::{Framed, Walked, sound_source_is_small};
-use try_walks::Walker;
 use std::alloc::{AllocError, Global};
+use try_walks::Walker;
+use vm_logic::{Framed, Walked, sound_source_is_small};
 
 /// The last moment of all.
 const LAST_MOMENT: u64 = 4_000_000_000_000;

@@ -1,9 +1,9 @@
 //! Seeds, from which random sources come.
 
 use crate::random_scans::{Outcome, run_source};
+use std::alloc::{AllocError, Global};
 use try_random::{Dice, source};
 use try_text::Page;
-use std::alloc::{AllocError, Global};
 
 /// How many sources of a seed are run.
 const COUNT: u32 = 40;

@@ -4,13 +4,13 @@ ghost use Rattle.std.specs.Prelude.{◌≡◌, ◌<◌, length, IfOk};
 ghost use Rattle.vm_logic.specs.Runs.{HasCells};
 
 use crate::twin::Twin;
-use vm_slices::same_cells;
 use logic_cells::Cells;
-use vm_logic::{Framed, Walked, sound_source_is_small, standing_cells_are_there};
-use try_random::Dice;
 use slice_store::Reserve;
-use try_walks::Walker;
 use std::alloc::{AllocError, Global};
+use try_random::Dice;
+use try_walks::Walker;
+use vm_logic::{Framed, Walked, sound_source_is_small, standing_cells_are_there};
+use vm_slices::same_cells;
 
 /// What both ways have left. The first has cells for two runs of its programs, by walk and by code.
 #[derive(Drop)]

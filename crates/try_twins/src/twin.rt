@@ -1,11 +1,11 @@
 ghost use Rattle.std.specs.Prelude.{◌≡◌, ◌<◌, length, IfOk, OnOk, OnErr};
 ghost use Rattle.vm_logic.specs.Runs.{HasCells};
 
-use vm_carry::carry;
 use logic_cells::{Cells, Clock};
-use vm_logic::{Framed, Stack, Walked, run, standing_cells_are_there};
-use try_walks::Walker;
 use std::alloc::{AllocError, Global};
+use try_walks::Walker;
+use vm_carry::carry;
+use vm_logic::{Framed, Stack, Walked, run, standing_cells_are_there};
 
 /// Cells for each of the two ways in which the programs of a source run, and memory for the runs.
 #[derive(Drop)]

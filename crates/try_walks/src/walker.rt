@@ -10,15 +10,15 @@ ghost use Rattle.logic_frames.specs.Stands.{StandFor};
 ghost use Rattle.vm_logic.specs.Sound.{IsSound};
 ghost use Rattle.vm_logic.specs.Runs.{Agree, IsWithin, ran};
 
-use logic_frames::{frames_agree, frames_have_paths, frames_of, typed_names_are_known};
-use logic_walk::{Frame, walk_frame};
 use logic_cells::Cells;
+use logic_frames::{frames_agree, frames_have_paths, frames_of, typed_names_are_known};
 use logic_limits::{LimitFault, block_type_counts, limits};
 use logic_source::{Logic, logic_of, order_is_of_source};
-use vm_logic::{Walked, path_bases, standards_of, value_bases, walked};
+use logic_walk::{Frame, walk_frame};
 use st_typing::Typed;
 use std::alloc::{AllocError, Global};
 use std::marker::Model;
+use vm_logic::{Walked, path_bases, standards_of, value_bases, walked};
 
 /// The source of well-formed units that keeps the limits, with a frame for each program and each block type that is used, and with where the
 /// values, the standard blocks and the paths of each program begin. Contracts see the source.

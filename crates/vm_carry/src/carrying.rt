@@ -8,11 +8,11 @@ ghost use Rattle.logic_frames.specs.Stands.{StandFor};
 ghost use Rattle.logic_carry.specs.Both.{ArePair};
 
 use crate::shapes::shape_of_source;
+use base_words::Names;
 use logic_carry::{Both, both_of, clocks_after, values_after};
 use logic_cells::Cells;
-use vm_logic::Framed;
 use std::alloc::{AllocError, Global};
-use base_words::Names;
+use vm_logic::Framed;
 
 /// The names of a plant are distinct. It does nothing.
 fn are_distinct(framed: &Framed)

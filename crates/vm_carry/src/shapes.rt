@@ -7,14 +7,14 @@ ghost use Rattle.vm_logic.specs.Headings.{heading_of, view_heading};
 ghost use Rattle.logic_carry.specs.Paths.{Grows};
 ghost use Rattle.logic_carry.specs.Shapes.{AreOwn, IsShape, AreShapes, ArePrograms, AreTable, IsSourceShape, timer_inputs, trigger_inputs};
 
+use base_words::Names;
 use logic_carry::{
     Own, Program, Shape, SourceShape, Table, globals_of, marks_of, own_of, parts_of, rows_of,
     word_number,
 };
 use plant_types::Kind;
-use vm_logic::{Framed, Heading};
 use std::alloc::{AllocError, Global};
-use base_words::Names;
+use vm_logic::{Framed, Heading};
 
 /// The shape of a routine, by its heading.
 fn shape_of(alloc: Global, names: &mut Names, heading: &Heading) -> Result<Shape, AllocError>

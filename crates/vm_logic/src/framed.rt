@@ -30,21 +30,21 @@ use crate::standards::{Standards, standards_of};
 use crate::values::value_bases;
 use crate::walking::Walked;
 use acc_vm::Code;
+use base_trace::Shown;
+use base_words::Names;
+use logic_cells::{Cells, Standard, Stop};
 use logic_frames::{
     frames_agree, frames_begin, frames_have_paths, frames_of, start_of, typed_names_are_known,
 };
-use logic_walk::{Frame, start_frame};
-use logic_cells::{Cells, Standard, Stop};
 use logic_limits::{LimitFault, block_type_counts, limits};
-use logic_source::{Logic, Row, Variable, logic_of, order_is_of_source};
-use plant_types::Place;
-use vm_programs::{Stack, codes_of, copy_codes, run_code_counted};
 use logic_paths::SeatTable;
+use logic_source::{Logic, Row, Variable, logic_of, order_is_of_source};
+use logic_walk::{Frame, start_frame};
+use plant_types::Place;
 use st_typing::Typed;
 use std::alloc::{AllocError, Global};
 use std::marker::Model;
-use base_trace::Shown;
-use base_words::Names;
+use vm_programs::{Stack, codes_of, copy_codes, run_code_counted};
 
 /// The source of well-formed units that keeps the limits, made ready to run: the code of each program, the cells before the first scan, the
 /// declarations of globals, programs and block types, and what the paths of traps need. Contracts see the source; its statements take no

@@ -29,7 +29,7 @@ pub use laws::{
     programs_share_no_cell, sound_source_is_small, standing_cells_are_there, written_cell,
 };
 pub use paths::path_bases;
-pub use vm_programs::Stack;
 pub use standards::{Standards, standards_of};
 pub use values::value_bases;
+pub use vm_programs::Stack;
 pub use walking::{Walked, run, run_counted};

@@ -5,9 +5,9 @@ ghost use Rattle.st_names.specs.Taken.{repeats};
 ghost use Rattle.logic_source.specs.Names.{global_words};
 ghost use Rattle.vm_logic.specs.Framed.{global_names};
 
+use base_words::Names;
 use logic_source::Variable;
 use std::alloc::{AllocError, Global};
-use base_words::Names;
 
 /// The names of globals in order of declaration, of which no two are the same word.
 pub fn global_names(alloc: Global, globals: &[Variable]) -> Result<Names, AllocError>

@@ -8,9 +8,9 @@ ghost use Rattle.logic_frames.specs.Frames.{IsFrames};
 ghost use Rattle.logic_frames.specs.Opening.{programs_started};
 ghost use Rattle.vm_logic.specs.Bases.{AreBases};
 
-use logic_walk::{Frame, start_frame};
 use logic_cells::Cells;
 use logic_source::Logic;
+use logic_walk::{Frame, start_frame};
 
 /// Assigns the initial values of each program in turn, with those of its instances. It allocates nothing.
 pub fn start_programs(

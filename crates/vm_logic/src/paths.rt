@@ -9,8 +9,8 @@ ghost use Rattle.vm_logic.specs.Sound.{IsSound};
 ghost use Rattle.vm_logic.specs.Bases.{numbers_in, seat_count, stopped_paths, ArePathsCounted, program_paths_base, AreBases};
 
 use logic_frames::frames_have_paths;
-use logic_walk::{Frame, Seat, SeatOf};
 use logic_source::Logic;
+use logic_walk::{Frame, Seat, SeatOf};
 use std::alloc::{AllocError, Global};
 
 /// The sum, up to where counts stop.

@@ -8,10 +8,10 @@ ghost use Rattle.logic_frames.specs.Frames.{IsFrames};
 ghost use Rattle.vm_logic.specs.Bases.{AreBases};
 ghost use Rattle.vm_logic.specs.Framed.{all_standards};
 
-use logic_frames::frames_have_standards;
-use logic_walk::{Frame, push_standards};
 use logic_cells::Standard;
+use logic_frames::frames_have_standards;
 use logic_source::Logic;
+use logic_walk::{Frame, push_standards};
 use std::alloc::{AllocError, Global};
 
 /// The standard blocks of all programs in order; and the number of each program's first one, and behind them that of all.

@@ -9,8 +9,8 @@ ghost use Rattle.vm_logic.specs.Runs.{ran, IsWithin, HasCells, Agree, TakesInstr
 use crate::framed::Framed;
 use logic_cells::Cells;
 use plant_types::{Place, Trap};
-use vm_programs::Stack;
 use std::alloc::AllocError;
+use vm_programs::Stack;
 
 /// How a run of a program ends.
 #[derive(Clone, Copy, PartialEq, Eq, Drop)]

@@ -14,15 +14,15 @@ ghost use Rattle.vm_programs.specs.Codes.{IsCodeOf, AreCodes, AllNamesFit, AreSm
 
 use crate::folding::{fold_frame, fold_frames};
 use acc_vm::Code;
-use logic_walk::Frame;
-use vm_sizes::{FrameCounts, count_frame, count_frames};
 use codegen::compile_counted;
 use const_fold::{
     folded_body_costs_at_most, folded_body_does_same, folded_body_weighs_at_most,
     folded_constants_are_literals, folded_names_stay,
 };
 use logic_cells::Cells;
+use logic_walk::Frame;
 use std::alloc::{AllocError, Global};
+use vm_sizes::{FrameCounts, count_frame, count_frames};
 
 /// Folds a program's frame, and puts it and its counts behind those of a table.
 fn push_program(

@@ -4,8 +4,8 @@ ghost use Rattle.std.specs.Prelude.{◌≡◌, IfOk};
 ghost use Rattle.logic_walk.specs.Plain.{view_frame};
 ghost use Rattle.vm_programs.specs.Folded.{folded_frame, AreFolded};
 
-use logic_walk::Frame;
 use const_fold::fold_body;
+use logic_walk::Frame;
 use std::alloc::{AllocError, Global};
 
 /// A frame with the constants of its body folded. Its instances and its initial values are moved; its body is let go.

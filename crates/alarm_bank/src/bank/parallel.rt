@@ -162,9 +162,10 @@ impl Bank {
         requires moment { given.now.moment ≤ LAST_MOMENT }
         ensures bank { OnOk result
             (self.new
-            ≡ record self.old
-            {alarms = scan_each given.now.conds.now given.now.sups.now given.now.moment self.old.alarms;
-            moment = given.now.moment}) }
+            ≡ record self.old {
+              alarms = scan_each given.now.conds.now given.now.sups.now given.now.moment self.old.alarms;
+              moment = given.now.moment;
+            }) }
         ensures changes { IfOk result (λ changes. changes.items
             ≡ changes_from 0 self.old.alarms self.new.alarms) }
         ensures err { OnErr result (self.new ≡ self.old) }

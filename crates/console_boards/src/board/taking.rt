@@ -11,10 +11,10 @@ use crate::picture::Picture;
 use crate::replies::take;
 use crate::tally::{Tally, consoles_in, count_entry, reloads_as};
 use alarm_bank::Annunciator;
-use left_right::Absorb;
-use console_log::{Log, Mark};
-use std::alloc::AllocError;
 use base_trace::{Remembered, Trace};
+use console_log::{Log, Mark};
+use left_right::Absorb;
+use std::alloc::AllocError;
 
 impl Board {
     /// A board before the first entry, which counts the orders of these consoles. None of them has one yet.

@@ -10,12 +10,12 @@ use crate::board::Board;
 use crate::entry::{Entry, Operation};
 use crate::reader::BoardReader;
 use crate::rule::{Informs, Looks, Notes};
+use base_trace::Remembered;
+use console_log::{Log, Mark};
 use core::mem::replace_with;
 use left_right::writer::Writer;
-use console_log::{Log, Mark};
 use std::alloc::{AllocError, Global};
 use std::sync::Wait;
-use base_trace::Remembered;
 
 impl BoardWriter {
     /// A writer for so many readers, with two copies of a board before the first entry.
