@@ -30,7 +30,7 @@ use Rattle.acc_vm.specs.declared.instr.Instr.TheVariants as instr
 use Rattle.vm_sizes.specs.declared.counts.Count.{Count}
 use Rattle.vm_sizes.specs.Sizes.{expr_lines, body_lines, frame_lines}
 use Rattle.vm_sizes.specs.Counts.{lines_at}
-use Rattle.codegen.specs.declared.scope.Scope.{Scope}
+use Rattle.codegen.specs.declared.scope.PlacedRoutine.{PlacedRoutine}
 use Rattle.codegen.specs.Codes as codes
 use Rattle.codegen.specs.Codes.{Line, Coder, Part, frame_part, routine_part, labels_code, loop_code, for_code, pt_instr}
 use Rattle.codegen.specs.Emission.{AreLines, coders, expr_code, enter_code, body_code, branches_code, choices_code, branches_long, choices_long}
@@ -131,7 +131,7 @@ no_branches branches i past = ap view_branches (drop_of_length-le branches past)
 pub no_choices : (choices : List (Choice ℕ)) (i : ℕ) → length choices ≤ i → view_choices (drop i choices) ≡ no_choice
 no_choices choices i past = ap view_choices (drop_of_length-le choices past)
 
-module _ (s : Scope) (place : Place) (last : ℕ → List Line) (n at body_at next end : ℕ) (mid new : List Line) where
+module _ (s : PlacedRoutine) (place : Place) (last : ℕ → List Line) (n at body_at next end : ℕ) (mid new : List Line) where
   abbrev lines_of : PlainBody ℕ → ℕ
   lines_of body = body_lines s.seats.now (lines_at s.table.now) body
 
@@ -167,7 +167,7 @@ module _ (s : Scope) (place : Place) (last : ℕ → List Line) (n at body_at ne
       )
 
 -- a choice without a label
-pub choice_passed : (s : Scope) (place : Place) (last : ℕ → List Line) (n at end : ℕ) (mid start : List Line) (labels : List Label) (body : PlainBody ℕ) (rest : Choices ℕ) → length labels ≡ 0
+pub choice_passed : (s : PlacedRoutine) (place : Place) (last : ℕ → List Line) (n at end : ℕ) (mid start : List Line) (labels : List Label) (body : PlainBody ℕ) (rest : Choices ℕ) → length labels ≡ 0
     → at + choices_long s (choice labels body rest) n ≡ end → mid ++ choices_code s place (choice labels body rest) last n at ≡ start
     → (at + choices_long s rest n ≡ end) × (mid ++ choices_code s place rest last n at ≡ start)
 choice_passed s place last n at end mid start [] body rest none ends before = (ends, before)
@@ -178,7 +178,7 @@ nothing_if true c none = none
 nothing_if false c none = refl
 
 -- what an instance is of
-module _ (s : Scope) (place : Place) (instance : ℕ) (seat : Seat) (pc : ℕ) (at : slice_get s.seats.now instance ≡ Some seat) where
+module _ (s : PlacedRoutine) (place : Place) (instance : ℕ) (seat : Seat) (pc : ℕ) (at : slice_get s.seats.now instance ≡ Some seat) where
   abbrev enter_by : SeatOf → List Line
   enter_by of = codes.enter_by s.globals s.seats.now (lines_at s.table.now) (coders s.globals s.frames.now s.limit) s.base s.path place of seat pc
 
@@ -204,7 +204,7 @@ module _ (s : Scope) (place : Place) (instance : ℕ) (seat : Seat) (pc : ℕ) (
   entered_standard of is = sym (ap (λ o. enter_code s place o pc) at ∙ ap enter_by is)
 
 -- a CASE
-pub case_done : (s : Scope) (place : Place) (e : PlainExpr ℕ) (choices : Choices ℕ) (last : PlainBody ℕ) (pc first at end : ℕ) (old mid after : List Line) → mid ≡ old ++ expr_code s place e → first ≡ pc + expr_lines e
+pub case_done : (s : PlacedRoutine) (place : Place) (e : PlainExpr ℕ) (choices : Choices ℕ) (last : PlainBody ℕ) (pc first at end : ℕ) (old mid after : List Line) → mid ≡ old ++ expr_code s place e → first ≡ pc + expr_lines e
     → first + choices_long s choices (body_lines s.seats.now (lines_at s.table.now) last) ≡ end
     → ((l : ℕ → List Line) (n : ℕ) → first + choices_long s choices n ≡ end → after ++ l at ≡ mid ++ choices_code s place choices l n first)
     → after ++ body_code s last at ≡ old ++ (expr_code s place e ++ choices_code s place choices (body_code s last) (body_lines s.seats.now (lines_at s.table.now) last) (pc + expr_lines e))

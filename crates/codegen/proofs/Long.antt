@@ -11,7 +11,7 @@ use Rattle.logic_walk.specs.declared.frame.Frame.{Frame}
 use Rattle.vm_sizes.specs.declared.counts.Count.{Count}
 use Rattle.vm_sizes.specs.Sizes.{expr_lines, choice_lines, entered_by, body_lines, frame_lines}
 use Rattle.vm_sizes.specs.Counts.{lines_at}
-use Rattle.codegen.specs.declared.scope.Scope.{Scope}
+use Rattle.codegen.specs.declared.scope.PlacedRoutine.{PlacedRoutine}
 use Rattle.vm_sizes.proofs.Few.{branch_at, choice_at, labelled}
 use Rattle.codegen.specs.Emission.{enter_long, body_long, branches_long, choices_long}
 use Rattle.codegen.proofs.Parts.{lines_is}
@@ -23,11 +23,11 @@ frame_long frames limit k frame less at front same =
     ap (λ (lines : ℕ → ℕ). body_lines frame.seats.items lines (view_body frame.body.items)) (λ i j. sym (same j) i) ∙ sym (lines_is frames limit k frame less at)
 
 -- an instance that is called is as long as its frame, by the table
-pub entered_long : (s : Scope) (instance : ℕ) (seat : Seat) → slice_get s.seats.now instance ≡ Some seat → (k : ℕ) → seat.of ≡ seat_of.Frame k → seat.is_called ≡ true → enter_long s (slice_get s.seats.now instance) ≡ lines_at s.table.now k
+pub entered_long : (s : PlacedRoutine) (instance : ℕ) (seat : Seat) → slice_get s.seats.now instance ≡ Some seat → (k : ℕ) → seat.of ≡ seat_of.Frame k → seat.is_called ≡ true → enter_long s (slice_get s.seats.now instance) ≡ lines_at s.table.now k
 entered_long s instance seat at k of on = ap (λ (o : Option Seat). enter_long s o) at ∙ (λ i. entered_by 2 (lines_at s.table.now) (of i) (on i))
 
 -- where branches from one on end below 2^32, so does the first one of them
-pub branch_fits : (s : Scope) (branches : List (Branch ℕ)) (i at end n : ℕ) (b : Branch ℕ) → i < length branches → b ≡ get_or branches i b → at + branches_long s (view_branches (drop i branches)) n ≡ end → end < 4294967296
+pub branch_fits : (s : PlacedRoutine) (branches : List (Branch ℕ)) (i at end n : ℕ) (b : Branch ℕ) → i < length branches → b ≡ get_or branches i b → at + branches_long s (view_branches (drop i branches)) n ≡ end → end < 4294967296
     → at + expr_lines (view_expr b.test) + 1 + body_long s (view_body b.body.items) + 1 < 4294967296
 branch_fits s branches i at end n b within is ends few =
     let first = branch_at s.seats.now (lines_at s.table.now) branches i n b within is in
@@ -36,7 +36,7 @@ branch_fits s branches i at end n b within is ends few =
     omega (arith, first, test, body, ends, few)
 
 -- the same of choices, where the first one has a label
-pub choice_fits : (s : Scope) (choices : List (Choice ℕ)) (i at end n : ℕ) (c : Choice ℕ) → i < length choices → c ≡ get_or choices i c → 0 < length c.labels.items → at + choices_long s (view_choices (drop i choices)) n ≡ end
+pub choice_fits : (s : PlacedRoutine) (choices : List (Choice ℕ)) (i at end n : ℕ) (c : Choice ℕ) → i < length choices → c ≡ get_or choices i c → 0 < length c.labels.items → at + choices_long s (view_choices (drop i choices)) n ≡ end
     → end < 4294967296 → at + length c.labels.items + 1 + body_long s (view_body c.body.items) + 1 < 4294967296
 choice_fits s choices i at end n c within is some ends few =
     let rest = choices_long s (view_choices (drop (i + 1) choices)) n in

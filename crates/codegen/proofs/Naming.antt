@@ -20,7 +20,7 @@ use Rattle.logic_walk.specs.declared.frame.Base.{Base}
 use Rattle.logic_walk.specs.declared.frame.SeatOf.{SeatOf}
 use Rattle.logic_walk.specs.declared.frame.SeatOf.TheVariants as seat_of
 use Rattle.logic_walk.specs.Walks.{member_slot, base_of}
-use Rattle.codegen.specs.declared.scope.Scope.{Scope}
+use Rattle.codegen.specs.declared.scope.PlacedRoutine.{PlacedRoutine}
 use Rattle.codegen.specs.Within.{fits, has_pt, has_called, has_instance, frame_there}
 use Rattle.codegen.specs.Emission.{named}
 use Rattle.codegen.proofs.Emitting.{view_assigned}
@@ -110,7 +110,7 @@ called_where : (b x : Bool) → b ≡ true → (if b then x else true) ≡ true 
 called_where b x on h = subst (λ (z : Bool). (if z then x else true) ≡ true) on h
 
 -- what a call of an instance names
-module _ (s : Scope) (instance : ℕ) (seat : Seat) (at : slice_get s.seats.now instance ≡ Some seat) (there : (named s).has_instance instance ≡ true) where
+module _ (s : PlacedRoutine) (instance : ℕ) (seat : Seat) (at : slice_get s.seats.now instance ≡ Some seat) (there : (named s).has_instance instance ≡ true) where
   abbrev inner : ℕ → Base → Bool
   inner = frame_there fits fits s.globals s.frames.now s.limit
 

@@ -15,7 +15,7 @@ use Rattle.acc_vm.specs.declared.instr.Instr.TheVariants as instr
 use Rattle.vm_sizes.specs.declared.counts.Count.{Count}
 use Rattle.vm_sizes.specs.Sizes.{inputs_lines, outputs_lines, entered, stmt_lines, body_lines, frame_lines, branches_lines, choices_lines}
 use Rattle.vm_sizes.specs.Counts.{lines_at}
-use Rattle.codegen.specs.declared.scope.Scope.{Scope}
+use Rattle.codegen.specs.declared.scope.PlacedRoutine.{PlacedRoutine}
 use Rattle.codegen.specs.Codes as codes
 use Rattle.codegen.specs.Codes.{Line, Coder, frame_part, AreSteady}
 use Rattle.codegen.specs.Within.{there, frame_there, fits}
@@ -28,7 +28,7 @@ pub record AreLines (frames : List Frame) (limit : ℕ) (table : List Count) : T
 
 -- a scope's table has the lines of the frames before its own; each base below it stays below 2 ^ 128, and each path number at it and below it is below 2 ^ 32;
 -- and the bounds of each FOR of a frame are constant DINTs
-pub record IsLaid (s : Scope) : Type 0 where
+pub record IsLaid (s : PlacedRoutine) : Type 0 where
   pub lines : AreLines s.frames.now s.limit s.table.now
   pub bases : HasRoom s.base (s.limit + 1)
   pub paths : s.path + length (paths_within s.frames.now s.limit s.seats.now) ≤ 2 ^ 32
@@ -37,7 +37,7 @@ pub record IsLaid (s : Scope) : Type 0 where
   pub steady : AreSteady s.frames.now
 
 -- which names of a scope's routine stand for numbers of 32 bits: those of its variables, of each element of its arrays and of its instances, with all that the frames name that it comes to call
-abbrev pub named : Scope → Known ℕ
+abbrev pub named : PlacedRoutine → Known ℕ
 named s = there fits fits s.globals (frame_there fits fits s.globals s.frames.now s.limit) s.seats.now s.base
 
 -- the code of each of so many first frames
@@ -54,51 +54,51 @@ operator_code globals base place op (unary other a) right = (instr.Push, place) 
 operator_code globals base place op (binary other a b) right = (instr.Push, place) ∷ (right ++ (instr.Binary op, place) ∷ [])
 
 -- the code of the parts of a routine in a scope
-abbrev pub expr_code : Scope → Place → PlainExpr ℕ → List Line
+abbrev pub expr_code : PlacedRoutine → Place → PlainExpr ℕ → List Line
 expr_code s = codes.expr_code s.globals s.seats.now (lines_at s.table.now) (coders s.globals s.frames.now s.limit) s.base s.path
 
-abbrev pub store_code : Scope → Place → ℕ → Bounds → (index value : PlainExpr ℕ) → List Line
+abbrev pub store_code : PlacedRoutine → Place → ℕ → Bounds → (index value : PlainExpr ℕ) → List Line
 store_code s = codes.store_code s.globals s.seats.now (lines_at s.table.now) (coders s.globals s.frames.now s.limit) s.base s.path
 
-abbrev pub inputs_code : Scope → Place → Option Seat → List (PlainArgument ℕ) → List Line
+abbrev pub inputs_code : PlacedRoutine → Place → Option Seat → List (PlainArgument ℕ) → List Line
 inputs_code s = codes.inputs_code s.globals s.seats.now (lines_at s.table.now) (coders s.globals s.frames.now s.limit) s.base s.path
 
-abbrev pub outputs_code : Scope → Place → Option Seat → List (PlainArgument ℕ) → List Line
+abbrev pub outputs_code : PlacedRoutine → Place → Option Seat → List (PlainArgument ℕ) → List Line
 outputs_code s = codes.outputs_code s.globals s.seats.now (lines_at s.table.now) (coders s.globals s.frames.now s.limit) s.base s.path
 
-abbrev pub enter_code : Scope → Place → Option Seat → ℕ → List Line
+abbrev pub enter_code : PlacedRoutine → Place → Option Seat → ℕ → List Line
 enter_code s = codes.enter_code s.globals s.seats.now (lines_at s.table.now) (coders s.globals s.frames.now s.limit) s.base s.path
 
-abbrev pub call_code : Scope → Place → Option Seat → List (PlainArgument ℕ) → ℕ → List Line
+abbrev pub call_code : PlacedRoutine → Place → Option Seat → List (PlainArgument ℕ) → ℕ → List Line
 call_code s = codes.call_code s.globals s.seats.now (lines_at s.table.now) (coders s.globals s.frames.now s.limit) s.base s.path
 
-abbrev pub stmt_code : Scope → PlainStmt ℕ → ℕ → List Line
+abbrev pub stmt_code : PlacedRoutine → PlainStmt ℕ → ℕ → List Line
 stmt_code s = codes.stmt_code s.globals s.seats.now (lines_at s.table.now) (coders s.globals s.frames.now s.limit) s.base s.path
 
-abbrev pub body_code : Scope → PlainBody ℕ → ℕ → List Line
+abbrev pub body_code : PlacedRoutine → PlainBody ℕ → ℕ → List Line
 body_code s = codes.body_code s.globals s.seats.now (lines_at s.table.now) (coders s.globals s.frames.now s.limit) s.base s.path
 
-abbrev pub branches_code : Scope → Place → Branches ℕ → (ℕ → List Line) → ℕ → ℕ → List Line
+abbrev pub branches_code : PlacedRoutine → Place → Branches ℕ → (ℕ → List Line) → ℕ → ℕ → List Line
 branches_code s = codes.branches_code s.globals s.seats.now (lines_at s.table.now) (coders s.globals s.frames.now s.limit) s.base s.path
 
-abbrev pub choices_code : Scope → Place → Choices ℕ → (ℕ → List Line) → ℕ → ℕ → List Line
+abbrev pub choices_code : PlacedRoutine → Place → Choices ℕ → (ℕ → List Line) → ℕ → ℕ → List Line
 choices_code s = codes.choices_code s.globals s.seats.now (lines_at s.table.now) (coders s.globals s.frames.now s.limit) s.base s.path
 
 -- how many lines the parts of a routine in a scope are; branches and choices, with so many behind them
-abbrev pub enter_long : Scope → Option Seat → ℕ
+abbrev pub enter_long : PlacedRoutine → Option Seat → ℕ
 enter_long s seat = entered 2 (lines_at s.table.now) seat
 
-abbrev pub call_long : Scope → Option Seat → List (PlainArgument ℕ) → ℕ
+abbrev pub call_long : PlacedRoutine → Option Seat → List (PlainArgument ℕ) → ℕ
 call_long s seat arguments = inputs_lines seat arguments + enter_long s seat + outputs_lines arguments
 
-abbrev pub stmt_long : Scope → PlainStmt ℕ → ℕ
+abbrev pub stmt_long : PlacedRoutine → PlainStmt ℕ → ℕ
 stmt_long s = stmt_lines s.seats.now (lines_at s.table.now)
 
-abbrev pub body_long : Scope → PlainBody ℕ → ℕ
+abbrev pub body_long : PlacedRoutine → PlainBody ℕ → ℕ
 body_long s = body_lines s.seats.now (lines_at s.table.now)
 
-abbrev pub branches_long : Scope → Branches ℕ → ℕ → ℕ
+abbrev pub branches_long : PlacedRoutine → Branches ℕ → ℕ → ℕ
 branches_long s = branches_lines s.seats.now (lines_at s.table.now)
 
-abbrev pub choices_long : Scope → Choices ℕ → ℕ → ℕ
+abbrev pub choices_long : PlacedRoutine → Choices ℕ → ℕ → ℕ
 choices_long s = choices_lines s.seats.now (lines_at s.table.now)

@@ -14,7 +14,7 @@ ghost use Rattle.codegen.specs.Within.{fits, has_input, has_pt};
 use crate::expressions::emit_expr;
 use crate::lines::emit;
 use crate::numbers::{clock_of, member_slot, output_instr, pt_instr, slot_of};
-use crate::scope::Scope;
+use crate::scope::PlacedRoutine;
 use acc_vm::Instr;
 use logic_cells::Standard;
 use logic_walk::Seat;
@@ -24,7 +24,7 @@ use std::alloc::AllocError;
 
 /// Appends what gives the accumulator to an input of an instance; nothing for an instance that isn't there.
 fn emit_put(
-    scope: &Scope<'_>,
+    scope: &PlacedRoutine<'_>,
     out: &mut Vec<(Instr, Place)>,
     place: Place,
     instance: usize,
@@ -45,7 +45,7 @@ fn emit_put(
 
 /// Appends the inputs of a call, as written.
 pub(crate) fn emit_inputs(
-    scope: &Scope<'_>,
+    scope: &PlacedRoutine<'_>,
     out: &mut Vec<(Instr, Place)>,
     place: Place,
     instance: usize,
@@ -69,7 +69,7 @@ pub(crate) fn emit_inputs(
 
 /// Appends the outputs of a call, as written.
 pub(crate) fn emit_outputs(
-    scope: &Scope<'_>,
+    scope: &PlacedRoutine<'_>,
     out: &mut Vec<(Instr, Place)>,
     place: Place,
     instance: usize,
@@ -95,7 +95,7 @@ pub(crate) fn emit_outputs(
 
 /// Appends the call of a standard block's clock.
 pub(crate) fn emit_standard(
-    scope: &Scope<'_>,
+    scope: &PlacedRoutine<'_>,
     out: &mut Vec<(Instr, Place)>,
     place: Place,
     seat: &Seat,

@@ -18,7 +18,7 @@ use crate::arguments::{emit_inputs, emit_outputs, emit_standard};
 use crate::expressions::{emit_expr, emit_store};
 use crate::lines::{emit, emit_labels};
 use crate::numbers::{base_of, left_of, slot_of};
-use crate::scope::Scope;
+use crate::scope::PlacedRoutine;
 use acc_vm::Instr;
 use logic_walk::{Base, Frame, SeatOf};
 use plant_types::Place;
@@ -54,7 +54,7 @@ pub(crate) fn emit_frame(
         ≡ out.old.items ++ coders globals frames.now limit k base path pc) }
 {
     let frame = &frames[k];
-    let scope = Scope {
+    let scope = PlacedRoutine {
         frames,
         table: &table[..k],
         limit: k,
@@ -69,7 +69,7 @@ pub(crate) fn emit_frame(
 /// Appends a body.
 #[cycle(code)]
 fn emit_body(
-    scope: &Scope<'_>,
+    scope: &PlacedRoutine<'_>,
     out: &mut Vec<(Instr, Place)>,
     body: &[Stmt<usize>],
     pc: u32,
@@ -92,7 +92,7 @@ fn emit_body(
 /// Appends a statement.
 #[cycle(code)]
 fn emit_stmt(
-    scope: &Scope<'_>,
+    scope: &PlacedRoutine<'_>,
     out: &mut Vec<(Instr, Place)>,
     stmt: &Stmt<usize>,
     pc: u32,
@@ -181,7 +181,7 @@ fn emit_stmt(
 /// Appends a call: its inputs, what the instance is of, and its outputs.
 #[cycle(code)]
 fn emit_call(
-    scope: &Scope<'_>,
+    scope: &PlacedRoutine<'_>,
     out: &mut Vec<(Instr, Place)>,
     place: Place,
     instance: usize,
@@ -208,7 +208,7 @@ fn emit_call(
 /// Appends what an instance is of: the call of a standard block's clock, or the code of a frame at the instance's base.
 #[cycle(code)]
 fn emit_enter(
-    scope: &Scope<'_>,
+    scope: &PlacedRoutine<'_>,
     out: &mut Vec<(Instr, Place)>,
     place: Place,
     instance: usize,
@@ -247,7 +247,7 @@ fn emit_enter(
 /// Appends the branches of an IF, whose end is at a line. Returns the line at which what is done where none is taken begins.
 #[cycle(code)]
 fn emit_branches(
-    scope: &Scope<'_>,
+    scope: &PlacedRoutine<'_>,
     out: &mut Vec<(Instr, Place)>,
     place: Place,
     branches: &[Branch<usize>],
@@ -277,7 +277,7 @@ fn emit_branches(
 /// Appends a branch of an IF, by the lines at which its body, the next branch and the end of the IF are.
 #[cycle(code)]
 fn emit_branch(
-    scope: &Scope<'_>,
+    scope: &PlacedRoutine<'_>,
     out: &mut Vec<(Instr, Place)>,
     place: Place,
     branch: &Branch<usize>,
@@ -306,7 +306,7 @@ fn emit_branch(
 /// label has no line.
 #[cycle(code)]
 fn emit_choices(
-    scope: &Scope<'_>,
+    scope: &PlacedRoutine<'_>,
     out: &mut Vec<(Instr, Place)>,
     place: Place,
     choices: &[Choice<usize>],
@@ -339,7 +339,7 @@ fn emit_choices(
 /// Appends a choice of a CASE, by the lines at which its body, the next choice and the end of the CASE are.
 #[cycle(code)]
 fn emit_choice(
-    scope: &Scope<'_>,
+    scope: &PlacedRoutine<'_>,
     out: &mut Vec<(Instr, Place)>,
     place: Place,
     choice: &Choice<usize>,
@@ -366,7 +366,7 @@ fn emit_choice(
 /// Appends a FOR of a span; nothing if it has no turn.
 #[cycle(code)]
 fn emit_loop(
-    scope: &Scope<'_>,
+    scope: &PlacedRoutine<'_>,
     out: &mut Vec<(Instr, Place)>,
     place: Place,
     slot: u32,

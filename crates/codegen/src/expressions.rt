@@ -10,7 +10,7 @@ ghost use Rattle.logic_walk.specs.Walks.{slot_of};
 
 use crate::lines::emit;
 use crate::numbers::{output_instr, row_of, slot_of};
-use crate::scope::Scope;
+use crate::scope::PlacedRoutine;
 use acc_vm::Instr;
 use plant_types::{Bounds, Place};
 use st_tree::{Binary, Expr};
@@ -19,7 +19,7 @@ use std::alloc::AllocError;
 /// Appends the lines of an expression, which leave its value in the accumulator.
 #[cycle(expr)]
 pub(crate) fn emit_expr(
-    scope: &Scope<'_>,
+    scope: &PlacedRoutine<'_>,
     out: &mut Vec<(Instr, Place)>,
     place: Place,
     expr: &Expr<usize>,
@@ -57,7 +57,7 @@ pub(crate) fn emit_expr(
 /// Appends the lines of an operator behind those of its left operand.
 #[cycle(expr)]
 fn emit_operator(
-    scope: &Scope<'_>,
+    scope: &PlacedRoutine<'_>,
     out: &mut Vec<(Instr, Place)>,
     place: Place,
     op: Binary,
@@ -85,7 +85,7 @@ fn emit_operator(
 
 /// Appends an assignment to an element of an array, by its number and its bounds: the index is tested before the right side is evaluated.
 pub(crate) fn emit_store(
-    scope: &Scope<'_>,
+    scope: &PlacedRoutine<'_>,
     out: &mut Vec<(Instr, Place)>,
     place: Place,
     array: (usize, Bounds),

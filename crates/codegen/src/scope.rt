@@ -6,7 +6,7 @@ use vm_sizes::Count;
 /// A routine at a base: the frames, the counts of those before the routine's own, and how many these are; its instances; the number of
 /// globals; where its values and clocks begin; and the number of its path.
 #[derive(Drop)]
-pub(crate) struct Scope<'a> {
+pub(crate) struct PlacedRoutine<'a> {
     pub(crate) frames: &'a [Frame],
     pub(crate) table: &'a [Count],
     pub(crate) limit: usize,

@@ -3,7 +3,7 @@ use Rattle.std.proofs.Common.{◌≡◌, List, [], ◌∷◌, ◌++◌, ◌+◌,
 use Rattle.engine_history.specs.declared.event.Event.{Event}
 use Rattle.plant_config.specs.Plants.{PlainPlant}
 use Rattle.console_boards.specs.declared.writer.BoardWriter.{BoardWriter}
-use Rattle.console_boards.specs.declared.entry.Entry.{Entry}
+use Rattle.console_boards.specs.declared.entry.BoardEntry.{BoardEntry}
 use Rattle.console_boards.specs.declared.picture.Picture.{Picture}
 use Rattle.console_boards.specs.Stories.{Story}
 use Rattle.console_boards.specs.Readers.{laid, published}
@@ -21,7 +21,7 @@ has_same plant now history events old new same p h has =
 
 -- where readers take all that was laid by for a history, they take an entry for each event
 pub shows_all : (plant : PlainPlant) (history : List Event) (board : BoardWriter) → HasHistory plant history board → published board ≡ laid board → ShowsAll history board
-shows_all plant history board has is = ap (λ (s : Story Picture Entry). length s.1) (is ∙ has.laid_is) ∙ length_of plant history
+shows_all plant history board has is = ap (λ (s : Story Picture BoardEntry). length s.1) (is ∙ has.laid_is) ∙ length_of plant history
 
 -- one refusal more was counted
 pub refused_more : (all all' : Type 0) (old new : List Refusal) (one : Refusal) → new ≡ old ++ one ∷ [] → UnlessRefused all all' (length old) (length new) true

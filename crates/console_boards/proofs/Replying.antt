@@ -10,9 +10,9 @@ use Rattle.alarm_machine.specs.declared.states.Verb.{Verb}
 use Rattle.alarm_machine.specs.declared.states.Verb.TheVariants as verb
 use Rattle.alarm_machine.specs.Codes.{PlainChange, rank, same_code}
 use Rattle.alarm_bank.specs.Banks.{PlainBank, reply_of}
-use Rattle.console_boards.specs.declared.entry.Answer.{Answer}
-use Rattle.console_boards.specs.declared.entry.Entry.{Entry}
-use Rattle.console_boards.specs.declared.entry.Entry.TheVariants as entry
+use Rattle.console_boards.specs.declared.entry.AnsweredOrder.{AnsweredOrder}
+use Rattle.console_boards.specs.declared.entry.BoardEntry.{BoardEntry}
+use Rattle.console_boards.specs.declared.entry.BoardEntry.TheVariants as entry
 use Rattle.console_boards.specs.declared.picture.Picture.{Picture}
 use Rattle.console_boards.specs.Stories.{shown, is_lawful}
 use Rattle.console_boards.specs.Replies.{fault_number, same_change, same_reply, is_restart, is_outside, IsAsked, may_answer, after, allows}
@@ -103,25 +103,25 @@ inside (Err fault.NotFaulted) h k o = refl
 inside (Err fault.OldPlant) h k o = absurd (o refl)
 
 -- whether the reply is the table's for the order's alarm
-abbrev fits : PlainBank → Answer → Option ℕ → Bool
+abbrev fits : PlainBank → AnsweredOrder → Option ℕ → Bool
 fits b a target = elim target [ None ↦ false | Some n ↦ same_reply a.reply (reply_of n a.order.verb b) ]
 
 -- an entry of a lawful list might come after those before it
-lawful_at : (p : Picture) (es : List Entry) (e : Entry) (fs : List Entry) → is_lawful after allows p (es ++ e ∷ fs) ≡ true → allows (shown after p es) e ≡ true
+lawful_at : (p : Picture) (es : List BoardEntry) (e : BoardEntry) (fs : List BoardEntry) → is_lawful after allows p (es ++ e ∷ fs) ≡ true → allows (shown after p es) e ≡ true
 lawful_at p [] e fs h = (and_parts (allows p e) (is_lawful after allows (after p e) fs) h).0
 lawful_at p (x ∷ es) e fs h = lawful_at (after p x) es e fs (and_parts (allows p x) (is_lawful after allows (after p x) (es ++ e ∷ fs)) h).1
 
 -- of an order for which an alarm is asked this is left of what it may be replied
-asked_fits : (b : PlainBank) (a : Answer) → may_answer b a ≡ true → IsAsked a → fits b a a.order.target ≡ true
+asked_fits : (b : PlainBank) (a : AnsweredOrder) → may_answer b a ≡ true → IsAsked a → fits b a a.order.target ≡ true
 asked_fits b a may asked = third (is_restart a.order.verb) (is_outside a.reply) (fits b a a.order.target) (no_restart a.order.verb asked.0) (inside a.reply asked.1.0 asked.1.1 asked.1.2) may
 
-pub reply_is : (p : Picture) (console alarm : ℕ) (a : Answer) (es fs : List Entry) → is_lawful after allows p (es ++ entry.Order console a ∷ fs) ≡ true → IsAsked a → a.order.target ≡ Some alarm
+pub reply_is : (p : Picture) (console alarm : ℕ) (a : AnsweredOrder) (es fs : List BoardEntry) → is_lawful after allows p (es ++ entry.Order console a ∷ fs) ≡ true → IsAsked a → a.order.target ≡ Some alarm
     → a.reply ≡ reply_of alarm a.order.verb (shown after p es).panel.bank
 reply_is p console alarm a es fs h asked target =
     let now = (shown after p es).panel.bank in
     replies_same a.reply (reply_of alarm a.order.verb now) (sym (ap (fits now a) target) ∙ asked_fits now a (lawful_at p es (entry.Order console a) fs h) asked)
 
-pub has_target : (p : Picture) (console : ℕ) (a : Answer) (es fs : List Entry) → is_lawful after allows p (es ++ entry.Order console a ∷ fs) ≡ true → IsAsked a → a.order.target ≡ None → ⊥
+pub has_target : (p : Picture) (console : ℕ) (a : AnsweredOrder) (es fs : List BoardEntry) → is_lawful after allows p (es ++ entry.Order console a ∷ fs) ≡ true → IsAsked a → a.order.target ≡ None → ⊥
 has_target p console a es fs h asked none =
     let now = (shown after p es).panel.bank in
     let no : false ≡ true = sym (ap (fits now a) none) ∙ asked_fits now a (lawful_at p es (entry.Order console a) fs h) asked in

@@ -8,7 +8,7 @@ use Rattle.left_right.specs.Register.{Admits, TurnsAt, Forks, Merges}
 use Rattle.atomic_table.proofs.Lists.{at_set, at_snoc}
 use Rattle.logbook.specs.Pages.{Book}
 use Rattle.console_log.specs.Marks.{PlainMark}
-use Rattle.console_boards.specs.declared.entry.Entry.{Entry}
+use Rattle.console_boards.specs.declared.entry.BoardEntry.{BoardEntry}
 use Rattle.console_boards.specs.declared.picture.Picture.{Picture}
 use Rattle.console_boards.specs.declared.view.View.{View}
 use Rattle.console_boards.specs.Stories.{Story, Continues, IsSince, OpensAsTold, may_come, grown}
@@ -47,16 +47,16 @@ module _ {P E : Type 0} where
   pub opens_unseen : (told seen : Option (Story P E)) → seen ≡ None → OpensAsTold told seen
   opens_unseen told seen none t s is same = absurd (cc (sym none ∙ same))
 
-log_on : (known : Option (PlainMark Entry)) (a b : Book) → b ≡ a → IsLog known a → IsLog known b
+log_on : (known : Option (PlainMark BoardEntry)) (a b : Book) → b ≡ a → IsLog known a → IsLog known b
 log_on None a b e h = tt
 log_on (Some known) a b e h = e ∙ h
 
 -- what follows what is known goes on to do so in the same log
-follows_on : (v : View) (a b : Story Picture Entry) (m n : PlainMark Entry) → Follows v a m → Continues a b → n.log ≡ m.log → Follows v b n
+follows_on : (v : View) (a b : Story Picture BoardEntry) (m n : PlainMark BoardEntry) → Follows v a m → Continues a b → n.log ≡ m.log → Follows v b n
 follows_on v a b m n h on e = (since_on v.seen a b h.0 on, since_on v.told a b h.1 on, log_on v.mark m.log n.log e h.2)
 
 -- the rule is kept where the story goes on in the same log with a mark of it all, and one view is replaced by one that it follows
-pub kept_set : (a b : Story Picture Entry) (m n : PlainMark Entry) (views : List View) (seat : ℕ) (w : View)
+pub kept_set : (a b : Story Picture BoardEntry) (m n : PlainMark BoardEntry) (views : List View) (seat : ℕ) (w : View)
     → Keeps a m views → Continues a b → n.log ≡ m.log → n.entries ≡ b.1 → Follows w b n → Keeps b n (set views seat w)
 kept_set a b m n views seat w h on log whole follows = (
   whole,
@@ -66,7 +66,7 @@ kept_set a b m n views seat w h on log whole follows = (
       (at_set views seat j w u e),
 )
 
-module _ {T : Type 0} (story : T → Story Picture Entry) (mark : T → PlainMark Entry) where
+module _ {T : Type 0} (story : T → Story Picture BoardEntry) (mark : T → PlainMark BoardEntry) where
   abbrev pub Rule : T → List View → Type 0
   Rule x views = Keeps (story x) (mark x) views
 

@@ -5,8 +5,8 @@ use Rattle.std.proofs.lemmas.Bool.{lt-ltb, le-ltb}
 use Rattle.std.proofs.lemmas.List.Elements.{All-map, All-head, All-tail}
 use Rattle.alarm_bank.specs.declared.event.BankEvent.{BankEvent}
 use Rattle.alarm_bank.specs.declared.rows.NewAlarm.{NewAlarm}
-use Rattle.console_boards.specs.declared.entry.Entry.{Entry}
-use Rattle.console_boards.specs.declared.entry.Entry.TheVariants as entry
+use Rattle.console_boards.specs.declared.entry.BoardEntry.{BoardEntry}
+use Rattle.console_boards.specs.declared.entry.BoardEntry.TheVariants as entry
 use Rattle.console_boards.specs.declared.tally.Tally.{Tally}
 use Rattle.console_boards.specs.Stories.{Story, shown, is_lawful, grown}
 use Rattle.console_boards.specs.Counts.{counts_as, count_of, tallied, consoles_in, is_counted, orders_counted, reloads_as, reloads_in}
@@ -50,44 +50,44 @@ at_most_one : (b : Bool) → (if b then 1 else 0) ≤ 1
 at_most_one true = omega arith
 at_most_one false = omega arith
 
-pub count_more : (console : ℕ) (es : List Entry) (e : Entry) → count_of console (es ++ e ∷ []) ≡ counts_as console e + count_of console es
+pub count_more : (console : ℕ) (es : List BoardEntry) (e : BoardEntry) → count_of console (es ++ e ∷ []) ≡ counts_as console e + count_of console es
 count_more console [] e = refl
 count_more console (x ∷ es) e = let h = count_more console es e in omega arith
 
-counts_once : (console : ℕ) (e : Entry) → counts_as console e ≤ 1
+counts_once : (console : ℕ) (e : BoardEntry) → counts_as console e ≤ 1
 counts_once console (entry.Scan s) = omega arith
 counts_once console (entry.Reload news) = omega arith
 counts_once console (entry.Order n a) = at_most_one (console == n)
 
-pub count_few : (console : ℕ) (es : List Entry) → count_of console es ≤ length es
+pub count_few : (console : ℕ) (es : List BoardEntry) → count_of console es ≤ length es
 count_few console [] = omega arith
 count_few console (e ∷ es) = let h = count_few console es in let k = counts_once console e in omega arith
 
 -- each tally has room for one order more
-pub few_each : (es : List Entry) (ts : List Tally) → length es < 18446744073709551615 → All (λ t. t.orders ≡ count_of t.console es) ts → All (λ t. t.orders + 1 < 2 ^ 64) ts
+pub few_each : (es : List BoardEntry) (ts : List Tally) → length es < 18446744073709551615 → All (λ t. t.orders ≡ count_of t.console es) ts → All (λ t. t.orders + 1 < 2 ^ 64) ts
 few_each es ts few h k d lt = let a = h k d lt in let b = count_few (slice_index_or ts k d).console es in omega arith
 
 -- a tally that is right stays so
-one_more : (es : List Entry) (e : Entry) (t : Tally) → t.orders ≡ count_of t.console es → (tallied e t).orders ≡ count_of (tallied e t).console (es ++ e ∷ [])
+one_more : (es : List BoardEntry) (e : BoardEntry) (t : Tally) → t.orders ≡ count_of t.console es → (tallied e t).orders ≡ count_of (tallied e t).console (es ++ e ∷ [])
 one_more es (entry.Scan s) t h = let k : count_of t.console (es ++ entry.Scan s ∷ []) ≡ 0 + count_of t.console es = count_more t.console es (entry.Scan s) in omega (arith, h, k)
 one_more es (entry.Reload news) t h = let k : count_of t.console (es ++ entry.Reload news ∷ []) ≡ 0 + count_of t.console es = count_more t.console es (entry.Reload news) in omega (arith, h, k)
 one_more es (entry.Order n a) t h = ap (λ (k : ℕ). (if t.console == n then 1 else 0) + k) h ∙ sym (count_more t.console es (entry.Order n a))
 
 -- each tally is right after one entry more
-pub each_more : (es : List Entry) (e : Entry) (ts : List Tally) → All (λ t. t.orders ≡ count_of t.console es) ts → All (λ t. t.orders ≡ count_of t.console (es ++ e ∷ [])) (map (tallied e) ts)
+pub each_more : (es : List BoardEntry) (e : BoardEntry) (ts : List Tally) → All (λ t. t.orders ≡ count_of t.console es) ts → All (λ t. t.orders ≡ count_of t.console (es ++ e ∷ [])) (map (tallied e) ts)
 each_more es e ts h = All-map (λ t. t.orders ≡ count_of t.console (es ++ e ∷ [])) (tallied e) ts (λ k d lt. one_more es e (slice_index_or ts k d) (h k d lt))
 
 -- one more entry among the reloads, and there are no more of these than entries
-pub reloads_more : (es : List Entry) (e : Entry) → reloads_in (es ++ e ∷ []) ≡ reloads_as e + reloads_in es
+pub reloads_more : (es : List BoardEntry) (e : BoardEntry) → reloads_in (es ++ e ∷ []) ≡ reloads_as e + reloads_in es
 reloads_more [] e = refl
 reloads_more (x ∷ es) e = let h = reloads_more es e in omega (arith, h)
 
-pub reloads_once : (e : Entry) → reloads_as e ≤ 1
+pub reloads_once : (e : BoardEntry) → reloads_as e ≤ 1
 reloads_once (entry.Scan s) = omega arith
 reloads_once (entry.Order n a) = omega arith
 reloads_once (entry.Reload news) = omega arith
 
-pub reloads_few : (es : List Entry) → reloads_in es ≤ length es
+pub reloads_few : (es : List BoardEntry) → reloads_in es ≤ length es
 reloads_few [] = omega arith
 reloads_few (e ∷ es) = let h = reloads_few es in let k = reloads_once e in omega (arith, h, k)
 
@@ -102,12 +102,12 @@ none_more s [] = refl
 none_more s (t ∷ ts) = ap (λ (l : List Tally). t ∷ l) (none_more s ts)
 
 -- an entry leaves the consoles that have a tally
-same_console : (e : Entry) (t : Tally) → (tallied e t).console ≡ t.console
+same_console : (e : BoardEntry) (t : Tally) → (tallied e t).console ≡ t.console
 same_console (entry.Scan s) t = refl
 same_console (entry.Order n a) t = refl
 same_console (entry.Reload news) t = refl
 
-pub same_consoles : (e : Entry) (ts : List Tally) → consoles_in (map (tallied e) ts) ≡ consoles_in ts
+pub same_consoles : (e : BoardEntry) (ts : List Tally) → consoles_in (map (tallied e) ts) ≡ consoles_in ts
 same_consoles e [] = refl
 same_consoles e (t ∷ ts) = ap (λ (n : ℕ). n ∷ consoles_in (map (tallied e) ts)) (same_console e t) ∙ ap (λ (ns : List ℕ). t.console ∷ ns) (same_consoles e ts)
 
@@ -116,14 +116,14 @@ abbrev pub orders_in : Option Tally → Option ℕ
 orders_in None = None
 orders_in (Some t) = Some t.orders
 
-first_counted : (b : Bool) (console : ℕ) (es : List Entry) (t : Tally) (ts : List Tally) → (t.console == console) ≡ b → t.orders ≡ count_of t.console es
+first_counted : (b : Bool) (console : ℕ) (es : List BoardEntry) (t : Tally) (ts : List Tally) → (t.console == console) ≡ b → t.orders ≡ count_of t.console es
     → orders_in (find (λ x. x.console == console) ts) ≡ orders_counted console (consoles_in ts) es
     → orders_in (cond b (Some t) (find (λ x. x.console == console) ts)) ≡ (if b || is_counted console (consoles_in ts) then Some (count_of console es) else None)
 first_counted true console es t ts is h rest = ap (λ (n : ℕ). Some n) (h ∙ ap (λ (n : ℕ). count_of n es) (eqb-true t.console console is))
 first_counted false console es t ts is h rest = rest
 
 -- the first tally of a console says how many of its orders there are, and there is one where it is counted
-pub tally_counts : (console : ℕ) (es : List Entry) (ts : List Tally) → All (λ t. t.orders ≡ count_of t.console es) ts → orders_in (find (λ t. t.console == console) ts) ≡ orders_counted console (consoles_in ts) es
+pub tally_counts : (console : ℕ) (es : List BoardEntry) (ts : List Tally) → All (λ t. t.orders ≡ count_of t.console es) ts → orders_in (find (λ t. t.console == console) ts) ≡ orders_counted console (consoles_in ts) es
 tally_counts console es [] h = refl
 tally_counts console es (t ∷ ts) h =
     first_counted (t.console == console) console es t ts refl (All-head (λ x. x.orders ≡ count_of x.console es) t ts h) (tally_counts console es ts (All-tail (λ x. x.orders ≡ count_of x.console es) t ts h))

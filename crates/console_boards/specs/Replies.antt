@@ -10,9 +10,9 @@ use Rattle.alarm_bank.specs.declared.event.BankEvent.{BankEvent}
 use Rattle.alarm_bank.specs.declared.event.BankEvent.TheVariants as event
 use Rattle.alarm_bank.specs.Banks.{PlainBank, after_event, reply_of}
 use Rattle.alarm_bank.specs.Reloads.{PlainAnnunciator, annunciator_after, reload_fits, reloaded_in}
-use Rattle.console_boards.specs.declared.entry.Answer.{Answer}
-use Rattle.console_boards.specs.declared.entry.Entry.{Entry}
-use Rattle.console_boards.specs.declared.entry.Entry.TheVariants as entry
+use Rattle.console_boards.specs.declared.entry.AnsweredOrder.{AnsweredOrder}
+use Rattle.console_boards.specs.declared.entry.BoardEntry.{BoardEntry}
+use Rattle.console_boards.specs.declared.entry.BoardEntry.TheVariants as entry
 use Rattle.console_boards.specs.declared.picture.Picture.{Picture}
 
 -- the number of a refusal
@@ -51,15 +51,15 @@ is_outside (Err fault.OldPlant) = true
 is_outside _ = false
 
 -- the alarms after an order with its reply: one that is refused before any alarm is asked changes nothing
-abbrev pub after_answer : PlainBank → Answer → PlainBank
+abbrev pub after_answer : PlainBank → AnsweredOrder → PlainBank
 after_answer b a = if is_outside a.reply then b else elim a.order.target [ None ↦ b | Some n ↦ after_event (event.Order n a.order.verb) b ]
 
 -- whether an order may have this reply: an alarm's reply is the one that the table gives now
-abbrev pub may_answer : PlainBank → Answer → Bool
+abbrev pub may_answer : PlainBank → AnsweredOrder → Bool
 may_answer b a = is_restart a.order.verb || (is_outside a.reply || elim a.order.target [ None ↦ false | Some n ↦ same_reply a.reply (reply_of n a.order.verb b) ])
 
 -- an order that is no restart, and isn't replied O1, O2 or O6: an alarm was asked
-abbrev pub IsAsked : Answer → Type 0
+abbrev pub IsAsked : AnsweredOrder → Type 0
 IsAsked a = (a.order.verb ≢ verb.Restart) × ((a.reply ≢ Err fault.UnknownTarget) × (a.reply ≢ Err fault.NotYourArea) × (a.reply ≢ Err fault.OldPlant))
 
 -- whether an event is a scan
@@ -69,23 +69,23 @@ is_scan (event.Order n v) = false
 is_scan (event.Reload news) = false
 
 -- the alarms in their places after an entry
-abbrev pub panel_after_entry : PlainAnnunciator → Entry → PlainAnnunciator
+abbrev pub panel_after_entry : PlainAnnunciator → BoardEntry → PlainAnnunciator
 panel_after_entry p (entry.Scan ev) = annunciator_after ev p
 panel_after_entry p (entry.Order n a) = record p { bank = after_answer p.bank a }
 panel_after_entry p (entry.Reload news) = reloaded_in news p
 
 -- whether an entry may come after these alarms: a reload has to fit their places
-abbrev pub panel_allows_entry : PlainAnnunciator → Entry → Bool
+abbrev pub panel_allows_entry : PlainAnnunciator → BoardEntry → Bool
 panel_allows_entry p (entry.Scan ev) = is_scan ev
 panel_allows_entry p (entry.Order n a) = may_answer p.bank a
 panel_allows_entry p (entry.Reload news) = reload_fits news p
 
 -- the picture after an entry: the consoles that are counted stay the same
-abbrev pub after : Picture → Entry → Picture
+abbrev pub after : Picture → BoardEntry → Picture
 after p e = record p { panel = panel_after_entry p.panel e }
 
 -- whether an entry may come next
-abbrev pub allows : Picture → Entry → Bool
+abbrev pub allows : Picture → BoardEntry → Bool
 allows p e = panel_allows_entry p.panel e
 
 -- the state of the alarm of a number, if it is there

@@ -4,7 +4,7 @@ ghost use Rattle.console_boards.specs.Stories.{shown, is_lawful};
 ghost use Rattle.console_boards.specs.Replies.{after, allows};
 ghost use Rattle.console_boards.specs.Counts.{count_of, consoles_in, reloads_in};
 
-use crate::entry::Entry;
+use crate::entry::BoardEntry;
 use crate::picture::Picture;
 use crate::tally::Tally;
 use alarm_bank::Annunciator;
@@ -17,11 +17,11 @@ use console_log::Mark;
 pub struct Board {
     panel: Annunciator,
     pub opening: Remembered<Picture>,
-    pub list: Trace<Entry>,
+    pub list: Trace<BoardEntry>,
     events: u64,
     reloads: u64,
     tallies: Vec<Tally>,
-    pub(crate) mark: Mark<Entry>,
+    pub(crate) mark: Mark<BoardEntry>,
     ghost is_shown: { panel ≡ (shown after opening.value list).panel },
     ghost lawful: { is_lawful after allows opening.value list ≡ true },
     ghost all_counted: { events ≡ length list },

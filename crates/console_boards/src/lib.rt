@@ -27,7 +27,7 @@ mod view;
 mod writer;
 
 pub use board::Board;
-pub use entry::{Answer, Entry, Operation, Reply};
+pub use entry::{AnsweredOrder, BoardEntry, Operation, OrderOutcome};
 pub use laws::{orders_are_counted, replies_are_of_the_table};
 pub use picture::Picture;
 pub use reader::{BoardReader, BoardReading};

@@ -6,7 +6,7 @@ ghost use Rattle.console_boards.specs.Replies.{after, allows};
 ghost use Rattle.console_boards.specs.Marks.{log_in};
 
 use crate::board::Board;
-use crate::entry::Entry;
+use crate::entry::BoardEntry;
 use crate::rule::Grows;
 use crate::view::View;
 use console_log::Mark;
@@ -17,7 +17,7 @@ use left_right::reader::{Reader, Reading};
 pub struct BoardReader {
     pub(crate) reader: Reader<Board, View, Grows>,
     pub(crate) events: u64,
-    pub(crate) mark: Mark<Entry>,
+    pub(crate) mark: Mark<BoardEntry>,
     ghost counted: { events ≡ seen_events (view reader.place).seen },
     ghost marked: { mark.entries ≡ seen_list (view reader.place).seen },
     ghost log_is: { log_in (view reader.place).mark ≡ Some mark.log },

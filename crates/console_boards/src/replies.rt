@@ -2,7 +2,7 @@
 ghost use Rattle.std.specs.Prelude.{◌≡◌, if◌then◌else◌};
 ghost use Rattle.console_boards.specs.Replies.{fault_number, same_change, same_reply, is_restart, is_outside, is_scan, may_answer, after_answer, panel_after_entry, panel_allows_entry};
 
-use crate::entry::{Answer, Entry, Reply};
+use crate::entry::{AnsweredOrder, BoardEntry, OrderOutcome};
 use alarm_bank::{Annunciator, BankEvent};
 use alarm_machine::{Change, OrderFault, Verb};
 
@@ -34,7 +34,7 @@ fn same_change(one: Option<Change>, other: Option<Change>) -> bool
 }
 
 /// Whether two replies are the same.
-fn same_reply(one: Reply, other: Reply) -> bool
+fn same_reply(one: OrderOutcome, other: OrderOutcome) -> bool
     ensures { result ≡ same_reply one other }
 {
     match (one, other) {
@@ -52,7 +52,7 @@ fn is_restart(verb: Verb) -> bool
 }
 
 /// Whether a reply refuses the order before any alarm is asked.
-fn is_outside(reply: Reply) -> bool
+fn is_outside(reply: OrderOutcome) -> bool
     ensures { result ≡ is_outside reply }
 {
     match reply {
@@ -72,7 +72,7 @@ fn is_scan(event: &BankEvent) -> bool
 }
 
 /// Whether an order may have this reply now.
-fn may_answer(panel: &Annunciator, answer: Answer) -> bool
+fn may_answer(panel: &Annunciator, answer: AnsweredOrder) -> bool
     ensures { result ≡ may_answer panel.now.bank answer }
 {
     if is_restart(answer.order.verb) || is_outside(answer.reply) {
@@ -85,7 +85,7 @@ fn may_answer(panel: &Annunciator, answer: Answer) -> bool
 }
 
 /// Takes an order with its reply.
-fn answer(panel: &mut Annunciator, answer: Answer)
+fn answer(panel: &mut Annunciator, answer: AnsweredOrder)
     ensures { panel.new ≡ record panel.old { bank = after_answer panel.old.bank answer } }
 {
     if is_outside(answer.reply) {
@@ -100,28 +100,28 @@ fn answer(panel: &mut Annunciator, answer: Answer)
 }
 
 /// Takes in an entry, if it may come next, and tells whether it may; one that may not changes nothing.
-pub(crate) fn take(panel: &mut Annunciator, entry: &Entry) -> bool
+pub(crate) fn take(panel: &mut Annunciator, entry: &BoardEntry) -> bool
     ensures allowed { result ≡ panel_allows_entry panel.old entry.now }
     ensures taken { panel.new
         ≡ (if panel_allows_entry panel.old entry.now then panel_after_entry panel.old entry.now else
         panel.old) }
 {
     match entry {
-        Entry::Scan(event) => {
+        BoardEntry::Scan(event) => {
             let may = is_scan(event);
             if may {
                 panel.advance(event);
             }
             may
         }
-        Entry::Order(_, answered) => {
+        BoardEntry::Order(_, answered) => {
             let may = may_answer(panel, *answered);
             if may {
                 answer(panel, *answered);
             }
             may
         }
-        Entry::Reload(news) => {
+        BoardEntry::Reload(news) => {
             let news = news.as_slice();
             let may = panel.fits(news);
             if may {

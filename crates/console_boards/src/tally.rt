@@ -3,7 +3,7 @@ ghost use Rattle.std.specs.Prelude.{◌≡◌, ◌==◌, ◌^◌, ◌+◌, ◌<�
 ghost use Rattle.std.specs.List.{find};
 ghost use Rattle.console_boards.specs.Counts.{counted, tallied, consoles_in, reloads_as};
 
-use crate::entry::Entry;
+use crate::entry::BoardEntry;
 use base_trace::Trace;
 
 /// A console, by its number, and how many of its orders there are.
@@ -40,23 +40,23 @@ fn count(tallies: &mut [Tally], console: u32)
 
 /// Counts one more entry.
 #[tactic(auto, using(crate::proofs::Takes::none_more, crate::proofs::Takes::none_by_reload))]
-pub(crate) fn count_entry(tallies: &mut Vec<Tally>, entry: &Entry)
+pub(crate) fn count_entry(tallies: &mut Vec<Tally>, entry: &BoardEntry)
     requires { All (λ t. t.orders + 1 < 2 ^ 64) tallies.old.items }
     ensures { tallies.new.items ≡ map (tallied entry.now) tallies.old.items }
 {
     match entry {
-        Entry::Scan(_) | Entry::Reload(_) => {}
-        Entry::Order(console, _) => count(tallies.as_mut_slice(), *console),
+        BoardEntry::Scan(_) | BoardEntry::Reload(_) => {}
+        BoardEntry::Order(console, _) => count(tallies.as_mut_slice(), *console),
     }
 }
 
 /// 1 for a reload, else 0.
-pub(crate) fn reloads_as(entry: &Entry) -> u64
+pub(crate) fn reloads_as(entry: &BoardEntry) -> u64
     ensures { result ≡ reloads_as entry.now }
 {
     match entry {
-        Entry::Reload(_) => 1,
-        Entry::Scan(_) | Entry::Order(_, _) => 0,
+        BoardEntry::Reload(_) => 1,
+        BoardEntry::Scan(_) | BoardEntry::Order(_, _) => 0,
     }
 }
 

@@ -5,7 +5,7 @@ ghost use Rattle.console_boards.specs.Stories.{Begins};
 ghost use Rattle.console_boards.specs.Marks.{operated, log_in};
 
 use crate::board::Board;
-use crate::entry::{Entry, Operation};
+use crate::entry::{BoardEntry, Operation};
 use crate::rule::Grows;
 use crate::view::View;
 use console_log::{Log, Mark};
@@ -16,9 +16,9 @@ use left_right::writer::Writer;
 /// It is stuck once an entry was laid by that the log didn't take: then nothing more is laid by or published.
 pub struct BoardWriter {
     writer: Writer<Board, Operation, View, Grows>,
-    log: Log<Entry>,
+    log: Log<BoardEntry>,
     /// A mark of the log before the first entry.
-    opening: Mark<Entry>,
+    opening: Mark<BoardEntry>,
     stuck: bool,
     ghost knows: { (view writer.desk.place).seen ≡ Some (writer.desk.shown.value.opening.value, writer.desk.shown.value.list) },
     ghost log_is: { log_in (view writer.desk.place).mark ≡ Some log.log },

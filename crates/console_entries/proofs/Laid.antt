@@ -17,8 +17,8 @@ use Rattle.engine_system.specs.States.{PlainPrepared, PlainPreparedOrder, delays
 use Rattle.engine_system.specs.System.{system, opening_system, after_event, conditions, delays_of, suppressions, scanned_by}
 use Rattle.engine_system.proofs.CellWorlds.{SameGlobals, conditions_same, values_stand}
 use Rattle.engine.specs.Engines.{PlainEngine, state_of, Fits, FitsOrder, LeavesState}
-use Rattle.console_boards.specs.declared.entry.Entry.{Entry}
-use Rattle.console_boards.specs.declared.entry.Entry.TheVariants as entry
+use Rattle.console_boards.specs.declared.entry.BoardEntry.{BoardEntry}
+use Rattle.console_boards.specs.declared.entry.BoardEntry.TheVariants as entry
 use Rattle.console_boards.specs.declared.picture.Picture.{Picture}
 use Rattle.console_boards.specs.declared.writer.BoardWriter.{BoardWriter}
 use Rattle.engine.specs.Lawful.{IsTaken}
@@ -55,21 +55,21 @@ pub order_entry : (e : PlainEngine) (p : PlainPreparedOrder) → FitsOrder e p �
 order_entry e p fits = ap (λ (r : Reply). entry.Order p.console (record { order = p.order; reply = board_reply r })) fits.reply_is
 
 -- the entry of the next event may be laid by
-pub may_come : (plant : PlainPlant) (history : List Event) (e : Event) (board : BoardWriter) (x : Entry) → IsTaken (system plant history) e → HasHistory plant history board → x ≡ entry_of (system plant history) e
+pub may_come : (plant : PlainPlant) (history : List Event) (e : Event) (board : BoardWriter) (x : BoardEntry) → IsTaken (system plant history) e → HasHistory plant history board → x ≡ entry_of (system plant history) e
     → allows (shown after (laid board).0 (laid board).1) x ≡ true
-may_come plant history e board x taken has is = ap (λ (s : Story Picture Entry). allows (shown after s.0 s.1) x) has.laid_is ∙ next_may plant history e x taken has.alarms is
+may_come plant history e board x taken has is = ap (λ (s : Story Picture BoardEntry). allows (shown after s.0 s.1) x) has.laid_is ∙ next_may plant history e x taken has.alarms is
 
-has_next : (plant : PlainPlant) (history : List Event) (e : Event) (old new : BoardWriter) (x : Entry) → HasHistory plant history old → IsTaken (system plant history) e
+has_next : (plant : PlainPlant) (history : List Event) (e : Event) (old new : BoardWriter) (x : BoardEntry) → HasHistory plant history old → IsTaken (system plant history) e
     → x ≡ entry_of (system plant history) e → laid new ≡ ((laid old).0, (laid old).1 ++ x ∷ []) → HasHistory plant (history ++ e ∷ []) new
 has_next plant history e old new x has taken is more =
     let opening = picture_of (opening_system plant) in record {
-      laid_is = more ∙ (ap (λ (s : Story Picture Entry). (s.0, s.1 ++ x ∷ [])) has.laid_is
-          ∙ (ap (λ (y : Entry). (opening, entries_of plant history ++ y ∷ [])) is ∙ ap (λ (l : List Entry). (opening, l)) (sym (history_more plant history e))));
+      laid_is = more ∙ (ap (λ (s : Story Picture BoardEntry). (s.0, s.1 ++ x ∷ [])) has.laid_is
+          ∙ (ap (λ (y : BoardEntry). (opening, entries_of plant history ++ y ∷ [])) is ∙ ap (λ (l : List BoardEntry). (opening, l)) (sym (history_more plant history e))));
       alarms = alarms_next plant history e taken has.alarms;
     }
 
 -- the entry of the next event was laid by, or nothing was
-pub laid_or_not : {T F : Type 0} (r : Result T F) (plant : PlainPlant) (history : List Event) (e : Event) (old new : BoardWriter) (x : Entry) → HasHistory plant history old → IsTaken (system plant history) e
+pub laid_or_not : {T F : Type 0} (r : Result T F) (plant : PlainPlant) (history : List Event) (e : Event) (old new : BoardWriter) (x : BoardEntry) → HasHistory plant history old → IsTaken (system plant history) e
     → x ≡ entry_of (system plant history) e → MatchResult r (λ _. laid new ≡ ((laid old).0, (laid old).1 ++ x ∷ [])) (λ _. laid new ≡ laid old)
     → MatchResult r (λ _. HasHistory plant (history ++ e ∷ []) new) (λ _. HasHistory plant history new)
 laid_or_not (Ok t) plant history e old new x has taken is h = has_next plant history e old new x has taken is h

@@ -20,12 +20,12 @@ use Rattle.alarm_orders.specs.declared.order.Order.{Order}
 use Rattle.engine_system.specs.declared.state.Effect.{Effect}
 use Rattle.engine_system.specs.declared.state.Effect.TheVariants as effect
 use Rattle.engine_system.specs.Orders.{is_console, alarm_effect, order_at, order_outcome, unless_old, alarms_by, reply_by}
-use Rattle.console_boards.specs.declared.entry.Answer.{Answer}
+use Rattle.console_boards.specs.declared.entry.AnsweredOrder.{AnsweredOrder}
 use Rattle.console_boards.specs.Replies.{fault_number, same_change, same_reply, is_restart, is_outside, after_answer, may_answer}
 use Rattle.console_entries.specs.Entries.{board_reply}
 
 -- what an order is answered that does this
-abbrev answered : PlainBank → Order → Result Effect OrderFault → Answer
+abbrev answered : PlainBank → Order → Result Effect OrderFault → AnsweredOrder
 answered b order done = record { order = order; reply = board_reply (reply_by done b.alarms) }
 
 -- the order may have this answer, and the board's alarms are then what it makes of them

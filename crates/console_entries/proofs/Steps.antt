@@ -12,7 +12,7 @@ use Rattle.engine_system.proofs.Images.{taken_when}
 use Rattle.engine_system.proofs.FoundReload.{reload_found}
 use Rattle.engine_system.proofs.Systems.{HasAlarms, alarms_there, system_next, system_none}
 use Rattle.engine.specs.Lawful.{IsTaken}
-use Rattle.console_boards.specs.declared.entry.Entry.{Entry}
+use Rattle.console_boards.specs.declared.entry.BoardEntry.{BoardEntry}
 use Rattle.console_boards.specs.declared.picture.Picture.{Picture}
 use Rattle.console_boards.specs.declared.writer.BoardWriter.{BoardWriter}
 use Rattle.console_boards.specs.Stories.{shown}
@@ -28,7 +28,7 @@ use Rattle.console_entries.proofs.Scans.{scan_after}
 
 entries_more : (s : System) (es : List Event) (e : Event) → entries_from s (es ++ e ∷ []) ≡ entries_from s es ++ entry_of (fold after_event s es) e ∷ []
 entries_more s [] e = refl
-entries_more s (x ∷ es) e = ap (λ (l : List Entry). entry_of s x ∷ l) (entries_more (after_event s x) es e)
+entries_more s (x ∷ es) e = ap (λ (l : List BoardEntry). entry_of s x ∷ l) (entries_more (after_event s x) es e)
 
 pub history_more : (plant : PlainPlant) (history : List Event) (e : Event) → entries_of plant (history ++ e ∷ []) ≡ entries_of plant history ++ entry_of (system plant history) e ∷ []
 unfolding entries_of system
@@ -70,10 +70,10 @@ next_after : (sys : System) (e : Event) → HasAlarms sys → IsTaken sys e → 
 next_after sys e each h = λ i. record { panel = panel_after sys e each h i; consoles = sym (same_consoles sys e h) i }
 
 -- the entry of an event may come after the history before it
-pub next_may : (plant : PlainPlant) (history : List Event) (e : Event) (x : Entry) → IsTaken (system plant history) e → HasAlarmsOf plant history → x ≡ entry_of (system plant history) e
+pub next_may : (plant : PlainPlant) (history : List Event) (e : Event) (x : BoardEntry) → IsTaken (system plant history) e → HasAlarmsOf plant history → x ≡ entry_of (system plant history) e
     → allows (shown after (picture_of (opening_system plant)) (entries_of plant history)) x ≡ true
 next_may plant history e x taken alarms is =
-    ap (λ (p : Picture). allows p x) alarms ∙ (ap (λ (y : Entry). allows (picture_of (system plant history)) y) is ∙ next_allowed (system plant history) e (alarms_there plant history) taken)
+    ap (λ (p : Picture). allows p x) alarms ∙ (ap (λ (y : BoardEntry). allows (picture_of (system plant history)) y) is ∙ next_allowed (system plant history) e (alarms_there plant history) taken)
 
 -- and after it the alarms are the system's
 pub alarms_next : (plant : PlainPlant) (history : List Event) (e : Event) → IsTaken (system plant history) e → HasAlarmsOf plant history → HasAlarmsOf plant (history ++ e ∷ [])
@@ -82,7 +82,7 @@ alarms_next plant history e taken alarms =
     let opening = picture_of (opening_system plant) in
     let es = entries_of plant history in
     let x = entry_of sys e in
-    ap (λ (l : List Entry). shown after opening l) (history_more plant history e)
+    ap (λ (l : List BoardEntry). shown after opening l) (history_more plant history e)
     ∙ (shown_more after opening es x ∙ (ap (λ (p : Picture). after p x) alarms ∙ (next_after sys e (alarms_there plant history) taken ∙ ap picture_of (sym (system_next plant history e)))))
 
 -- before the first event there is none
@@ -95,7 +95,7 @@ pub all_open : {E : Type 0} (r : Result BoardWriter E) (plant : PlainPlant) (fir
     → IfOk r (λ w. (published w ≡ story_of first) × (laid w ≡ story_of first)) → IfOk r (HasHistory plant [])
 all_open (Ok w) plant first picture none h =
     let opening = picture_of (opening_system plant) in record {
-      laid_is = h.1 ∙ ((λ i. (picture i, none i)) ∙ ap (λ (l : List Entry). (opening, l)) (sym (no_entries plant)));
-      alarms = ap (λ (l : List Entry). shown after opening l) (no_entries plant) ∙ ap picture_of (sym (system_none plant));
+      laid_is = h.1 ∙ ((λ i. (picture i, none i)) ∙ ap (λ (l : List BoardEntry). (opening, l)) (sym (no_entries plant)));
+      alarms = ap (λ (l : List BoardEntry). shown after opening l) (no_entries plant) ∙ ap picture_of (sym (system_none plant));
     }
 all_open (Err e) plant first picture none h = tt

@@ -10,7 +10,7 @@ use Rattle.alarm_bank.specs.declared.event.BankEvent.TheVariants as bank_event
 use Rattle.alarm_delays.specs.Delays.{counts}
 use Rattle.engine_history.specs.declared.event.Event.{Event}
 use Rattle.engine_history.specs.declared.event.Event.TheVariants as event
-use Rattle.plant_file.specs.declared.console.Console.{Console}
+use Rattle.plant_file.specs.declared.console.ListedConsole.{ListedConsole}
 use Rattle.plant_config.specs.Plants.{PlainPlant}
 use Rattle.plant_config.specs.Names.{globals_of}
 use Rattle.engine_system.specs.declared.event.Reply.{Reply}
@@ -18,8 +18,8 @@ use Rattle.engine_system.specs.declared.event.Reply.TheVariants as reply
 use Rattle.engine_system.specs.Programs.{global_in}
 use Rattle.engine_system.specs.Reloads.{news_of}
 use Rattle.engine_system.specs.System.{System, opening_system, after_event, scans_after, suppressions, scanned_by, reply_to, sites_of}
-use Rattle.console_boards.specs.declared.entry.Entry.{Entry}
-use Rattle.console_boards.specs.declared.entry.Entry.TheVariants as entry
+use Rattle.console_boards.specs.declared.entry.BoardEntry.{BoardEntry}
+use Rattle.console_boards.specs.declared.entry.BoardEntry.TheVariants as entry
 use Rattle.console_boards.specs.declared.picture.Picture.{Picture}
 use Rattle.console_boards.specs.Stories.{Story}
 
@@ -35,18 +35,18 @@ given_by sys image t =
     bank_event.Scan t (map counts (scans_after now t sys.plant.alarms sys.scans)) (suppressions now sys.plant.alarms)
 
 -- the entry of an event in a state: of a scan what it gives to the alarms, of an order its console and the reply there, of a reload the alarms of the new plant
-abbrev pub entry_of : System → Event → Entry
+abbrev pub entry_of : System → Event → BoardEntry
 entry_of sys (event.Scan image t) = entry.Scan (given_by sys image t)
 entry_of sys (event.Order console order) = entry.Order console (record { order = order; reply = board_reply (reply_to sys console order) })
 entry_of sys (event.Reload new) = entry.Reload (news_of sys.plant new)
 
 -- the entries of events that come one after another from a state on
-abbrev pub entries_from : System → List Event → List Entry
+abbrev pub entries_from : System → List Event → List BoardEntry
 entries_from sys [] = []
 entries_from sys (e ∷ events) = entry_of sys e ∷ entries_from (after_event sys e) events
 
 -- the entries of a history
-unfoldable pub entries_of : PlainPlant → List Event → List Entry
+unfoldable pub entries_of : PlainPlant → List Event → List BoardEntry
 entries_of plant history = entries_from (opening_system plant) history
 
 -- the alarms of a system, as a bank has them
@@ -58,13 +58,13 @@ abbrev pub panel_of : System → PlainAnnunciator
 panel_of sys = record { bank = bank_of sys; places = 20000 }
 
 -- the consoles whose orders the board of a plant counts: all that the plant lists
-abbrev pub counted_consoles : List Console → List ℕ
-counted_consoles consoles = map (λ (console : Console). console.number) consoles
+abbrev pub counted_consoles : List ListedConsole → List ℕ
+counted_consoles consoles = map (λ (console : ListedConsole). console.number) consoles
 
 -- what the board of a system shows: its alarms with their places, and the numbers of the consoles whose orders it counts
 abbrev pub picture_of : System → Picture
 picture_of sys = record { panel = panel_of sys; consoles = counted_consoles sys.plant.consoles }
 
 -- what a board shows of a history: the picture as the plant opens, and its entries
-abbrev pub history_story : PlainPlant → List Event → Story Picture Entry
+abbrev pub history_story : PlainPlant → List Event → Story Picture BoardEntry
 history_story plant history = (picture_of (opening_system plant), entries_of plant history)

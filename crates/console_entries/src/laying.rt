@@ -17,7 +17,7 @@ ghost use Rattle.console_entries.specs.Showing.{HasHistory};
 use alarm_bank::BankEvent;
 use alarm_delays::Delays;
 use alarm_watch::value_at;
-use console_boards::{Answer, BoardWriter, Entry};
+use console_boards::{AnsweredOrder, BoardEntry, BoardWriter, OrderOutcome};
 use engine::{Engine, Prepared, PreparedOrder};
 use engine_system::{Reply, news_of};
 use logic_cells::Cells;
@@ -89,7 +89,7 @@ fn given(
 }
 
 /// A reply, as a board has it.
-fn board_reply(reply: Reply) -> console_boards::Reply
+fn board_reply(reply: Reply) -> OrderOutcome
     ensures { result ≡ board_reply reply }
 {
     match reply {
@@ -119,7 +119,7 @@ pub fn lay_scan(
     let delays = engine.delays();
     let cells = &scan.effect.cells;
     let given = given(alloc, rows, delays, cells, scan.report.moment)?;
-    board.lay(Entry::Scan(given))
+    board.lay(BoardEntry::Scan(given))
 }
 
 /// Lays the entry by of an order that was made ready. Fails if memory was refused, or where the board takes no entry more; then nothing is laid by.
@@ -137,11 +137,11 @@ pub fn lay_order(
         (engine.now.history ++ Order prepared.now.console prepared.now.order ∷ []) board.new)
         (λ _. HasHistory engine.now.plant engine.now.history board.new) }
 {
-    let answer = Answer {
+    let answer = AnsweredOrder {
         order: prepared.order,
         reply: board_reply(prepared.reply),
     };
-    board.lay(Entry::Order(prepared.console, answer))
+    board.lay(BoardEntry::Order(prepared.console, answer))
 }
 
 /// Lays the entry by of a reload that the engine would take. Fails if memory was refused, or where the board takes no entry more; then nothing is laid by.
@@ -160,5 +160,5 @@ pub fn lay_reload(
         (λ _. HasHistory engine.now.plant engine.now.history board.new) }
 {
     let news = news_of(alloc, engine.plant(), new)?;
-    board.lay(Entry::Reload(Items::from_vec(news)))
+    board.lay(BoardEntry::Reload(Items::from_vec(news)))
 }

@@ -10,7 +10,7 @@ use alarm_bank::{Annunciator, Bank};
 use console_boards::{Board, BoardWriter, Tally};
 use engine_system::opening_state;
 use plant_config::Plant;
-use plant_file::Console;
+use plant_file::ListedConsole;
 use std::alloc::{AllocError, Global};
 use std::sync::Wait;
 
@@ -35,7 +35,7 @@ fn opening_panel(alloc: Global, plant: &Plant) -> Result<Annunciator, AllocError
 }
 
 /// A tally for each console, with no order yet.
-fn tallies_of(alloc: Global, consoles: &[Console]) -> Result<Vec<Tally>, AllocError>
+fn tallies_of(alloc: Global, consoles: &[ListedConsole]) -> Result<Vec<Tally>, AllocError>
     ensures none { IfOk result (λ tallies. All (λ t. t.orders ≡ 0) tallies.items) }
     ensures all { IfOk result (λ tallies. consoles_in tallies.items ≡ counted_consoles consoles.now) }
 {

@@ -14,5 +14,5 @@ mod console;
 mod lane;
 
 pub use answer::Answer;
-pub use console::{Console, Finished};
+pub use console::{FinishedLink, Link};
 pub use lane::{Lane, open};

@@ -2,7 +2,7 @@
 use Rattle.std.specs.Prelude.{◌≡◌, ◌≤◌, ◌<◌, ℕ, min, true, Option, Some, None}
 use Rattle.logbook.specs.Pages.{Book}
 use Rattle.alarm_machine.specs.declared.states.AlarmState.{AlarmState}
-use Rattle.console_boards.specs.declared.entry.Entry.{Entry}
+use Rattle.console_boards.specs.declared.entry.BoardEntry.{BoardEntry}
 use Rattle.console_boards.specs.declared.picture.Picture.{Picture}
 use Rattle.console_boards.specs.Stories.{Story, IsSince, shown, is_lawful}
 use Rattle.console_boards.specs.Replies.{after, allows, state_at}
@@ -13,7 +13,7 @@ use Rattle.console_operator.specs.declared.sight.Sight.TheVariants as sight
 
 -- what a board shows: the alarms as they opened, and the events since
 abbrev pub BoardStory : Type 0
-BoardStory = Story Picture Entry
+BoardStory = Story Picture BoardEntry
 
 -- what was seen last, if anything was
 abbrev pub seen_by : Sight → Option BoardStory

@@ -7,7 +7,7 @@ ghost use Rattle.console_boards.specs.Readers.{seen, told, log_of};
 ghost use Rattle.console_operator.specs.Sights.{seen_by, told_by, log_by, looked_at, reloads_shown, state_shown, HasOrders, LacksOrders, KnowsAs, LooksFrom};
 
 use alarm_machine::AlarmState;
-use console_boards::{BoardReader, BoardReading, Entry};
+use console_boards::{BoardEntry, BoardReader, BoardReading};
 use console_log::Mark;
 use core::mem::replace_with;
 
@@ -125,7 +125,7 @@ impl Sight {
     }
 
     /// A mark of the entries that it saw last, which are none where it saw nothing yet.
-    pub(crate) fn mark(&self) -> Mark<Entry>
+    pub(crate) fn mark(&self) -> Mark<BoardEntry>
         ensures { IsMark (log_by self.now) (seen_list (seen_by self.now)) result }
     {
         match self {

@@ -14,7 +14,7 @@ const MOST_ORDERS: u32 = 64;
 
 /// What was taken of one console, or of several.
 #[derive(Clone, Copy, Drop)]
-pub struct Part {
+pub struct TakenOrders {
     /// How many orders.
     pub taken: u32,
     /// Whether memory was refused for an order, or the history is full.
@@ -51,7 +51,7 @@ fn take_part<T: Recording<H>, H>(
     alloc: Global,
     recorder: &mut T,
     lane: &mut Lane<Order, Reply>,
-) -> Part
+) -> TakenOrders
     ensures plant { T.plant_of recorder.new ≡ T.plant_of recorder.old }
     ensures share { T.parts_of recorder.new ≡ T.parts_of recorder.old }
     ensures log { T.log_of recorder.new ≡ T.log_of recorder.old }
@@ -65,20 +65,20 @@ fn take_part<T: Recording<H>, H>(
         match take_order(rt, alloc, recorder, lane) {
             Ok(true) => taken += 1,
             Ok(false) => {
-                return Part {
+                return TakenOrders {
                     taken,
                     stopped: false,
                 };
             }
             Err(NotTaken) => {
-                return Part {
+                return TakenOrders {
                     taken,
                     stopped: true,
                 };
             }
         }
     }
-    Part {
+    TakenOrders {
         taken,
         stopped: false,
     }
@@ -90,7 +90,7 @@ pub fn take_parts<T: Recording<H>, H>(
     alloc: Global,
     recorder: &mut T,
     lanes: &mut [Lane<Order, Reply>],
-) -> Part
+) -> TakenOrders
     requires { length lanes.old ≤ 32 }
     ensures plant { T.plant_of recorder.new ≡ T.plant_of recorder.old }
     ensures share { T.parts_of recorder.new ≡ T.parts_of recorder.old }
@@ -102,7 +102,7 @@ pub fn take_parts<T: Recording<H>, H>(
     ensures most { result.taken ≤ 64 * length lanes.old }
 {
     let Some((lane, others)) = lanes.split_first_mut() else {
-        return Part {
+        return TakenOrders {
             taken: 0,
             stopped: false,
         };
@@ -112,7 +112,7 @@ pub fn take_parts<T: Recording<H>, H>(
         return part;
     }
     let rest = take_parts(rt, alloc, recorder, others);
-    Part {
+    TakenOrders {
         taken: part.taken + rest.taken,
         stopped: rest.stopped,
     }

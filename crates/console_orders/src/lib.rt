@@ -10,5 +10,5 @@
 mod answering;
 mod recording;
 
-pub use answering::{Part, take_parts};
+pub use answering::{TakenOrders, take_parts};
 pub use recording::{NotTaken, Recording};

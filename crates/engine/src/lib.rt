@@ -28,7 +28,7 @@ pub use laws::{
     lawful_history_stays_in_range, outputs_are_worth_their_numbers, system_keeps_its_plant,
 };
 pub use plant_config::{AlarmRow, ConfigFault, Files, Limit, Plant, Variable};
-pub use plant_file::Console;
+pub use plant_file::ListedConsole;
 pub use plant_types::{Given, Items, Kind, Pair, Place, Region, Text, Trap, Value};
 pub use reload::{PreparedReload, ReloadRefused, Reloaded};
 pub use slice_store::{Done, Job, Start};

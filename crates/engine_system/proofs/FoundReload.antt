@@ -6,7 +6,7 @@ use Rattle.std.proofs.lemmas.Option.{same_Some}
 use Rattle.std.proofs.lemmas.List.{drop_more, drop_all}
 use Rattle.std.proofs.lemmas.Bool.Decides.{nat_tests}
 use Rattle.alarm_bank.specs.declared.rows.NewAlarm.{NewAlarm}
-use Rattle.plant_file.specs.declared.console.Console.{Console}
+use Rattle.plant_file.specs.declared.console.ListedConsole.{ListedConsole}
 use Rattle.plant_config.specs.declared.rows.AlarmRow.{AlarmRow}
 use Rattle.plant_config.specs.Plants.{PlainPlant}
 use Rattle.engine_history.specs.declared.event.Event.TheVariants as event
@@ -45,19 +45,19 @@ numbers_apart (m ∷ ms) [] h = refl
 numbers_apart (m ∷ ms) (n ∷ ns) h = ap (λ (b : Bool). (m == n) && b) (numbers_apart ms ns (λ e. h (ap suc e))) ∙ none_and (m == n)
 
 -- from a number on, console by console
-pub numbers_next : (old new : List Console) (n : ℕ) (d : Console) → n < length old → n < length new → (slice_index_or old n d).number ≡ (slice_index_or new n d).number
+pub numbers_next : (old new : List ListedConsole) (n : ℕ) (d : ListedConsole) → n < length old → n < length new → (slice_index_or old n d).number ≡ (slice_index_or new n d).number
     → same_numbers (numbers_of (drop n old)) (numbers_of (drop n new)) ≡ same_numbers (numbers_of (drop (n + 1) old)) (numbers_of (drop (n + 1) new))
 numbers_next old new n d h g same =
     (λ i. same_numbers (numbers_of (drop_more old n d h i)) (numbers_of (drop_more new n d g i)))
     ∙ ap (λ (b : Bool). b && same_numbers (numbers_of (drop (n + 1) old)) (numbers_of (drop (n + 1) new))) (eq-eqb (slice_index_or old n d).number (slice_index_or new n d).number same)
 
-pub numbers_differ : (old new : List Console) (n : ℕ) (d : Console) → n < length old → n < length new → (slice_index_or old n d).number ≢ (slice_index_or new n d).number
+pub numbers_differ : (old new : List ListedConsole) (n : ℕ) (d : ListedConsole) → n < length old → n < length new → (slice_index_or old n d).number ≢ (slice_index_or new n d).number
     → same_numbers (numbers_of (drop n old)) (numbers_of (drop n new)) ≡ false
 numbers_differ old new n d h g other =
     (λ i. same_numbers (numbers_of (drop_more old n d h i)) (numbers_of (drop_more new n d g i)))
     ∙ ap (λ (b : Bool). b && same_numbers (numbers_of (drop (n + 1) old)) (numbers_of (drop (n + 1) new))) (ne_eqb (slice_index_or old n d).number (slice_index_or new n d).number other)
 
-pub numbers_end : (old new : List Console) (n : ℕ) → length old ≤ n → length new ≤ n → same_numbers (numbers_of (drop n old)) (numbers_of (drop n new)) ≡ true
+pub numbers_end : (old new : List ListedConsole) (n : ℕ) → length old ≤ n → length new ≤ n → same_numbers (numbers_of (drop n old)) (numbers_of (drop n new)) ≡ true
 numbers_end old new n h g = λ i. same_numbers (numbers_of (drop_all n old h i)) (numbers_of (drop_all n new g i))
 
 -- what is made of the rows from a number on, row by row

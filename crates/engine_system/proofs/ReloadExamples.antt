@@ -3,7 +3,7 @@ use Rattle.std.proofs.Common.{◌≡◌, ℕ, Bool, true, false, List, [], ◌�
 use Rattle.std.specs.Prelude.{codes}
 use Rattle.alarm_machine.specs.Alarms.{PlainAlarm}
 use Rattle.alarm_machine.specs.declared.states.AlarmState.TheVariants as state
-use Rattle.plant_file.specs.declared.console.Console.{Console}
+use Rattle.plant_file.specs.declared.console.ListedConsole.{ListedConsole}
 use Rattle.logic_source.specs.Source.{Source}
 use Rattle.plant_config.specs.declared.rows.AlarmRow.{AlarmRow}
 use Rattle.plant_config.specs.Plants.{PlainPlant}
@@ -20,11 +20,11 @@ abbrev row : List ℕ → Bool → ℕ → AlarmRow
 row tag latching most = record { tag = tag; area = 0; priority = 1; condition = 0; suppress = None; latching = latching; max_shelve_ms = most; on_delay_ms = 0; text = [] }
 
 -- consoles with these numbers, each with the first area
-abbrev console : ℕ → Console
+abbrev console : ℕ → ListedConsole
 console number = record { number = number; areas = 0 ∷ [] }
 
 -- a plant of these consoles, alarms and epoch
-abbrev plant : Source → List Console → List AlarmRow → ℕ → PlainPlant
+abbrev plant : Source → List ListedConsole → List AlarmRow → ℕ → PlainPlant
 plant source consoles alarms epoch = record { source = source; areas = codes "north" ∷ []; consoles = consoles; alarms = alarms; epoch = epoch }
 
 -- T1, and T2 which latches

@@ -9,7 +9,7 @@ use Rattle.alarm_machine.specs.declared.states.OrderFault.TheVariants as fault
 use Rattle.alarm_machine.specs.Alarms.{PlainAlarm, after_order}
 use Rattle.alarm_machine.specs.Codes.{PlainChange}
 use Rattle.alarm_bank.specs.Moves.{change_from}
-use Rattle.plant_file.specs.declared.console.Console.{Console}
+use Rattle.plant_file.specs.declared.console.ListedConsole.{ListedConsole}
 use Rattle.plant_config.specs.Plants.{PlainPlant}
 use Rattle.plant_config.specs.Orderers.{has_area}
 use Rattle.alarm_orders.specs.Orders.{order_with}
@@ -20,7 +20,7 @@ use Rattle.engine_system.specs.declared.state.Effect.{Effect}
 use Rattle.engine_system.specs.declared.state.Effect.TheVariants as effect
 
 -- whether a console has this number
-abbrev pub is_console : ℕ → Console → Bool
+abbrev pub is_console : ℕ → ListedConsole → Bool
 is_console number console = console.number == number
 
 -- the effect of an order on the alarm of a number, by what the table makes of that alarm

@@ -3,7 +3,7 @@ use Rattle.std.specs.Prelude.{ℕ, ◌==◌, Bool, true, false, ◌&&◌, not, i
 use Rattle.std.specs.List.{count_by}
 use Rattle.std.specs.Option.{is_none, is_some, option_map_or, option_and_then}
 use Rattle.alarm_bank.specs.declared.rows.NewAlarm.{NewAlarm}
-use Rattle.plant_file.specs.declared.console.Console.{Console}
+use Rattle.plant_file.specs.declared.console.ListedConsole.{ListedConsole}
 use Rattle.plant_config.specs.declared.rows.AlarmRow.{AlarmRow}
 use Rattle.plant_config.specs.Plants.{PlainPlant}
 use Rattle.plant_config.specs.Names.{alarm_number}
@@ -46,8 +46,8 @@ abbrev pub fresh_count : List (Option ℕ) → ℕ
 fresh_count kept = count_by is_none kept
 
 -- the numbers of consoles, in their order
-abbrev pub numbers_of : List Console → List ℕ
-numbers_of consoles = map (λ (console : Console). console.number) consoles
+abbrev pub numbers_of : List ListedConsole → List ℕ
+numbers_of consoles = map (λ (console : ListedConsole). console.number) consoles
 
 -- two lists have the same numbers in the same order
 abbrev pub same_numbers : List ℕ → List ℕ → Bool

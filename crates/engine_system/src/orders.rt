@@ -15,7 +15,7 @@ use alarm_bank::Bank;
 use alarm_machine::{Alarm, Change, OrderFault, Verb};
 use alarm_orders::Order;
 use plant_config::Plant;
-use plant_file::Console;
+use plant_file::ListedConsole;
 use std::marker::Model;
 
 /// An order that was made ready to be committed.
@@ -40,7 +40,7 @@ impl Model for PreparedOrder {
 }
 
 /// Whether a console is listed.
-fn is_listed(consoles: &[Console], number: u32) -> bool
+fn is_listed(consoles: &[ListedConsole], number: u32) -> bool
     ensures { result ≡ list_any (is_console number) consoles.now }
 {
     consoles.iter().any(|console| console.number == number)

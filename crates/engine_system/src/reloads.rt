@@ -9,11 +9,11 @@ ghost use Rattle.engine_system.specs.System.{taken_reload};
 use crate::event::{EngineFault, MOST_EVENTS};
 use alarm_bank::{NewAlarm, Site};
 use plant_config::Plant;
-use plant_file::Console;
+use plant_file::ListedConsole;
 use std::alloc::{AllocError, Global};
 
 /// Whether two lists of consoles have the same numbers in the same order.
-fn same_numbers(old: &[Console], new: &[Console]) -> bool
+fn same_numbers(old: &[ListedConsole], new: &[ListedConsole]) -> bool
     ensures { result ≡ same_numbers (numbers_of old.now) (numbers_of new.now) }
 {
     if old.len() != new.len() {

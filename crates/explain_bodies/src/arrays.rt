@@ -1,6 +1,6 @@
 //! Arrays are told of: their declarations, their elements, and their names where no index stands behind them.
 
-use crate::part::Part;
+use crate::part::Operand;
 use crate::teller::{ARRAYS, BOUNDS, Teller, alone};
 use explain_trees::{Sought, Wanted, kind_text};
 use plant_types::{Bounds, Kind, Text};
@@ -42,7 +42,7 @@ impl<'t> Teller<'t> {
     }
 
     /// Tells of an index that is no DINT, of the array of a name.
-    fn tell_index(&mut self, name: &Text, index: &Part) {
+    fn tell_index(&mut self, name: &Text, index: &Operand) {
         match index.kind {
             None | Some(Kind::Dint) => {}
             Some(kind) => {
@@ -59,12 +59,12 @@ impl<'t> Teller<'t> {
 
     /// Walks an element of an array; tells where its name is that of no array.
     #[cycle(expressions)]
-    pub fn element(&mut self, name: &'t Text, index: &'t Expr<Text>) -> Part {
+    pub fn element(&mut self, name: &'t Text, index: &'t Expr<Text>) -> Operand {
         let first = self.cursor.pass_name(name);
         let is_known = self.is_known(name, first, Wanted::Array);
         let index = self.expr(index, Wanted::Of(Kind::Dint));
         let behind = self.cursor.pass(Sought::CloseBracket).saturating_add(1);
-        let mut part = Part::varies((first, behind));
+        let mut part = Operand::varies((first, behind));
         if is_known {
             if let Some((_, kind)) = self.body.scope.array(name) {
                 part.kind = Some(kind);
@@ -95,7 +95,7 @@ impl<'t> Teller<'t> {
     }
 
     /// Tells of the initial value of arrays of elements of a kind.
-    pub fn tell_array_value(&mut self, kind: Kind, initial: &Part) {
+    pub fn tell_array_value(&mut self, kind: Kind, initial: &Operand) {
         let text = "an array has no initial value: its elements begin with %";
         self.say(ARRAYS, initial.tokens, text, &[first_value(kind)]);
     }

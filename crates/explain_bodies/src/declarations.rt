@@ -1,7 +1,7 @@
 //! Declarations are walked.
 
 use crate::teller::{CIRCLES, KINDS, NAMES, Teller, VARIABLES, alone};
-use explain_trees::{Cursor, Rule, kind_text, leads_back, nearest_global, type_hint};
+use explain_trees::{BrokenRule, Cursor, kind_text, leads_back, nearest_global, type_hint};
 use plant_types::{Text, same_word};
 use st_names::{Scope, sort_kind};
 use st_parser::{Declaration, Section, SectionKind, Sort};
@@ -89,7 +89,7 @@ impl<'t> Teller<'t> {
         } else if has_value {
             let why = "is a block, and its instances have no initial value";
             self.say_at(KINDS, number, why);
-        } else if self.told.refused == Rule::Blocks {
+        } else if self.told.refused == BrokenRule::Blocks {
             self.circle(word, number);
         }
     }

@@ -1,6 +1,6 @@
 //! Expressions are walked.
 
-use crate::part::{Form, Part, Worth};
+use crate::part::{Form, Operand, Worth};
 use crate::teller::{Breach, MEMBERS, Teller, alone};
 use explain_trees::{Member, Sought, Wanted};
 use plant_types::{Kind, Text, Trap};
@@ -49,7 +49,7 @@ fn binary_worth(op: Binary, number: usize, kind: Kind, worths: (Worth, Worth)) -
 
 impl<'t> Teller<'t> {
     /// Walks a literal.
-    fn literal(&mut self, literal: Literal) -> Part {
+    fn literal(&mut self, literal: Literal) -> Operand {
         let number = self.cursor.pass(Sought::Literal);
         let worth = literal.worth();
         let form = match literal {
@@ -57,7 +57,7 @@ impl<'t> Teller<'t> {
             _ => Form::Literal,
         };
         let first = self.cursor.first_of(number, worth < 0);
-        Part {
+        Operand {
             kind: Some(literal.kind()),
             tokens: (first, number.saturating_add(1)),
             form,
@@ -76,9 +76,9 @@ impl<'t> Teller<'t> {
     }
 
     /// Walks a variable that is read.
-    fn read(&mut self, name: &'t Text, wanted: Wanted) -> Part {
+    fn read(&mut self, name: &'t Text, wanted: Wanted) -> Operand {
         let number = self.cursor.pass_name(name);
-        let mut part = Part::varies(alone(number));
+        let mut part = Operand::varies(alone(number));
         if self.is_known(name, number, wanted) {
             part.kind = self.variable_kind(name, number);
         }
@@ -103,10 +103,10 @@ impl<'t> Teller<'t> {
     }
 
     /// Walks an output of an instance that is read.
-    fn output(&mut self, instance: &'t Text, name: &'t Text) -> Part {
+    fn output(&mut self, instance: &'t Text, name: &'t Text) -> Operand {
         let first = self.cursor.pass_name(instance);
         let last = self.cursor.pass_name(name);
-        let mut part = Part::varies((first, last.saturating_add(1)));
+        let mut part = Operand::varies((first, last.saturating_add(1)));
         let why = "is no instance of a block, and so no point may stand behind it";
         if let Some(word) = self.block_of_instance(instance, first, (MEMBERS, why)) {
             part.kind = self.body.scope.output_kind(instance, name);
@@ -118,8 +118,8 @@ impl<'t> Teller<'t> {
     }
 
     /// The part that an operator and its operand are.
-    fn unary(&mut self, op: Unary, number: usize, part: &Part) -> Part {
-        let mut whole = Part {
+    fn unary(&mut self, op: Unary, number: usize, part: &Operand) -> Operand {
+        let mut whole = Operand {
             kind: None,
             tokens: (number, part.tokens.1),
             form: Form::Other,
@@ -138,8 +138,8 @@ impl<'t> Teller<'t> {
     }
 
     /// The part that an operator and its operands are.
-    fn binary(&mut self, op: Binary, number: usize, left: &Part, right: &Part) -> Part {
-        let mut whole = Part {
+    fn binary(&mut self, op: Binary, number: usize, left: &Operand, right: &Operand) -> Operand {
+        let mut whole = Operand {
             kind: None,
             tokens: (left.tokens.0, right.tokens.1),
             form: form_of(op),
@@ -158,7 +158,7 @@ impl<'t> Teller<'t> {
 
     /// Walks an expression; a name that isn't there may be one that is what is wanted.
     #[cycle(expressions)]
-    pub fn expr(&mut self, expr: &'t Expr<Text>, wanted: Wanted) -> Part {
+    pub fn expr(&mut self, expr: &'t Expr<Text>, wanted: Wanted) -> Operand {
         match expr {
             Expr::Literal(literal) => self.literal(*literal),
             Expr::Read(name) => self.read(name, wanted),
@@ -185,7 +185,7 @@ impl<'t> Teller<'t> {
     /// Tells of a part that isn't of the kind that it has to be, where both are known. Where it is assigned or given, the integer 0 or 1 may stand for a BOOL.
     pub fn judge(
         &mut self,
-        part: &Part,
+        part: &Operand,
         wanted: Option<Kind>,
         is_given: bool,
         taker: Option<&Text>,
@@ -204,7 +204,7 @@ impl<'t> Teller<'t> {
         expr: &'t Expr<Text>,
         wanted: Option<Kind>,
         taker: Option<&Text>,
-    ) -> Part {
+    ) -> Operand {
         let part = self.expr(expr, Wanted::of(wanted));
         self.judge(&part, wanted, taker.is_some(), taker);
         part

@@ -1,7 +1,7 @@
 //! Names that aren't there (C6), and what isn't of its kind (C7): the operands of operators, and what is given to variables and inputs.
 
 use crate::expressions::wanted_beside;
-use crate::part::{Form, Part};
+use crate::part::{Form, Operand};
 use crate::teller::{KINDS, MEMBERS, NAMES, Teller, alone};
 use explain_trees::{Member, Wanted, kind_text, members_of, other_use, variable_hint};
 use plant_types::{Kind, Text};
@@ -9,7 +9,7 @@ use st_names::Scope;
 use st_tree::{Binary, Unary};
 
 /// What is said beside two kinds that don't fit: how what is wanted is written.
-fn beside(wanted: Kind, part: &Part) -> &'static str {
+fn beside(wanted: Kind, part: &Operand) -> &'static str {
     match (wanted, part.kind, part.form) {
         (Kind::Bool, Some(Kind::Dint), Form::Bit | Form::Literal) => "; a BOOL is TRUE or FALSE",
         (Kind::Bool, Some(Kind::Dint), _) => "; a comparison makes a BOOL of it, as in n > 0",
@@ -20,7 +20,7 @@ fn beside(wanted: Kind, part: &Part) -> &'static str {
 }
 
 /// What is said beside an operand that isn't of its kind.
-fn beside_operand(wanted: Option<Kind>, part: &Part) -> &'static str {
+fn beside_operand(wanted: Option<Kind>, part: &Operand) -> &'static str {
     match (wanted, part.kind) {
         (Some(Kind::Dint), Some(Kind::Time)) => ", which is neither multiplied nor divided",
         (Some(kind), _) => beside(kind, part),
@@ -29,7 +29,7 @@ fn beside_operand(wanted: Option<Kind>, part: &Part) -> &'static str {
 }
 
 /// The kind of a part, as it is told; none of one that isn't known.
-fn kind_of(part: &Part) -> &'static str {
+fn kind_of(part: &Operand) -> &'static str {
     part.kind.map_or("", kind_text)
 }
 
@@ -119,7 +119,7 @@ impl<'t> Teller<'t> {
     }
 
     /// Tells of a part that isn't of the kind that it has to be, for what takes it.
-    pub fn tell_unfit(&mut self, part: &Part, wanted: Kind, taker: Option<&Text>) {
+    pub fn tell_unfit(&mut self, part: &Operand, wanted: Kind, taker: Option<&Text>) {
         let (kind, found, more) = (kind_text(wanted), kind_of(part), beside(wanted, part));
         let text = match taker {
             Some(name) => {
@@ -157,7 +157,7 @@ impl<'t> Teller<'t> {
         &mut self,
         number: usize,
         (takes, wanted): (&str, Option<Kind>),
-        part: &Part,
+        part: &Operand,
         side: &str,
     ) {
         let is_fit = match wanted {
@@ -176,7 +176,7 @@ impl<'t> Teller<'t> {
     }
 
     /// Tells of the operand of NOT or of a minus, which isn't of its kind.
-    pub fn tell_unary(&mut self, op: Unary, number: usize, part: &Part) {
+    pub fn tell_unary(&mut self, op: Unary, number: usize, part: &Operand) {
         let takes = match op {
             Unary::Not => ("a BOOL", Some(Kind::Bool)),
             _ => ("a DINT or a TIME", None),
@@ -185,7 +185,7 @@ impl<'t> Teller<'t> {
     }
 
     /// Tells of two operands that aren't of one kind.
-    fn tell_unlike(&mut self, number: usize, left: &Part, right: &Part) {
+    fn tell_unlike(&mut self, number: usize, left: &Operand, right: &Operand) {
         let (Some(one), Some(other)) = (left.kind, right.kind) else {
             return;
         };
@@ -200,7 +200,7 @@ impl<'t> Teller<'t> {
     }
 
     /// Tells of the operands of an operator at the token of a number, which it doesn't take.
-    pub fn tell_binary(&mut self, op: Binary, number: usize, left: &Part, right: &Part) {
+    pub fn tell_binary(&mut self, op: Binary, number: usize, left: &Operand, right: &Operand) {
         let are_numbers = left.kind != Some(Kind::Bool) && right.kind != Some(Kind::Bool);
         let takes = match wanted_beside(op) {
             Wanted::Of(Kind::Bool) => ("two BOOL", Some(Kind::Bool)),

@@ -18,5 +18,5 @@ mod statements;
 mod teller;
 mod walk;
 
-pub use explain_trees::{Mistake, Rule};
+pub use explain_trees::{BrokenRule, Mistake};
 pub use walk::mistakes;

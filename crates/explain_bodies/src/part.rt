@@ -26,17 +26,17 @@ pub enum Worth {
 
 /// An expression: its kind, where that is known, the number of its first token and of the one behind its last, and its value.
 #[derive(Clone, Copy, Drop)]
-pub struct Part {
+pub struct Operand {
     pub kind: Option<Kind>,
     pub tokens: (usize, usize),
     pub form: Form,
     pub worth: Worth,
 }
 
-impl Part {
+impl Operand {
     /// What reads a variable or an output, and of which the kind isn't known.
-    pub fn varies(tokens: (usize, usize)) -> Part {
-        Part {
+    pub fn varies(tokens: (usize, usize)) -> Operand {
+        Operand {
             kind: None,
             tokens,
             form: Form::Other,

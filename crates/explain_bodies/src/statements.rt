@@ -1,6 +1,6 @@
 //! Statements and calls are walked; what isn't constant, and what controls a FOR (C9).
 
-use crate::part::{Part, Worth};
+use crate::part::{Operand, Worth};
 use crate::teller::{Breach, KINDS, MEMBERS, STATEMENTS, Teller, alone};
 use base_words::Names;
 use explain_trees::{Member, Step, Wanted, kind_text};
@@ -20,7 +20,7 @@ fn why_none(trap: Trap) -> &'static str {
 
 impl<'t> Teller<'t> {
     /// Tells of what is of its kind and has to be constant, and isn't, or has no value.
-    pub fn constant(&mut self, part: &Part, breach: Breach, why: &str) {
+    pub fn constant(&mut self, part: &Operand, breach: Breach, why: &str) {
         match part.worth {
             _ if part.kind.is_none() => {}
             Worth::Varies(number) => self.say_at(breach, number, why),
@@ -30,7 +30,7 @@ impl<'t> Teller<'t> {
     }
 
     /// Tells of a bound or a step of a FOR that isn't constant, or has no value.
-    pub fn bound(&mut self, part: &Part) {
+    pub fn bound(&mut self, part: &Operand) {
         if part.kind == Some(Kind::Dint) {
             let why = "is a variable, and the bounds and the step of a FOR are constant";
             self.constant(part, STATEMENTS, why);
@@ -38,7 +38,7 @@ impl<'t> Teller<'t> {
     }
 
     /// Tells of a step of a FOR that isn't constant, or has no value, or is 0.
-    pub fn step(&mut self, part: &Part) {
+    pub fn step(&mut self, part: &Operand) {
         match part.worth {
             Worth::Is(0) if part.kind == Some(Kind::Dint) => {
                 let text = "@ is no step of a FOR, since it is 0";

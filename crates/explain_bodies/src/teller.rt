@@ -2,36 +2,36 @@
 
 use base_words::Names;
 use explain_tokens::cause_at;
-use explain_trees::{Body, Cursor, Mistake, Rule, Told, Trees, filled};
+use explain_trees::{Body, BrokenRule, Cursor, Mistake, Told, Trees, filled};
 use plant_types::Text;
 use std::alloc::{AllocError, Global};
 
 /// A rule that is broken, and where to read on.
-pub type Breach = (Rule, &'static str);
+pub type Breach = (BrokenRule, &'static str);
 
 /// A name that isn't there, or is taken.
-pub const NAMES: Breach = (Rule::Names, "docs/LANGUAGE.md, \"Names\"");
+pub const NAMES: Breach = (BrokenRule::Names, "docs/LANGUAGE.md, \"Names\"");
 
 /// An input or an output that a block hasn't, or that a call names twice.
-pub const MEMBERS: Breach = (Rule::Names, "docs/LANGUAGE.md, \"Function blocks\"");
+pub const MEMBERS: Breach = (BrokenRule::Names, "docs/LANGUAGE.md, \"Function blocks\"");
 
 /// What isn't of its kind.
-pub const KINDS: Breach = (Rule::Kinds, "docs/LANGUAGE.md, \"Kinds\"");
+pub const KINDS: Breach = (BrokenRule::Kinds, "docs/LANGUAGE.md, \"Kinds\"");
 
 /// What isn't of its kind, of arrays.
-pub const ARRAYS: Breach = (Rule::Kinds, "docs/LANGUAGE.md, \"Arrays\"");
+pub const ARRAYS: Breach = (BrokenRule::Kinds, "docs/LANGUAGE.md, \"Arrays\"");
 
 /// Bounds of an array that aren't in order.
-pub const BOUNDS: Breach = (Rule::Constants, "docs/LANGUAGE.md, \"Arrays\"");
+pub const BOUNDS: Breach = (BrokenRule::Constants, "docs/LANGUAGE.md, \"Arrays\"");
 
 /// A block that holds itself.
-pub const CIRCLES: Breach = (Rule::Blocks, "docs/LANGUAGE.md, \"Function blocks\"");
+pub const CIRCLES: Breach = (BrokenRule::Blocks, "docs/LANGUAGE.md, \"Function blocks\"");
 
 /// What isn't constant in a FOR, and what controls it.
-pub const STATEMENTS: Breach = (Rule::Constants, "docs/LANGUAGE.md, \"Statements\"");
+pub const STATEMENTS: Breach = (BrokenRule::Constants, "docs/LANGUAGE.md, \"Statements\"");
 
 /// An initial value that isn't constant.
-pub const VARIABLES: Breach = (Rule::Constants, "docs/LANGUAGE.md, \"Variables\"");
+pub const VARIABLES: Breach = (BrokenRule::Constants, "docs/LANGUAGE.md, \"Variables\"");
 
 /// A walk: what it goes over, where it is, and what it has found.
 #[derive(Drop)]

@@ -2,7 +2,7 @@
 
 use crate::teller::Teller;
 use base_words::Names;
-use explain_trees::{Body, Cursor, Mistake, Rule, Source, Told, Trees, steps_of};
+use explain_trees::{Body, BrokenRule, Cursor, Mistake, Source, Told, Trees, steps_of};
 use st_names::SharedNames;
 use st_parser::{Pou, Section, Unit};
 use std::alloc::{AllocError, Global};
@@ -46,7 +46,7 @@ impl<'t> Teller<'t> {
 }
 
 /// The mistakes of a plant's units.
-fn mistakes_in<'t>(plant: &'t Trees<'t>, refused: Rule) -> Result<Vec<Mistake>, AllocError> {
+fn mistakes_in<'t>(plant: &'t Trees<'t>, refused: BrokenRule) -> Result<Vec<Mistake>, AllocError> {
     let alloc = plant.alloc;
     let mut teller = Teller {
         alloc,
@@ -77,7 +77,7 @@ fn in_units(
     sources: &[Source<'_>],
     units: &[Unit],
     shared: &SharedNames<'_>,
-    refused: Rule,
+    refused: BrokenRule,
 ) -> Result<Vec<Mistake>, AllocError> {
     let standard = SharedNames::new(alloc, &[])?;
     let plant = Trees::new(alloc, sources, units, shared, &standard)?;
@@ -90,7 +90,7 @@ pub fn mistakes(
     alloc: Global,
     sources: &[Source<'_>],
     units: &[Unit],
-    refused: Rule,
+    refused: BrokenRule,
 ) -> Result<Vec<Mistake>, AllocError> {
     let shared = SharedNames::new(alloc, units)?;
     in_units(alloc, sources, units, &shared, refused)

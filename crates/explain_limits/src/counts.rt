@@ -3,7 +3,7 @@
 use crate::measures::{Measure, length_of, standard_slots};
 use crate::weights::{Scale, Weight};
 use base_words::Names;
-use explain_trees::{Entry, Form, mark_of};
+use explain_trees::{DeclaredName, Form, mark_of};
 use st_names::{Declared, declared_in};
 use st_parser::{Pou, SectionKind, Sort};
 use std::alloc::{AllocError, Global};
@@ -28,7 +28,7 @@ impl<'t> Counts<'t> {
     /// What the function blocks count that entries declare, and how deep they are, up to one more than is allowed.
     pub fn of(
         alloc: Global,
-        entries: &[Entry<'t>],
+        entries: &[DeclaredName<'t>],
         measure: Measure,
     ) -> Result<Counts<'t>, AllocError> {
         let mut counts = Counts {
@@ -50,7 +50,7 @@ impl<'t> Counts<'t> {
     }
 
     /// Adds the blocks of entries, each 1 deep.
-    fn add_blocks(&mut self, entries: &[Entry<'t>]) -> Result<(), AllocError> {
+    fn add_blocks(&mut self, entries: &[DeclaredName<'t>]) -> Result<(), AllocError> {
         for entry in entries {
             if let Form::Block(pou) = &entry.form {
                 if self.names.add(self.alloc, pou.name.as_str())? {
@@ -64,7 +64,7 @@ impl<'t> Counts<'t> {
     }
 
     /// How deep the block is of which an entry declares an instance; 0 for other entries.
-    fn depth_in(&self, entry: &Entry<'_>) -> u64 {
+    fn depth_in(&self, entry: &DeclaredName<'_>) -> u64 {
         let Some(word) = entry.block() else {
             return 0;
         };
@@ -76,7 +76,7 @@ impl<'t> Counts<'t> {
     }
 
     /// Makes each block deeper by one than each instance that it declares.
-    fn deepen(&mut self, entries: &[Entry<'t>]) {
+    fn deepen(&mut self, entries: &[DeclaredName<'t>]) {
         for entry in entries {
             let depth = self.depth_in(entry).saturating_add(1);
             if let Some(number) = self.names.find(entry.owner) {
@@ -88,7 +88,7 @@ impl<'t> Counts<'t> {
     }
 
     /// The first entry by which a block has an instance that is as deep as one may be.
-    pub fn deepest<'a>(&self, entries: &'a [Entry<'t>]) -> Option<&'a Entry<'t>> {
+    pub fn deepest<'a>(&self, entries: &'a [DeclaredName<'t>]) -> Option<&'a DeclaredName<'t>> {
         for entry in entries {
             let is_held = self.names.find(entry.owner).is_some();
             if is_held && self.depth_in(entry) == MOST_DEEP {

@@ -5,7 +5,7 @@ use crate::measures::{Measure, length_of};
 use crate::totals::too_much;
 use explain_tokens::{Cause, cause_at, sign_at, span_of};
 use explain_trees::{
-    Entry, Form, Source, Step, entries_of, filled, mark_of, sources_of, steps_of, units_of,
+    DeclaredName, Form, Source, Step, entries_of, filled, mark_of, sources_of, steps_of, units_of,
 };
 use st_parser::{Pou, SectionKind, Sort, Unit};
 use std::alloc::{AllocError, Global};
@@ -61,7 +61,7 @@ fn add_long_fors(
 pub fn long_fors(
     alloc: Global,
     sources: &[Source<'_>],
-    entries: &[Entry<'_>],
+    entries: &[DeclaredName<'_>],
 ) -> Result<Vec<Found>, AllocError> {
     let mut found = Vec::new(alloc);
     for entry in entries {
@@ -76,7 +76,7 @@ pub fn long_fors(
 }
 
 /// All arrays that have too many elements, in order of text; those of VAR_EXTERNAL are their globals' again.
-fn long_arrays(alloc: Global, entries: &[Entry<'_>]) -> Result<Vec<Found>, AllocError> {
+fn long_arrays(alloc: Global, entries: &[DeclaredName<'_>]) -> Result<Vec<Found>, AllocError> {
     let mut found = Vec::new(alloc);
     for entry in entries {
         let (Form::Declared(declared), Some(Sort::Array(bounds, _))) = (&entry.form, entry.sort())
@@ -96,7 +96,7 @@ fn long_arrays(alloc: Global, entries: &[Entry<'_>]) -> Result<Vec<Found>, Alloc
 }
 
 /// The instance by which a function block is too deep (C10 BLOCK_DEPTH); `None` where none is found.
-fn too_deep(alloc: Global, entries: &[Entry<'_>]) -> Result<Option<Found>, AllocError> {
+fn too_deep(alloc: Global, entries: &[DeclaredName<'_>]) -> Result<Option<Found>, AllocError> {
     let counts = Counts::of(alloc, entries, Measure::Depth)?;
     let Some(entry) = counts.deepest(entries) else {
         return Ok(None);

@@ -5,7 +5,7 @@ use crate::limits::{Found, LIMITS, for_mark};
 use crate::measures::Measure;
 use crate::weights::Weight;
 use explain_tokens::cause_at;
-use explain_trees::{Entry, Form, Source, filled, mark_of};
+use explain_trees::{DeclaredName, Form, Source, filled, mark_of};
 use std::alloc::{AllocError, Global};
 
 /// Where it stands what programs cost.
@@ -16,12 +16,12 @@ const SLOTS: &str =
     "there are % variables and standard blocks, in each instance anew, and at most 65536 are allowed: with ";
 
 /// A program, or a global, and what it counts.
-type Counted<'a, 't> = (&'a Entry<'t>, Weight);
+type Counted<'a, 't> = (&'a DeclaredName<'t>, Weight);
 
 /// What is counted: globals, if they are, and then programs, in order of text.
 fn counted<'a, 't>(
     alloc: Global,
-    entries: &'a [Entry<'t>],
+    entries: &'a [DeclaredName<'t>],
     measure: Measure,
 ) -> Result<Vec<Counted<'a, 't>>, AllocError> {
     let counts = Counts::of(alloc, entries, measure)?;
@@ -74,7 +74,7 @@ fn told_part(
 }
 
 /// What is said of what there is in all, and of the program, or the global, with which that is past a limit.
-fn texts_of(measure: Measure, entry: &Entry<'_>) -> [&'static str; 2] {
+fn texts_of(measure: Measure, entry: &DeclaredName<'_>) -> [&'static str; 2] {
     match measure {
         Measure::Programs => [
             "there are % programs, and at most 512 are allowed: with ",
@@ -129,7 +129,7 @@ fn told(
 pub fn too_much(
     alloc: Global,
     sources: &[Source<'_>],
-    entries: &[Entry<'_>],
+    entries: &[DeclaredName<'_>],
     measure: Measure,
 ) -> Result<Option<Found>, AllocError> {
     let (mut total, mut past) = (0u64, None);

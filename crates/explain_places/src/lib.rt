@@ -8,5 +8,5 @@
 mod place;
 mod render;
 
-pub use place::{Place, mark_len, place_at, place_of, text_of};
+pub use place::{TextPlace, mark_len, place_at, place_of, text_of};
 pub use render::shown;

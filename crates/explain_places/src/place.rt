@@ -10,7 +10,7 @@ use plant_folder::PlantTexts;
 
 /// A place in a text. Lines count from 1, and so do the bytes of a line; a byte order mark at the text's start isn't counted.
 #[derive(Clone, Copy, Drop)]
-pub struct Place {
+pub struct TextPlace {
     pub line: usize,
     pub column: usize,
 }
@@ -27,7 +27,7 @@ pub fn mark_len(text: &[u8]) -> usize
 }
 
 /// The place after these bytes, which are all that stand before it.
-fn place_after(before: &[u8]) -> Place
+fn place_after(before: &[u8]) -> TextPlace
     ensures line { result.line ≡ count_by (λ b. b == 10) before.now + 1 }
     ensures column { result.column ≡ suffix_len (λ b. not (b == 10)) before.now + 1 }
 {
@@ -41,11 +41,11 @@ fn place_after(before: &[u8]) -> Place
             column += 1;
         }
     }
-    Place { line, column }
+    TextPlace { line, column }
 }
 
 /// The place of a byte of a text by its number, from 0; beyond the last it is the text's end, in a byte order mark the text's start.
-pub fn place_at(text: &[u8], at: usize) -> Place
+pub fn place_at(text: &[u8], at: usize) -> TextPlace
     ensures { result ≡ place_in text.now at }
 {
     let skipped = mark_len(text);
@@ -69,7 +69,7 @@ pub fn text_of<'a>(texts: &PlantTexts<'a>, file: FileOf) -> &'a [u8]
 }
 
 /// The place at which the cause of a spot begins, in the text of the spot's file; `None` where none can be told.
-pub fn place_of(texts: &PlantTexts<'_>, spot: &Spot) -> Option<Place>
+pub fn place_of(texts: &PlantTexts<'_>, spot: &Spot) -> Option<TextPlace>
     ensures { result
         ≡ option_map (λ mark. place_in (text_of texts.now spot.now.file) mark.0) spot.now.cause.mark }
 {

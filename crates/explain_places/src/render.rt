@@ -1,6 +1,6 @@
 //! How a cause is shown.
 
-use crate::place::{Place, line_around, place_of, text_of};
+use crate::place::{TextPlace, line_around, place_of, text_of};
 use explain_tokens::{FileOf, Spot, part};
 use plant_config::Plant;
 use plant_folder::PlantTexts;
@@ -58,7 +58,7 @@ pub fn shown(alloc: Global, texts: &PlantTexts<'_>, spot: &Spot) -> Result<Strin
     let name = name_of(alloc, texts, spot.file)?;
     let (name, said) = (name.as_str(), spot.cause.said.as_str());
     let text = match (spot.cause.mark, place_of(texts, spot)) {
-        (Some(mark), Some(Place { line, column })) => {
+        (Some(mark), Some(TextPlace { line, column })) => {
             let lines = excerpt(alloc, text_of(texts, spot.file), line, mark)?;
             format!(in alloc; "{name}:{line}:{column}: {said}\n{lines}")?
         }

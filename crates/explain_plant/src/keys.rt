@@ -20,7 +20,7 @@ const LONE_CONSOLE: usize = usize::MAX - 1;
 
 /// A key, and what stands under it.
 #[derive(Drop)]
-pub struct Entry {
+pub struct KeyLine {
     /// 0 for a key of the plant, the number of the console, from 1, or `NOBODY`.
     pub owner: usize,
     /// The bytes of the key, or of its first word where it has dots, without quotes.
@@ -34,7 +34,7 @@ pub struct Entry {
 pub struct Keys<'t> {
     alloc: Global,
     text: &'t str,
-    pub entries: Vec<Entry>,
+    pub entries: Vec<KeyLine>,
     /// The headers of the consoles.
     pub consoles: Vec<Mark>,
     /// Whose keys come next.
@@ -70,7 +70,7 @@ impl<'t> Keys<'t> {
     }
 
     fn add(&mut self, owner: usize, key: Mark, value: Mark) -> Result<(), AllocError> {
-        self.entries.push(Entry { owner, key, value })?;
+        self.entries.push(KeyLine { owner, key, value })?;
         Ok(())
     }
 
@@ -112,7 +112,7 @@ impl<'t> Keys<'t> {
     }
 
     /// The first key of an owner of a name.
-    pub fn find(&self, owner: usize, key: &str) -> Option<&Entry> {
+    pub fn find(&self, owner: usize, key: &str) -> Option<&KeyLine> {
         let mut entries = self.entries.iter();
         entries.find(|entry| entry.owner == owner && self.has(entry.key, key))
     }
@@ -125,7 +125,7 @@ impl<'t> Keys<'t> {
     }
 
     /// The bytes of what stands under a key, or of an item where it is a list.
-    pub fn under(&self, entry: &Entry, item: Option<usize>) -> Result<Option<Mark>, AllocError> {
+    pub fn under(&self, entry: &KeyLine, item: Option<usize>) -> Result<Option<Mark>, AllocError> {
         let Some(number) = item else {
             return Ok(Some(entry.value));
         };

@@ -2,7 +2,7 @@
 //! (C11 to C14).
 
 use crate::telling::{MOST_FAULTS, REFUSALS, Refused};
-use explain_bodies::{Mistake, Rule, mistakes};
+use explain_bodies::{BrokenRule, Mistake, mistakes};
 use explain_limits::too_long;
 use explain_sources::{Reading, misspelled_at, tell, ungrammatical};
 use explain_tokens::{Cause, FileOf, Spot, byte_at, cause_of, part};
@@ -112,12 +112,17 @@ impl<'t> Refused<'t> {
     /// Tells what is wrong in the units of a plant that is refused for one by a rule: first why it is refused, by the name of the unit where no more of it is
     /// known, and then others in order of text. Behind these come FORs and arrays that are too long, and rows. Where a name is missing, comments that swallow
     /// what follows come second, the first of each source, and what may be wrong by them alone isn't told.
-    pub fn in_units(&mut self, rule: Rule, name: &Text, unit: &Text) -> Result<(), AllocError> {
+    pub fn in_units(
+        &mut self,
+        rule: BrokenRule,
+        name: &Text,
+        unit: &Text,
+    ) -> Result<(), AllocError> {
         let sources = sources_of(self.alloc, self.sources)?;
         let units = units_of(self.alloc, sources.as_slice())?;
         let found = mistakes(self.alloc, sources.as_slice(), units.as_slice(), rule)?;
         let comments = match rule {
-            Rule::Names => self.swallowers()?,
+            BrokenRule::Names => self.swallowers()?,
             _ => Vec::new(self.alloc),
         };
         if found.first().map(|first| first.rule) != Some(rule) {

@@ -6,7 +6,7 @@ ghost use Rattle.plant_folder.specs.Verdicts.{refusal_line};
 ghost use Rattle.explain_plant.specs.Told.{BeginsWith};
 
 use crate::keys::Mark;
-use explain_bodies::Rule;
+use explain_bodies::BrokenRule;
 use explain_places::shown;
 use explain_tokens::{Cause, FileOf, Spot, cause_of};
 use explain_trees::filled;
@@ -66,10 +66,18 @@ impl<'t> Refused<'t> {
             ConfigFault::Grammar { file, line, column } => {
                 self.in_sources((file, *line, *column), false)
             }
-            ConfigFault::Name { file, unit } => self.in_units(Rule::Names, file, unit),
-            ConfigFault::Kind { file, unit } => self.in_units(Rule::Kinds, file, unit),
-            ConfigFault::HoldsItself { file, unit } => self.in_units(Rule::Blocks, file, unit),
-            ConfigFault::Constant { file, unit } => self.in_units(Rule::Constants, file, unit),
+            ConfigFault::Name { file, unit } => self.in_units(BrokenRule::Names, file, unit),
+            ConfigFault::Kind { file, unit } => self.in_units(BrokenRule::Kinds, file, unit),
+            ConfigFault::HoldsItself { file, unit } => self.in_units(
+                BrokenRule::Blocks,
+                file,
+                unit,
+            ),
+            ConfigFault::Constant { file, unit } => self.in_units(
+                BrokenRule::Constants,
+                file,
+                unit,
+            ),
             ConfigFault::Header(mistakes)
             | ConfigFault::Field { mistakes, .. }
             | ConfigFault::Twice { mistakes, .. }

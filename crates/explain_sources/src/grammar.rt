@@ -2,7 +2,7 @@
 
 use crate::rules::{told_by_place, too_deep, wanted};
 use crate::words::misnomer;
-use explain_tokens::{Cause, Place, cause_at, closing_of, fits, tokens_of};
+use explain_tokens::{Cause, TokenPlace, cause_at, closing_of, fits, tokens_of};
 use plant_types::same_word;
 use st_lexer::place_of;
 use std::alloc::{AllocError, Global};
@@ -26,7 +26,7 @@ pub fn has_nested(gap: &[u8]) -> bool {
 
 /// What opens something that should be closed before a token: that closes something else, parts an IF or a CASE around it, begins a unit or globals, or begins
 /// a statement among declarations.
-fn left_open(place: Place<'_>) -> Option<Place<'_>> {
+fn left_open(place: TokenPlace<'_>) -> Option<TokenPlace<'_>> {
     let opened = place.opened()?;
     let closing = closing_of(opened.sign());
     let is_left = match (place.stand(), opened.sign(), place.sign()) {
@@ -41,7 +41,11 @@ fn left_open(place: Place<'_>) -> Option<Place<'_>> {
 }
 
 /// What may have led to something that isn't closed before a token: an `ELSE IF`, or a comment that has swallowed its end.
-fn led_to(alloc: Global, place: Place<'_>, opened: Place<'_>) -> Result<String, AllocError> {
+fn led_to(
+    alloc: Global,
+    place: TokenPlace<'_>,
+    opened: TokenPlace<'_>,
+) -> Result<String, AllocError> {
     let mut behind = (opened.number..place.number.saturating_add(1)).map(|number| place.at(number));
     if let Some(behind) = behind.find(|place| has_nested(place.gap())) {
         let line = behind.line();
@@ -60,7 +64,11 @@ fn led_to(alloc: Global, place: Place<'_>, opened: Place<'_>) -> Result<String, 
 }
 
 /// What is said where something is open that should be closed before a token: at that, or at the word before it, with which a call begins.
-fn unclosed(alloc: Global, place: Place<'_>, opened: Place<'_>) -> Result<Cause, AllocError> {
+fn unclosed(
+    alloc: Global,
+    place: TokenPlace<'_>,
+    opened: TokenPlace<'_>,
+) -> Result<Cause, AllocError> {
     let (line, open) = (opened.line(), opened.sign());
     let closing = closing_of(open);
     let behind = led_to(alloc, place, opened)?;
@@ -75,7 +83,7 @@ fn unclosed(alloc: Global, place: Place<'_>, opened: Place<'_>) -> Result<Cause,
 }
 
 /// The `(` or the `[` that isn't closed before a token at which a value certainly ends.
-fn unpaired(place: Place<'_>) -> Option<Place<'_>> {
+fn unpaired(place: TokenPlace<'_>) -> Option<TokenPlace<'_>> {
     let (stand, sign, is_call) = (place.stand(), place.sign(), place.within() == "call");
     let is_keyword = fits("KEYWORD", sign) && sign != "NOT";
     let is_bound = stand == "array" && !fits("[|-", place.before(1));
@@ -95,7 +103,7 @@ fn unpaired(place: Place<'_>) -> Option<Place<'_>> {
 }
 
 /// Whether a token is the word or the keyword before it once more.
-fn is_doubled(place: Place<'_>) -> bool {
+fn is_doubled(place: TokenPlace<'_>) -> bool {
     let word = place.previous().word().as_bytes();
     place.number > 0
         && fits("word|KEYWORD", place.sign())
@@ -104,7 +112,7 @@ fn is_doubled(place: Place<'_>) -> bool {
 }
 
 /// What is said behind a token.
-fn told(alloc: Global, place: Place<'_>) -> Result<String, AllocError> {
+fn told(alloc: Global, place: TokenPlace<'_>) -> Result<String, AllocError> {
     let lacks = place.lacks_end();
     let told = match told_by_place(place) {
         _ if is_doubled(place) && !lacks => "it stands here twice",
@@ -130,7 +138,7 @@ fn told(alloc: Global, place: Place<'_>) -> Result<String, AllocError> {
 }
 
 /// What a keyword closes or parts that isn't open; empty where that is open.
-pub fn unopened(place: Place<'_>) -> &'static str {
+pub fn unopened(place: TokenPlace<'_>) -> &'static str {
     let (opening, closing) = match place.sign() {
         "END_IF" | "ELSIF" => ("IF", "END_IF"),
         "END_CASE" => ("CASE", "END_CASE"),
@@ -141,7 +149,7 @@ pub fn unopened(place: Place<'_>) -> &'static str {
 }
 
 /// The cause at a token, where no word tells it.
-fn cause_of_token(alloc: Global, place: Place<'_>) -> Result<Cause, AllocError> {
+fn cause_of_token(alloc: Global, place: TokenPlace<'_>) -> Result<Cause, AllocError> {
     let (word, deep, unopened) = (place.word(), too_deep(place), unopened(place));
     let said = if has_nested(place.gap()) || has_nested(place.previous().gap()) {
         format!(in alloc;
@@ -161,7 +169,7 @@ fn cause_of_token(alloc: Global, place: Place<'_>) -> Result<Cause, AllocError> 
 }
 
 /// The cause at a token: a word there or before it that is written otherwise, or what it is itself; behind the last one, why the text ends too early.
-pub fn cause_at_token(alloc: Global, place: Place<'_>) -> Result<Cause, AllocError> {
+pub fn cause_at_token(alloc: Global, place: TokenPlace<'_>) -> Result<Cause, AllocError> {
     if let Some((place, _, (said, keyword, end), page)) = misnomer(place) {
         let word = place.word();
         let said = format!(in alloc; "'{word}' {said}{keyword}{end}")?;
@@ -182,5 +190,5 @@ pub fn ungrammatical(alloc: Global, text: &[u8], at: usize) -> Result<Cause, All
     let tokens = tokens_of(alloc, text)?;
     let number = tokens.as_slice().iter().position(|token| token.from >= at);
     let number = number.unwrap_or(tokens.len());
-    cause_at_token(alloc, Place::new(text, tokens.as_slice(), number))
+    cause_at_token(alloc, TokenPlace::new(text, tokens.as_slice(), number))
 }

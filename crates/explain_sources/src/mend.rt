@@ -2,7 +2,7 @@
 
 use crate::grammar::{has_nested, unopened};
 use crate::words::misnomer;
-use explain_tokens::{Place, closing_of, fits, opens_section, sign_of};
+use explain_tokens::{TokenPlace, closing_of, fits, opens_section, sign_of};
 use plant_types::same_word;
 use std::cmp::Ordering;
 
@@ -20,12 +20,12 @@ fn with(from: usize, until: usize, put: &'static str) -> Mend {
 }
 
 /// Puts what is written in the place of a token.
-fn instead(place: Place<'_>, put: &'static str) -> Mend {
+fn instead(place: TokenPlace<'_>, put: &'static str) -> Mend {
     with(place.number, place.next().number, put)
 }
 
 /// The number of the first token of the declaration, or behind the labels before it of the statement, in which a token stands.
-pub fn statement_start(place: Place<'_>) -> usize {
+pub fn statement_start(place: TokenPlace<'_>) -> usize {
     let ends = if place.is_declared() {
         ";|SECTION"
     } else {
@@ -39,7 +39,7 @@ pub fn statement_start(place: Place<'_>) -> usize {
 }
 
 /// The first keyword from a token on with which something else begins or ends, or the first `;`; else the place behind the last token.
-fn next_end(place: Place<'_>) -> Place<'_> {
+fn next_end(place: TokenPlace<'_>) -> TokenPlace<'_> {
     place.ahead(if place.is_declared() {
         ";|OUTER"
     } else {
@@ -49,7 +49,7 @@ fn next_end(place: Place<'_>) -> Place<'_> {
 
 /// The token behind the statement or the declaration in which a token stands: behind its `;`, unless a `)` follows that closes nothing, or what ends the
 /// statements around it. `None` where it isn't certain.
-fn statement_end(place: Place<'_>) -> Option<Place<'_>> {
+fn statement_end(place: TokenPlace<'_>) -> Option<TokenPlace<'_>> {
     let mut end = next_end(place);
     for _ in 0..8 {
         if end.sign() != ";" {
@@ -67,7 +67,7 @@ fn statement_end(place: Place<'_>) -> Option<Place<'_>> {
 }
 
 /// Without the statement or the declaration in which a token stands. Not where a statement may be a declaration, or a word that closes something.
-fn past_statement(place: Place<'_>) -> Option<Mend> {
+fn past_statement(place: TokenPlace<'_>) -> Option<Mend> {
     let (from, end) = (statement_start(place), statement_end(place)?);
     let is_word = from.saturating_add(1) == place.number && place.sign() == ";";
     let mut inside = (from..end.number).map(|number| place.at(number));
@@ -80,7 +80,7 @@ fn past_statement(place: Place<'_>) -> Option<Mend> {
 }
 
 /// Behind the loop of another dialect, which ends with a word and a `;`.
-fn past_loop(place: Place<'_>, end: &str) -> Option<Mend> {
+fn past_loop(place: TokenPlace<'_>, end: &str) -> Option<Mend> {
     let mut behind = (place.number..place.tokens.len()).map(|number| place.at(number));
     let end = behind
         .find(|place| same_word(place.word().as_bytes(), end.as_bytes()))?
@@ -89,7 +89,7 @@ fn past_loop(place: Place<'_>, end: &str) -> Option<Mend> {
 }
 
 /// Behind a comment that ends too early, since another one stands in it: without what follows up to the next `*)`.
-fn past_comment(place: Place<'_>) -> Option<Mend> {
+fn past_comment(place: TokenPlace<'_>) -> Option<Mend> {
     let both = [place.previous(), place];
     let first = both.into_iter().find(|place| has_nested(place.gap()))?;
     let mut behind = (first.number..place.tokens.len()).map(|number| place.at(number));
@@ -98,7 +98,7 @@ fn past_comment(place: Place<'_>) -> Option<Mend> {
 }
 
 /// In the head of a statement: with one that is right.
-fn past_head(place: Place<'_>, head: Place<'_>) -> Option<Mend> {
+fn past_head(place: TokenPlace<'_>, head: TokenPlace<'_>) -> Option<Mend> {
     let put = match head.sign() {
         "CASE" => "0 OF",
         "FOR" => "i := 0 TO 0 DO",
@@ -111,7 +111,7 @@ fn past_head(place: Place<'_>, head: Place<'_>) -> Option<Mend> {
 }
 
 /// Whether a keyword stands more often in a unit than what it closes is opened there, or less often.
-fn closed_in(place: Place<'_>, closing: &str) -> Ordering {
+fn closed_in(place: TokenPlace<'_>, closing: &str) -> Ordering {
     let tokens = place.tokens.iter();
     let closed = tokens
         .filter(|token| sign_of(token.kind) == closing)
@@ -124,7 +124,7 @@ fn closed_in(place: Place<'_>, closing: &str) -> Ordering {
 }
 
 /// At a keyword that closes something else than what is open, or nothing: with what closes that, where the unit has too few of it, or else without the keyword.
-fn past_keyword(place: Place<'_>) -> Option<Mend> {
+fn past_keyword(place: TokenPlace<'_>) -> Option<Mend> {
     let closing = match place.opener() {
         opener @ ("IF" | "CASE" | "FOR") => closing_of(opener),
         _ => "",
@@ -142,7 +142,7 @@ fn past_keyword(place: Place<'_>) -> Option<Mend> {
 }
 
 /// Where a label is wrong: with another one, or without a word and its `:`.
-fn past_label(place: Place<'_>) -> Option<Mend> {
+fn past_label(place: TokenPlace<'_>) -> Option<Mend> {
     let colon = place.ahead(":|;|KEYWORD");
     let mend = match place.stand() {
         "begun" => with(statement_start(place), colon.next().number, ""),
@@ -152,7 +152,7 @@ fn past_label(place: Place<'_>) -> Option<Mend> {
 }
 
 /// How to read on behind a word that is written otherwise.
-fn past_word(place: Place<'_>, way: &'static str) -> Option<Mend> {
+fn past_word(place: TokenPlace<'_>, way: &'static str) -> Option<Mend> {
     match way {
         "END_WHILE" | "END_REPEAT" => past_loop(place, way),
         "skip" => Some(instead(place, "")),
@@ -162,7 +162,7 @@ fn past_word(place: Place<'_>, way: &'static str) -> Option<Mend> {
 }
 
 /// What is put before a token that lacks something there: of a call whose `(` nothing closes before the next `;` its end, so that no more is told of that.
-fn missing(place: Place<'_>) -> &'static str {
+fn missing(place: TokenPlace<'_>) -> &'static str {
     let (lacking, end) = (place.lacking().0, next_end(place));
     if lacking == "," && end.sign() == ";" && end.parenthesis().is_some() {
         ");"
@@ -172,7 +172,7 @@ fn missing(place: Place<'_>) -> &'static str {
 }
 
 /// How to read on behind a token with which no source can go on; `None` where that isn't certain.
-pub fn way_on(place: Place<'_>) -> Option<Mend> {
+pub fn way_on(place: TokenPlace<'_>) -> Option<Mend> {
     let (here, previous) = (place.number, place.previous().number);
     if let Some(mend) = past_comment(place) {
         return Some(mend);

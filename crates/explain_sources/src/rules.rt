@@ -1,6 +1,6 @@
 //! What is said of a token by where it stands and what stands beside it (C5).
 
-use explain_tokens::{Place, fits, said_of};
+use explain_tokens::{TokenPlace, fits, said_of};
 use st_lexer::{Token, TokenKind};
 
 /// Each rule has where the token stands, what opens the unit, the section or the statement in which it does, the token before it, the token itself and the one
@@ -186,7 +186,7 @@ valued _ _ an operator or a ';' is wanted here
 ";
 
 /// Whether a comma parts the digits of a number, at a token or before it.
-fn parts_digits(place: Place<'_>) -> bool {
+fn parts_digits(place: TokenPlace<'_>) -> bool {
     [place, place.previous()].into_iter().any(|comma| {
         comma.sign() == ","
             && [comma.before(1), comma.behind(1)] == ["int", "int"]
@@ -196,7 +196,7 @@ fn parts_digits(place: Place<'_>) -> bool {
 }
 
 /// The sign of the token before another one, as the rules tell it.
-fn told_before(place: Place<'_>) -> &'static str {
+fn told_before(place: TokenPlace<'_>) -> &'static str {
     let is_compared = place.sign() != "." || fits("KEYWORD|<|>|<=|>=|<>|=", place.behind(2));
     match (place.before(1), place.before(2)) {
         ("word", ".") => "output",
@@ -206,7 +206,7 @@ fn told_before(place: Place<'_>) -> &'static str {
 }
 
 /// The sign of a token, as the rules tell it.
-fn told_sign(place: Place<'_>, stand: &str) -> &'static str {
+fn told_sign(place: TokenPlace<'_>, stand: &str) -> &'static str {
     let is_index = place.bracket().is_some();
     let is_least = |token: &Token| token.kind == TokenKind::Integer(2147483648);
     match (place.sign(), place.head()) {
@@ -222,13 +222,13 @@ fn told_sign(place: Place<'_>, stand: &str) -> &'static str {
 }
 
 /// What is said of a token where it is too deep; empty of any other one.
-pub fn too_deep(place: Place<'_>) -> &'static str {
+pub fn too_deep(place: TokenPlace<'_>) -> &'static str {
     let stand = place.stand();
     said_of(DEEP, &[stand, told_sign(place, stand)])
 }
 
 /// What is said of a token by where it stands and what stands beside it; empty where that says nothing.
-pub fn told_by_place(place: Place<'_>) -> &'static str {
+pub fn told_by_place(place: TokenPlace<'_>) -> &'static str {
     let (stand, behind) = (place.stand(), place.behind(1));
     let (before, sign) = (told_before(place), told_sign(place, stand));
     let is_named = fits("none|;|=|:|OF|OUTER", sign)
@@ -242,6 +242,6 @@ pub fn told_by_place(place: Place<'_>) -> &'static str {
 }
 
 /// What may stand in the place of a token.
-pub fn wanted(place: Place<'_>) -> &'static str {
+pub fn wanted(place: TokenPlace<'_>) -> &'static str {
     said_of(WANTED, &[place.stand(), place.opener(), place.within()])
 }

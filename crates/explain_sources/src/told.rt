@@ -4,7 +4,7 @@ use crate::grammar::cause_at_token;
 use crate::holes::{Lexed, tokens_with_holes};
 use crate::mend::{Mend, statement_start, way_on};
 use crate::spelling::misspelled_at;
-use explain_tokens::{Cause, Place, fits, tokens_of};
+use explain_tokens::{Cause, TokenPlace, fits, tokens_of};
 use st_lexer::Token;
 use st_parser::{ParseFault, parse};
 use std::alloc::{AllocError, Global};
@@ -25,7 +25,7 @@ pub struct Reading {
 }
 
 /// The bytes around a token at which a unit stops: from where its statement or its declaration begins to where that is left out.
-fn around(place: Place<'_>, mend: Option<Mend>) -> (usize, usize) {
+fn around(place: TokenPlace<'_>, mend: Option<Mend>) -> (usize, usize) {
     let start = statement_start(place).min(place.number);
     let (from, until) = mend.map_or((start, 0), |mend| (mend.from.min(start), mend.until));
     let last = place.at(place.number.max(until.saturating_sub(1)));
@@ -60,7 +60,7 @@ pub struct Told {
 
 impl Told {
     /// Tells the cause at a token.
-    fn tell(&mut self, alloc: Global, place: Place<'_>) -> Result<(), AllocError> {
+    fn tell(&mut self, alloc: Global, place: TokenPlace<'_>) -> Result<(), AllocError> {
         self.causes.push(cause_at_token(alloc, place)?)?;
         self.left.causes = self.left.causes.saturating_sub(1);
         Ok(())
@@ -100,7 +100,7 @@ impl Told {
             let Some(number) = self.stop_of(alloc, lexed.text, unit)? else {
                 return Ok(true);
             };
-            let place = Place::new(lexed.text, tokens.as_slice(), number);
+            let place = TokenPlace::new(lexed.text, tokens.as_slice(), number);
             if number >= len && (ahead > 0 || !lexed.is_cut) {
                 self.tell(alloc, place)?;
             }
@@ -126,7 +126,7 @@ impl Told {
     /// Tells what is wrong in the units and the sections of globals, each of which begins with its keyword.
     fn read_units(&mut self, alloc: Global, lexed: &Lexed<'_>) -> Result<(), AllocError> {
         let tokens = lexed.tokens.as_slice();
-        let mut first = Place::new(lexed.text, tokens, 0);
+        let mut first = TokenPlace::new(lexed.text, tokens, 0);
         let mut is_closed = true;
         let mut has_units = false;
         for _ in 0..tokens.len() {
@@ -154,7 +154,7 @@ impl Told {
 /// What is wrong in the spelling and the grammar of a source, as far as that is left to be told and to be read.
 pub fn tell(alloc: Global, text: &[u8], left: Reading) -> Result<Told, AllocError> {
     let lexed = tokens_with_holes(alloc, text)?;
-    let first = Place::new(text, lexed.tokens.as_slice(), 0).ahead("UNIT");
+    let first = TokenPlace::new(text, lexed.tokens.as_slice(), 0).ahead("UNIT");
     let start = first.mark().0;
     let are_above = first.ahead("VAR_GLOBAL").sign().is_empty();
     let is_certain = are_above && !lexed.is_cut && !lexed.has_hole(0, start);

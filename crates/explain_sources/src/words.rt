@@ -1,7 +1,7 @@
 //! Words that are written otherwise here: those of other dialects, and words that are nearly a keyword (C5).
 
 use crate::grammar::GRAMMAR;
-use explain_tokens::{Place, closing_of, fits, part, said_of, within_one};
+use explain_tokens::{TokenPlace, closing_of, fits, part, said_of, within_one};
 use plant_types::same_word;
 
 /// Where it stands what of the standard isn't there.
@@ -87,7 +87,7 @@ head VAR VAR_INPUT VAR_OUTPUT VAR_EXTERNAL END_VAR IF CASE FOR ELSE ELSIF END_IF
 /// A word that is written otherwise here; how a source is read on; what is said behind the word, in three parts; and where to read more. A source is read on
 /// with a keyword in its place, or behind what it ends with, END_WHILE or END_REPEAT; without it (`skip`), or without the statement or the declaration of which
 /// it is a `part`; where that isn't certain, there stands `_`.
-pub type Misnomer<'a> = (Place<'a>, &'static str, Said, &'static str);
+pub type Misnomer<'a> = (TokenPlace<'a>, &'static str, Said, &'static str);
 
 /// What is said behind a word, in three parts.
 pub type Said = (&'static str, &'static str, &'static str);
@@ -101,7 +101,7 @@ fn said_at(site: &str, word: &str, is_first: bool) -> &'static str {
 }
 
 /// The word of another dialect that a token is; `None` where it is none.
-fn foreign(place: Place<'_>) -> Option<Misnomer<'_>> {
+fn foreign(place: TokenPlace<'_>) -> Option<Misnomer<'_>> {
     let (word, behind, stand) = (place.word(), place.behind(1), place.stand());
     let is_name = fits(":=|=|.", behind);
     let site = match stand {
@@ -120,7 +120,7 @@ fn foreign(place: Place<'_>) -> Option<Misnomer<'_>> {
 
 /// The keyword that a word nearly is, but for one letter that isn't its first, or two that changed places: no assignment, no call, no declaration and no output
 /// goes on with that. `None` where it is none.
-fn meant(place: Place<'_>) -> Option<Misnomer<'_>> {
+fn meant(place: TokenPlace<'_>) -> Option<Misnomer<'_>> {
     let word = place.word().as_bytes();
     let mut keywords = said_of(KEYWORDS, &[place.stand()]).split(" ");
     let keyword = keywords.find(|keyword| {
@@ -138,7 +138,7 @@ fn meant(place: Place<'_>) -> Option<Misnomer<'_>> {
 }
 
 /// The keyword that closes what is open, where a word begins as those do that close something; `None` where it doesn't.
-fn closing(place: Place<'_>) -> Option<Misnomer<'_>> {
+fn closing(place: TokenPlace<'_>) -> Option<Misnomer<'_>> {
     let is_end = same_word(part(place.word().as_bytes(), 0, 3), b"END") && place.sign() == "word";
     let keyword = closing_of(place.opener());
     let said = ("is no keyword: ", keyword, " closes what is open here");
@@ -147,7 +147,7 @@ fn closing(place: Place<'_>) -> Option<Misnomer<'_>> {
 }
 
 /// The word by which a token can't be there, that one or the one before it; behind the last token one that is meant to close what is open.
-pub fn misnomer(place: Place<'_>) -> Option<Misnomer<'_>> {
+pub fn misnomer(place: TokenPlace<'_>) -> Option<Misnomer<'_>> {
     let both = [place, place.previous()];
     let closing = both.into_iter().find_map(closing);
     if place.number >= place.tokens.len() {

@@ -16,7 +16,7 @@ mod tokens;
 pub use cause::{Cause, byte_at, cause_at, cause_of, part};
 pub use near::{Hint, Nearest, within_one};
 pub use patterns::{closing_of, fits, said_of};
-pub use place::Place;
+pub use place::TokenPlace;
 pub use spot::{FileOf, Spot};
 pub use tokens::{
     opens_section, sign_at, sign_before, sign_of, span_of, start_of, tokens_of, word_at,

@@ -54,16 +54,16 @@ _ _ _ _ valued
 
 /// A token of a source, by its number; behind the last one there is none.
 #[derive(Clone, Copy, Drop)]
-pub struct Place<'a> {
+pub struct TokenPlace<'a> {
     pub text: &'a [u8],
     pub tokens: &'a [Token],
     pub number: usize,
 }
 
-impl<'a> Place<'a> {
+impl<'a> TokenPlace<'a> {
     /// The token of a number.
-    pub fn new(text: &'a [u8], tokens: &'a [Token], number: usize) -> Place<'a> {
-        Place {
+    pub fn new(text: &'a [u8], tokens: &'a [Token], number: usize) -> TokenPlace<'a> {
+        TokenPlace {
             text,
             tokens,
             number,
@@ -71,17 +71,17 @@ impl<'a> Place<'a> {
     }
 
     /// The token of another number.
-    pub fn at(self, number: usize) -> Place<'a> {
-        Place { number, ..self }
+    pub fn at(self, number: usize) -> TokenPlace<'a> {
+        TokenPlace { number, ..self }
     }
 
     /// The token before it; the first one itself.
-    pub fn previous(self) -> Place<'a> {
+    pub fn previous(self) -> TokenPlace<'a> {
         self.at(self.number.saturating_sub(1))
     }
 
     /// The token behind it.
-    pub fn next(self) -> Place<'a> {
+    pub fn next(self) -> TokenPlace<'a> {
         self.at(self.number.saturating_add(1))
     }
 
@@ -126,7 +126,7 @@ impl<'a> Place<'a> {
     }
 
     /// The last token before it that opens something by its sign, and that another one doesn't close before it; `None` where a sign ends the search before.
-    pub fn open(self, opens: &str, closes: &str, ends: &str) -> Option<Place<'a>> {
+    pub fn open(self, opens: &str, closes: &str, ends: &str) -> Option<TokenPlace<'a>> {
         let mut closed = 0usize;
         for number in (0..self.number).rev() {
             let sign = sign_at(self.tokens, number);
@@ -145,14 +145,14 @@ impl<'a> Place<'a> {
     }
 
     /// The first token from it on that has one of these signs; else the place behind the last one.
-    pub fn ahead(self, pattern: &str) -> Place<'a> {
+    pub fn ahead(self, pattern: &str) -> TokenPlace<'a> {
         let mut numbers = self.number..self.tokens.len();
         let found = numbers.find(|number| fits(pattern, sign_at(self.tokens, *number)));
         self.at(found.unwrap_or(self.tokens.len()))
     }
 
     /// The keyword that opens what it stands in: a statement, a section of declarations or a unit.
-    pub fn opened(self) -> Option<Place<'a>> {
+    pub fn opened(self) -> Option<TokenPlace<'a>> {
         let mut closed = 0usize;
         for number in (0..self.number).rev() {
             let sign = sign_at(self.tokens, number);
@@ -179,12 +179,12 @@ impl<'a> Place<'a> {
     }
 
     /// The last `(` before it that isn't closed before it.
-    pub fn parenthesis(self) -> Option<Place<'a>> {
+    pub fn parenthesis(self) -> Option<TokenPlace<'a>> {
         self.open("(", ")", ";|OF|OUTER")
     }
 
     /// The last `[` before it that isn't closed before it, where no `(` is open behind it.
-    pub fn bracket(self) -> Option<Place<'a>> {
+    pub fn bracket(self) -> Option<TokenPlace<'a>> {
         let open = self.open("(|[", ")|]", ";|:=|=>");
         open.filter(|open| open.sign() == "[")
     }

@@ -16,7 +16,7 @@ pub enum Form<'t> {
 
 /// A name that a source declares.
 #[derive(Drop)]
-pub struct Entry<'t> {
+pub struct DeclaredName<'t> {
     /// The number of its source, from 0.
     pub source: usize,
     /// The block or program that has it for itself; empty where all sources share it.
@@ -25,7 +25,7 @@ pub struct Entry<'t> {
     pub form: Form<'t>,
 }
 
-impl<'t> Entry<'t> {
+impl<'t> DeclaredName<'t> {
     /// What it is declared as; `None` of a block or a program.
     pub fn sort(&self) -> Option<&'t Sort> {
         match &self.form {
@@ -67,13 +67,13 @@ impl<'t> Entry<'t> {
 /// Adds what sections declare.
 fn add_declared<'t>(
     alloc: Global,
-    entries: &mut Vec<Entry<'t>>,
+    entries: &mut Vec<DeclaredName<'t>>,
     (source, owner): (usize, &'t str),
     sections: &'t [Section],
 ) -> Result<(), AllocError> {
     let list = declared_in(alloc, sections)?;
     for declared in &list {
-        entries.push(Entry {
+        entries.push(DeclaredName {
             source,
             owner,
             name: declared.name(),
@@ -86,11 +86,11 @@ fn add_declared<'t>(
 /// Adds a block or a program, and what it declares.
 fn add_pou<'t>(
     alloc: Global,
-    entries: &mut Vec<Entry<'t>>,
+    entries: &mut Vec<DeclaredName<'t>>,
     source: usize,
     pou: &'t Pou,
 ) -> Result<(), AllocError> {
-    entries.push(Entry {
+    entries.push(DeclaredName {
         source,
         owner: "",
         name: &pou.name,
@@ -103,7 +103,10 @@ fn add_pou<'t>(
 }
 
 /// The names that units declare, in order of text.
-pub fn entries_of<'t>(alloc: Global, units: &'t [Unit]) -> Result<Vec<Entry<'t>>, AllocError> {
+pub fn entries_of<'t>(
+    alloc: Global,
+    units: &'t [Unit],
+) -> Result<Vec<DeclaredName<'t>>, AllocError> {
     let mut entries = Vec::new(alloc);
     for (source, unit) in units.iter().enumerate() {
         add_declared(alloc, &mut entries, (source, ""), &unit.globals)?;
@@ -115,7 +118,7 @@ pub fn entries_of<'t>(alloc: Global, units: &'t [Unit]) -> Result<Vec<Entry<'t>>
 }
 
 /// The block or program that has a name for itself, the first in order of text; empty if none has.
-pub fn owner_of<'t>(entries: &[Entry<'t>], name: &str) -> &'t str {
+pub fn owner_of<'t>(entries: &[DeclaredName<'t>], name: &str) -> &'t str {
     for entry in entries {
         if !entry.owner.is_empty() && entry.is_called(name) {
             return entry.owner;

@@ -1,7 +1,7 @@
 //! Why a name in the alarm database is no BOOL global's (C14).
 
 use crate::body::kind_text;
-use crate::entries::{Entry, entries_of, owner_of};
+use crate::entries::{DeclaredName, entries_of, owner_of};
 use crate::hints::nearest_global;
 use crate::texts::filled;
 use plant_types::{Kind, same_word};
@@ -9,7 +9,10 @@ use st_parser::{Sort, Unit};
 use std::alloc::{AllocError, Global};
 
 /// What is said of a name that no global has, in two texts with a hole, and the word in it.
-fn undeclared<'t>(entries: &[Entry<'t>], name: &'t str) -> (&'static str, &'static str, &'t str) {
+fn undeclared<'t>(
+    entries: &[DeclaredName<'t>],
+    name: &'t str,
+) -> (&'static str, &'static str, &'t str) {
     let owner = owner_of(entries, name);
     if !owner.is_empty() {
         let said = "@ is a variable of % alone, and an alarm watches BOOL globals (VAR_GLOBAL)";
@@ -25,7 +28,7 @@ fn undeclared<'t>(entries: &[Entry<'t>], name: &'t str) -> (&'static str, &'stat
 }
 
 /// What the global of a name is declared as; `None` if there is none.
-fn sort_of<'t>(entries: &[Entry<'t>], name: &str) -> Option<&'t Sort> {
+fn sort_of<'t>(entries: &[DeclaredName<'t>], name: &str) -> Option<&'t Sort> {
     for entry in entries {
         if entry.is_global(None) && entry.is_called(name) {
             return entry.sort();

@@ -1,7 +1,7 @@
 //! The names that may be meant by one that isn't there.
 
 use crate::body::{Body, kind_text};
-use crate::entries::{Entry, Form, owner_of};
+use crate::entries::{DeclaredName, Form, owner_of};
 use explain_tokens::{Hint, Nearest};
 use plant_types::{Kind, Text};
 use st_names::{Declared, Scope, sort_kind};
@@ -91,7 +91,7 @@ impl<'n> Near<'n> {
 }
 
 /// What is said of a name that is near no other: which block or program has it alone, or how an instance is declared.
-fn far<'t>(entries: &[Entry<'t>], name: &'t str, wanted: Wanted) -> Hint<'t> {
+fn far<'t>(entries: &[DeclaredName<'t>], name: &'t str, wanted: Wanted) -> Hint<'t> {
     let owner = owner_of(entries, name);
     if !owner.is_empty() {
         let said =
@@ -130,7 +130,11 @@ pub fn variable_hint<'t>(body: &Body<'t>, name: &'t Text, wanted: Wanted) -> Hin
 }
 
 /// The nearest global, of a kind or of any where none is given.
-pub fn nearest_global<'t>(entries: &[Entry<'t>], name: &'t str, kind: Option<Kind>) -> Nearest<'t> {
+pub fn nearest_global<'t>(
+    entries: &[DeclaredName<'t>],
+    name: &'t str,
+    kind: Option<Kind>,
+) -> Nearest<'t> {
     let mut nearest = Nearest::to(name);
     for entry in entries {
         if entry.is_global(kind) {

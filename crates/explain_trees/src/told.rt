@@ -8,7 +8,7 @@ const MOST_MISTAKES: usize = 20;
 
 /// The rule that a mistake breaks.
 #[derive(Clone, Copy, PartialEq, Eq, Drop)]
-pub enum Rule {
+pub enum BrokenRule {
     /// Each name is there once (C6).
     Names,
     /// Each thing is of the kind that it has to be (C7).
@@ -22,7 +22,7 @@ pub enum Rule {
 /// A mistake: the rule that it breaks, the number of its source, from 0, what is told of it, and how many more words of its unit are wrong by it.
 #[derive(Drop)]
 pub struct Mistake {
-    pub rule: Rule,
+    pub rule: BrokenRule,
     pub source: usize,
     pub cause: Cause,
     pub more: usize,
@@ -44,7 +44,7 @@ fn push_more(alloc: Global, mistake: &mut Mistake) -> Result<(), AllocError> {
 #[derive(Drop)]
 pub struct Told {
     /// The rule by which the plant is refused.
-    pub refused: Rule,
+    pub refused: BrokenRule,
     list: Vec<Mistake>,
     /// Whether memory was refused.
     is_short: bool,
@@ -52,7 +52,7 @@ pub struct Told {
 
 impl Told {
     /// No mistakes, of a plant that is refused by a rule.
-    pub fn new(alloc: Global, refused: Rule) -> Told {
+    pub fn new(alloc: Global, refused: BrokenRule) -> Told {
         Told {
             refused,
             list: Vec::new(alloc),
@@ -79,7 +79,7 @@ impl Told {
     }
 
     /// Whether a mistake that breaks a rule would be told: one place is kept for the first that breaks the rule by which the plant is refused.
-    pub fn takes(&self, rule: Rule) -> bool {
+    pub fn takes(&self, rule: BrokenRule) -> bool {
         let is_open = self.first().is_none();
         let has_room = self.list.len() < MOST_MISTAKES.saturating_sub(usize::from(is_open));
         !self.is_short && (has_room || (is_open && rule == self.refused))

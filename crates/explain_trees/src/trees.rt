@@ -1,6 +1,6 @@
 //! The sources of a plant, and their trees.
 
-use crate::entries::{Entry, Form, entries_of};
+use crate::entries::{DeclaredName, Form, entries_of};
 use base_words::Names;
 use explain_tokens::tokens_of;
 use plant_types::Text;
@@ -26,7 +26,7 @@ pub struct Trees<'t> {
     pub shared: &'t SharedNames<'t>,
     /// The names of no source: it knows the blocks that are there from the start, and no other.
     standard: &'t SharedNames<'t>,
-    pub entries: Vec<Entry<'t>>,
+    pub entries: Vec<DeclaredName<'t>>,
     /// The names that all sources share.
     names: Names,
     /// Of each the number of its first entry, and whether it isn't certain what it is: it is declared again, or its declaration can't stand.
@@ -84,7 +84,7 @@ fn is_mixed(alloc: Global, pou: &Pou) -> Result<bool, AllocError> {
 }
 
 /// Whether it isn't certain what is declared first by an entry.
-fn is_doubtful(alloc: Global, entry: &Entry<'_>) -> Result<bool, AllocError> {
+fn is_doubtful(alloc: Global, entry: &DeclaredName<'_>) -> Result<bool, AllocError> {
     match &entry.form {
         Form::Block(pou) => is_mixed(alloc, pou),
         Form::Program(_) => Ok(false),
@@ -133,7 +133,7 @@ impl<'t> Trees<'t> {
     }
 
     /// The first entry of a name that all sources share; `None` if there is none.
-    pub fn find(&self, name: &Text) -> Option<&Entry<'t>> {
+    pub fn find(&self, name: &Text) -> Option<&DeclaredName<'t>> {
         let number = self.names.find(name.as_str())?;
         let first = self.firsts.get(number)?;
         self.entries.get(first.0)

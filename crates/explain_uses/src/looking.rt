@@ -5,7 +5,7 @@ use crate::found::{Found, Uses};
 use crate::places::{Passed, Sought, place_of};
 use base_words::Names;
 use explain_tokens::tokens_of;
-use explain_trees::{Entry, Form, entries_of, mark_of};
+use explain_trees::{DeclaredName, Form, entries_of, mark_of};
 use plant_types::{Region, Text};
 use st_lexer::Token;
 use st_parser::{SectionKind, Unit};
@@ -25,7 +25,7 @@ const UNUSED: Uses = Uses {
 pub struct Looking<'p> {
     pub alloc: Global,
     pub sources: &'p [(&'p str, &'p [u8])],
-    pub entries: &'p [Entry<'p>],
+    pub entries: &'p [DeclaredName<'p>],
     /// What is done with each entry.
     pub uses: Vec<Uses>,
     /// The names that all sources share, and the number of the entry of each.
@@ -126,7 +126,7 @@ impl<'p> Looking<'p> {
 fn begun<'p>(
     alloc: Global,
     sources: &'p [(&'p str, &'p [u8])],
-    entries: &'p [Entry<'p>],
+    entries: &'p [DeclaredName<'p>],
 ) -> Result<Looking<'p>, AllocError> {
     Ok(Looking {
         alloc,

@@ -5,7 +5,7 @@ use crate::looking::Looking;
 use crate::places::address_behind;
 use base_words::Names;
 use explain_tokens::part;
-use explain_trees::{Entry, Form, mark_of, steps_of};
+use explain_trees::{DeclaredName, Form, mark_of, steps_of};
 use plant_types::{Region, Text};
 use st_names::{Declared, declared_in};
 use st_parser::{Pou, PouKind, SectionKind, Sort, Unit};
@@ -155,7 +155,7 @@ impl<'p> Looking<'p> {
     }
 
     /// Keeps a global, by the number of its entry.
-    fn keep_global(&mut self, entry: &Entry<'_>, declared: &Declared<'_>, uses: Uses) {
+    fn keep_global(&mut self, entry: &DeclaredName<'_>, declared: &Declared<'_>, uses: Uses) {
         if let Sort::Kind(_) = declared.sort() {
             let number = self.found.globals.len();
             let pushed = self.found.variables.push(number);

@@ -16,9 +16,9 @@ use Rattle.logic_source.specs.Layout.{ClockAt, block_clocks, instance_clocks, cl
 use Rattle.logic_source.specs.Ranges.{KindAt, local_kinds, row_kinds, block_kinds, instance_kinds, kinds_rule}
 use Rattle.logic_carry.specs.declared.words.Own.{Own}
 use Rattle.logic_carry.specs.declared.words.OwnRow.{OwnRow}
-use Rattle.logic_carry.specs.declared.words.Part.{Part}
+use Rattle.logic_carry.specs.declared.words.NamedInstance.{NamedInstance}
 use Rattle.logic_carry.specs.declared.words.Shape.{Shape}
-use Rattle.logic_carry.specs.declared.lists.Table.{Table}
+use Rattle.logic_carry.specs.declared.lists.TypeTable.{TypeTable}
 use Rattle.logic_carry.specs.Marks.{is_marked, holds_nothing}
 use Rattle.logic_carry.specs.Shapes.{AreOwn, AreRows, AreParts, IsShape, AreTable}
 use Rattle.logic_carry.proofs.Naming.{shape_of, own_count, rows_count}
@@ -48,19 +48,19 @@ module _ (words : List ℕ → Option ℕ) (marks : List Bool) (inner : ℕ → 
   block_none RTrig q marked = absurd (cc)
   block_none (Declared n) q marked = none n q marked
 
-  parts_none : (ps : List Part) (is : List Instance) (q : Path) → AreParts words ps is → list_all (λ (p : Part). is_marked marks p.of) ps ≡ true → Nothing (instance_kinds inner is q) (instance_clocks clocked is q)
+  parts_none : (ps : List NamedInstance) (is : List Instance) (q : Path) → AreParts words ps is → list_all (λ (p : NamedInstance). is_marked marks p.of) ps ≡ true → Nothing (instance_kinds inner is q) (instance_clocks clocked is q)
   parts_none [] [] q are all = (refl, refl)
   parts_none [] (i ∷ is) q are all = elim are [ ]
   parts_none (p ∷ ps) [] q are all = elim are [ ]
   parts_none (p ∷ ps) (i ∷ is) q are all =
-      let both = and_parts (is_marked marks p.of) (list_all (λ (x : Part). is_marked marks x.of) ps) all in
+      let both = and_parts (is_marked marks p.of) (list_all (λ (x : NamedInstance). is_marked marks x.of) ps) all in
       let first = block_none i.of (folded i.name ∷ q) (ap (is_marked marks) (sym are.0.of_is) ∙ both.0) in
       let rest = parts_none ps is q are.1 both.1 in
       ((λ k. first.0 k ++ rest.0 k), (λ k. first.1 k ++ rest.1 k))
 
   rule_none : (s : Shape) (r : PlainRoutine) (q : Path) → IsShape words s r → holds_nothing marks s ≡ true → Nothing (kinds_rule inner r q) (clocks_rule clocked r q)
   rule_none s r q is holds =
-      let parts = list_all (λ (p : Part). is_marked marks p.of) s.parts.items in
+      let parts = list_all (λ (p : NamedInstance). is_marked marks p.of) s.parts.items in
       let a = and_parts ((length s.own.items == 0) && (length s.rows.items == 0)) parts holds in
       let b = and_parts (length s.own.items == 0) (length s.rows.items == 0) a.0 in
       let own = own_none words s.own.items r.locals is.own (is_none s.own.items b.0) in
@@ -68,7 +68,7 @@ module _ (words : List ℕ → Option ℕ) (marks : List Bool) (inner : ℕ → 
       let inside = parts_none s.parts.items r.instances q is.parts a.1 in
       ((λ k. (local_kinds (own k) q ++ row_kinds (rows k) q) ++ inside.0 k), inside.1)
 
-module _ (words : List ℕ → Option ℕ) (table : Table) (blocks : List PlainRoutine) (are : AreTable words table blocks) where
+module _ (words : List ℕ → Option ℕ) (table : TypeTable) (blocks : List PlainRoutine) (are : AreTable words table blocks) where
   by_block : (d : ℕ) → ((m : ℕ) (p : Path) → get_or table.marks.items m false ≡ true → Nothing (deep_kinds blocks d m p) (deep_clocks blocks d m p)) → (n : ℕ) (q : Path) → get_or table.marks.items n false ≡ true → (o : Option PlainRoutine) → slice_get blocks n ≡ o → Nothing (deep_kinds blocks (suc d) n q) (deep_clocks blocks (suc d) n q)
   by_block d below n q marked None at = (kinds_past blocks (suc d) n q at, clocks_past blocks (suc d) n q at)
   by_block d below n q marked (Some r) at =

@@ -5,7 +5,7 @@ use Rattle.std.specs.List.{list_all}
 use Rattle.std.proofs.lemmas.Bool.{cases_Bool, and_parts, and_from}
 use Rattle.logic_source.specs.declared.logic.BlockRef.{BlockRef}
 use Rattle.logic_source.specs.declared.logic.BlockRef.TheVariants.{Ton, Tof, RTrig, Declared}
-use Rattle.logic_carry.specs.declared.words.Part.{Part}
+use Rattle.logic_carry.specs.declared.words.NamedInstance.{NamedInstance}
 use Rattle.logic_carry.specs.declared.words.Shape.{Shape}
 use Rattle.logic_carry.specs.Marks.{is_marked, holds_nothing, marked_one, AreMarked}
 use Rattle.logic_carry.proofs.Placing.{same_or_not}
@@ -31,16 +31,16 @@ module _ (marks : List Bool) (n : ℕ) where
   of_more RTrig marked = marked
   of_more (Declared m) marked = or_more marks n m marked
 
-  all_more : (ps : List Part) → list_all (λ (p : Part). is_marked marks p.of) ps ≡ true → list_all (λ (p : Part). is_marked (set marks n true) p.of) ps ≡ true
+  all_more : (ps : List NamedInstance) → list_all (λ (p : NamedInstance). is_marked marks p.of) ps ≡ true → list_all (λ (p : NamedInstance). is_marked (set marks n true) p.of) ps ≡ true
   all_more [] all = refl
   all_more (p ∷ ps) all =
-      let both = and_parts (is_marked marks p.of) (list_all (λ (x : Part). is_marked marks x.of) ps) all in
-      and_from (is_marked (set marks n true) p.of) (list_all (λ (x : Part). is_marked (set marks n true) x.of) ps) (of_more p.of both.0) (all_more ps both.1)
+      let both = and_parts (is_marked marks p.of) (list_all (λ (x : NamedInstance). is_marked marks x.of) ps) all in
+      and_from (is_marked (set marks n true) p.of) (list_all (λ (x : NamedInstance). is_marked (set marks n true) x.of) ps) (of_more p.of both.0) (all_more ps both.1)
 
   holds_more : (s : Shape) → holds_nothing marks s ≡ true → holds_nothing (set marks n true) s ≡ true
   holds_more s holds =
-      let parts = list_all (λ (p : Part). is_marked marks p.of) s.parts.items in
-      let more = list_all (λ (p : Part). is_marked (set marks n true) p.of) s.parts.items in
+      let parts = list_all (λ (p : NamedInstance). is_marked marks p.of) s.parts.items in
+      let more = list_all (λ (p : NamedInstance). is_marked (set marks n true) p.of) s.parts.items in
       let a = and_parts ((length s.own.items == 0) && (length s.rows.items == 0)) parts holds in
       and_from ((length s.own.items == 0) && (length s.rows.items == 0)) more a.0 (all_more s.parts.items a.1)
 

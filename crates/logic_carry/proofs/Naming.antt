@@ -6,7 +6,7 @@ use Rattle.logic_source.specs.declared.logic.Instance.{Instance}
 use Rattle.logic_source.specs.Source.{PlainRoutine}
 use Rattle.logic_carry.specs.declared.words.Own.{Own}
 use Rattle.logic_carry.specs.declared.words.OwnRow.{OwnRow}
-use Rattle.logic_carry.specs.declared.words.Part.{Part}
+use Rattle.logic_carry.specs.declared.words.NamedInstance.{NamedInstance}
 use Rattle.logic_carry.specs.declared.words.Shape.{Shape}
 use Rattle.logic_carry.specs.declared.lists.Program.{Program}
 use Rattle.logic_carry.specs.Paths.{Grows}
@@ -37,7 +37,7 @@ module _ (words later : List ℕ → Option ℕ) (grows : Grows words later) whe
   rows_later (o ∷ os) [] are = elim are [ ]
   rows_later (o ∷ os) (row ∷ rows) are = (record { named = number_later row.name o.word are.0.named; kind_is = are.0.kind_is; bounds_are = are.0.bounds_are; measured = are.0.measured }, rows_later os rows are.1)
 
-  pub parts_later : (ps : List Part) (is : List Instance) → AreParts words ps is → AreParts later ps is
+  pub parts_later : (ps : List NamedInstance) (is : List Instance) → AreParts words ps is → AreParts later ps is
   parts_later [] [] are = tt
   parts_later [] (i ∷ is) are = elim are [ ]
   parts_later (p ∷ ps) [] are = elim are [ ]
@@ -56,7 +56,7 @@ module _ (words : List ℕ → Option ℕ) where
   rows_with (y ∷ ys) [] o row are is = elim are [ ]
   rows_with (y ∷ ys) (x ∷ xs) o row are is = (are.0, rows_with ys xs o row are.1 is)
 
-  parts_with : (ps : List Part) (is : List Instance) (p : Part) (i : Instance) → AreParts words ps is → IsPart words p i → AreParts words (ps ++ p ∷ []) (is ++ i ∷ [])
+  parts_with : (ps : List NamedInstance) (is : List Instance) (p : NamedInstance) (i : Instance) → AreParts words ps is → IsPart words p i → AreParts words (ps ++ p ∷ []) (is ++ i ∷ [])
   parts_with [] [] p i are it = (it, tt)
   parts_with [] (x ∷ xs) p i are it = elim are [ ]
   parts_with (y ∷ ys) [] p i are it = elim are [ ]
@@ -70,7 +70,7 @@ module _ (words later : List ℕ → Option ℕ) (grows : Grows words later) whe
   pub rows_next : (os : List OwnRow) (rows : List Row) (n : ℕ) (o : OwnRow) (row : Row) → AreRows words os (take n rows) → slice_get rows n ≡ Some row → IsRow later o row → AreRows later (os ++ o ∷ []) (take (n + 1) rows)
   rows_next os rows n o row are at is = subst (AreRows later (os ++ o ∷ [])) (sym (take_next rows n row at)) (rows_with later os (take n rows) o row (rows_later words later grows os (take n rows) are) is)
 
-  pub parts_next : (ps : List Part) (is : List Instance) (n : ℕ) (p : Part) (i : Instance) → AreParts words ps (take n is) → slice_get is n ≡ Some i → IsPart later p i → AreParts later (ps ++ p ∷ []) (take (n + 1) is)
+  pub parts_next : (ps : List NamedInstance) (is : List Instance) (n : ℕ) (p : NamedInstance) (i : Instance) → AreParts words ps (take n is) → slice_get is n ≡ Some i → IsPart later p i → AreParts later (ps ++ p ∷ []) (take (n + 1) is)
   parts_next ps is n p i are at it = subst (AreParts later (ps ++ p ∷ [])) (sym (take_next is n i at)) (parts_with later ps (take n is) p i (parts_later words later grows ps (take n is) are) it)
 
 -- ---- one of them, by its place
@@ -88,11 +88,11 @@ row_at words (x ∷ os) [] n o are at = elim are [ ]
 row_at words (x ∷ os) (row ∷ rows) zero o are at = let same : x ≡ o = cc in (row, refl, subst (λ (y : OwnRow). IsRow words y row) same are.0)
 row_at words (x ∷ os) (row ∷ rows) (suc n) o are at = row_at words os rows n o are.1 at
 
-pub part_at : (words : List ℕ → Option ℕ) (ps : List Part) (is : List Instance) (n : ℕ) (p : Part) → AreParts words ps is → slice_get ps n ≡ Some p → (i : Instance) × (slice_get is n ≡ Some i) × IsPart words p i
+pub part_at : (words : List ℕ → Option ℕ) (ps : List NamedInstance) (is : List Instance) (n : ℕ) (p : NamedInstance) → AreParts words ps is → slice_get ps n ≡ Some p → (i : Instance) × (slice_get is n ≡ Some i) × IsPart words p i
 part_at words [] [] n p are at = absurd (cc)
 part_at words [] (i ∷ is) n p are at = elim are [ ]
 part_at words (x ∷ ps) [] n p are at = elim are [ ]
-part_at words (x ∷ ps) (i ∷ is) zero p are at = let same : x ≡ p = cc in (i, refl, subst (λ (y : Part). IsPart words y i) same are.0)
+part_at words (x ∷ ps) (i ∷ is) zero p are at = let same : x ≡ p = cc in (i, refl, subst (λ (y : NamedInstance). IsPart words y i) same are.0)
 part_at words (x ∷ ps) (i ∷ is) (suc n) p are at = part_at words ps is n p are.1 at
 
 pub program_at : (words : List ℕ → Option ℕ) (ps : List Program) (rs : List PlainRoutine) (n : ℕ) (p : Program) → ArePrograms words ps rs → slice_get ps n ≡ Some p → (r : PlainRoutine) × (slice_get rs n ≡ Some r) × IsNumbered words r.name p.word × IsShape words p.shape r
@@ -131,7 +131,7 @@ rows_count words [] (row ∷ rows) are = elim are [ ]
 rows_count words (o ∷ os) [] are = elim are [ ]
 rows_count words (o ∷ os) (row ∷ rows) are = ap suc (rows_count words os rows are.1)
 
-pub parts_count : (words : List ℕ → Option ℕ) (ps : List Part) (is : List Instance) → AreParts words ps is → length ps ≡ length is
+pub parts_count : (words : List ℕ → Option ℕ) (ps : List NamedInstance) (is : List Instance) → AreParts words ps is → length ps ≡ length is
 parts_count words [] [] are = refl
 parts_count words [] (i ∷ is) are = elim are [ ]
 parts_count words (p ∷ ps) [] are = elim are [ ]

@@ -4,7 +4,7 @@ use Rattle.logic_source.specs.Source.{PlainRoutine, Source}
 use Rattle.logic_carry.specs.declared.words.Shape.{Shape}
 use Rattle.logic_carry.specs.declared.lists.Program.{Program}
 use Rattle.logic_carry.specs.declared.lists.SourceShape.{SourceShape}
-use Rattle.logic_carry.specs.declared.lists.Table.{Table}
+use Rattle.logic_carry.specs.declared.lists.TypeTable.{TypeTable}
 use Rattle.logic_carry.specs.Paths.{Grows}
 use Rattle.logic_carry.specs.Shapes.{IsNumbered, IsShape, AreShapes, ArePrograms, AreTable, IsSourceShape, as_local, timer_inputs, trigger_inputs}
 use Rattle.logic_carry.proofs.Naming.{take_next, number_later, own_later, rows_later, parts_later}
@@ -25,7 +25,7 @@ module _ (words later : List ℕ → Option ℕ) (grows : Grows words later) whe
   programs_later (p ∷ ps) [] are = elim are [ ]
   programs_later (p ∷ ps) (r ∷ rs) are = (number_later words later grows r.name p.word are.0, shape_later p.shape r are.1, programs_later ps rs are.2)
 
-  pub table_later : (table : Table) (blocks : List PlainRoutine) → AreTable words table blocks → AreTable later table blocks
+  pub table_later : (table : TypeTable) (blocks : List PlainRoutine) → AreTable words table blocks → AreTable later table blocks
   table_later table blocks are = record {
     blocks_are = shapes_later table.blocks.items blocks are.blocks_are;
     marked = are.marked;

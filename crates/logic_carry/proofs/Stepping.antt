@@ -17,7 +17,7 @@ use Rattle.logic_source.specs.Layout.{ClockAt, elements_from, element_values, bl
 use Rattle.logic_source.specs.Ranges.{KindAt, kind_at, element_at, local_kinds, row_kinds, own_kinds, block_kinds, instance_kinds, kinds_rule, routine_kinds, program_kinds, global_kind_at}
 use Rattle.logic_carry.specs.declared.words.Own.{Own}
 use Rattle.logic_carry.specs.declared.words.OwnRow.{OwnRow}
-use Rattle.logic_carry.specs.declared.words.Part.{Part}
+use Rattle.logic_carry.specs.declared.words.NamedInstance.{NamedInstance}
 use Rattle.logic_carry.specs.declared.lists.Program.{Program}
 use Rattle.logic_carry.specs.declared.lists.ValueAt.{ValueAt}
 use Rattle.logic_carry.specs.declared.lists.StandardAt.{StandardAt}
@@ -79,7 +79,7 @@ module _ (words : List ℕ → Option ℕ) (start now new : ℕ → Option ℕ) 
         lists_grown words start now new later vs vs' vs'' ss ss' ss'' (row_kinds (take n arrays) q) (map (element_at o.kind o.bounds) (element_values o.bounds p)) (row_kinds (take (n + 1) arrays) q) [] [] [] so_far grows more
         (row_kinds_next arrays n r.0 q r.1 ∙ ap (λ ks. row_kinds (take n arrays) q ++ ks) (sym same)) refl
 
-    pub part_step : (blocks : List PlainRoutine) (depth : ℕ) (r : PlainRoutine) (parts : List Part) (p : Part) → AreParts words parts r.instances → slice_get parts n ≡ Some p → IsAt words start path q
+    pub part_step : (blocks : List PlainRoutine) (depth : ℕ) (r : PlainRoutine) (parts : List NamedInstance) (p : NamedInstance) → AreParts words parts r.instances → slice_get parts n ≡ Some p → IsAt words start path q
         → Lists words start now vs vs' ss ss' (own_kinds r q ++ instance_kinds (deep_kinds blocks depth) (take n r.instances) q) (instance_clocks (deep_clocks blocks depth) (take n r.instances) q)
         → ((i : Instance) → IsPart words p i → IsAt words now path q → Lists words now later vs' vs'' ss' ss'' (block_kinds (deep_kinds blocks depth) i.of (folded i.name ∷ q)) (block_clocks (deep_clocks blocks depth) i.of (folded i.name ∷ q)))
         → Lists words start later vs vs'' ss ss'' (own_kinds r q ++ instance_kinds (deep_kinds blocks depth) (take (n + 1) r.instances) q) (instance_clocks (deep_clocks blocks depth) (take (n + 1) r.instances) q)
@@ -120,7 +120,7 @@ own_all words own locals n are past = let count = own_count words own locals are
 pub rows_all : (words : List ℕ → Option ℕ) (own : List OwnRow) (rows : List Row) (n : ℕ) → AreRows words own rows → length own ≤ n → take n rows ≡ rows
 rows_all words own rows n are past = let count = rows_count words own rows are in take_all n rows (omega (arith, count, past))
 
-pub parts_all : (words : List ℕ → Option ℕ) (parts : List Part) (is : List Instance) (n : ℕ) → AreParts words parts is → length parts ≤ n → take n is ≡ is
+pub parts_all : (words : List ℕ → Option ℕ) (parts : List NamedInstance) (is : List Instance) (n : ℕ) → AreParts words parts is → length parts ≤ n → take n is ≡ is
 parts_all words parts is n are past = let count = parts_count words parts is are in take_all n is (omega (arith, count, past))
 
 pub programs_all : (words : List ℕ → Option ℕ) (programs : List Program) (rs : List PlainRoutine) (n : ℕ) → ArePrograms words programs rs → length programs ≤ n → take n rs ≡ rs

@@ -11,9 +11,9 @@ use Rattle.logic_carry.specs.Paths.{IsIndex}
 use Rattle.logic_carry.specs.Marks.{AreMarked}
 use Rattle.logic_carry.specs.declared.words.Own.{Own}
 use Rattle.logic_carry.specs.declared.words.OwnRow.{OwnRow}
-use Rattle.logic_carry.specs.declared.words.Part.{Part}
+use Rattle.logic_carry.specs.declared.words.NamedInstance.{NamedInstance}
 use Rattle.logic_carry.specs.declared.words.Shape.{Shape}
-use Rattle.logic_carry.specs.declared.lists.Table.{Table}
+use Rattle.logic_carry.specs.declared.lists.TypeTable.{TypeTable}
 use Rattle.logic_carry.specs.declared.lists.Program.{Program}
 use Rattle.logic_carry.specs.declared.lists.SourceShape.{SourceShape}
 
@@ -53,12 +53,12 @@ AreRows words (o ∷ os) [] = ⊥
 AreRows words (o ∷ os) (row ∷ rows) = IsRow words o row × AreRows words os rows
 
 -- this is an instance with the number of its word and what it is of
-pub record IsPart (words : List ℕ → Option ℕ) (p : Part) (i : Instance) : Type 0 where
+pub record IsPart (words : List ℕ → Option ℕ) (p : NamedInstance) (i : Instance) : Type 0 where
   pub named : IsNumbered words i.name p.word
   pub of_is : p.of ≡ i.of
 
 -- these are instances, in order
-abbrev pub AreParts : (List ℕ → Option ℕ) → List Part → List Instance → Type 0
+abbrev pub AreParts : (List ℕ → Option ℕ) → List NamedInstance → List Instance → Type 0
 AreParts words [] [] = Unit {0}
 AreParts words [] (i ∷ is) = ⊥
 AreParts words (p ∷ ps) [] = ⊥
@@ -93,7 +93,7 @@ abbrev pub trigger_inputs : List Local
 trigger_inputs = record { name = codes "CLK"; kind = kind.Bool } ∷ []
 
 -- a table is that of block types, of which those that are marked hold nothing
-pub record AreTable (words : List ℕ → Option ℕ) (table : Table) (blocks : List PlainRoutine) : Type 0 where
+pub record AreTable (words : List ℕ → Option ℕ) (table : TypeTable) (blocks : List PlainRoutine) : Type 0 where
   pub blocks_are : AreShapes words table.blocks.items blocks
   pub marked : AreMarked table.marks.items table.blocks.items
   pub timer_is : AreOwn words table.timer.items timer_inputs

@@ -17,6 +17,8 @@ mod words;
 
 pub use after::{clocks_after, values_after};
 pub use both::{Both, SourceList, both_of};
-pub use lists::{Program, SourceShape, StandardAt, Table, ValueAt};
+pub use lists::{Program, SourceShape, StandardAt, TypeTable, ValueAt};
 pub use marks::marks_of;
-pub use words::{Own, OwnRow, Part, Shape, globals_of, own_of, parts_of, rows_of, word_number};
+pub use words::{
+    NamedInstance, Own, OwnRow, Shape, globals_of, own_of, parts_of, rows_of, word_number,
+};

@@ -15,7 +15,7 @@ ghost use Rattle.logic_carry.specs.Lists.{IsListing, HasPath, Adds};
 
 use crate::marks::is_marked;
 use crate::paths::path_number;
-use crate::words::{Own, OwnRow, Part, Shape};
+use crate::words::{NamedInstance, Own, OwnRow, Shape};
 use logic_source::BlockRef;
 use plant_types::{Bounds, Kind};
 use std::alloc::AllocError;
@@ -50,7 +50,7 @@ pub struct Listed {
 /// The block types of a source by their numbers, and which of them are known to hold nothing; and the inputs of standard blocks: those of a
 /// timer, and that of an edge detector.
 #[derive(Drop)]
-pub struct Table {
+pub struct TypeTable {
     pub blocks: Vec<Shape>,
     pub marks: Vec<bool>,
     pub timer: Vec<Own>,
@@ -70,7 +70,7 @@ pub struct SourceShape {
     pub globals: Vec<Own>,
     pub rows: Vec<OwnRow>,
     pub programs: Vec<Program>,
-    pub table: Table,
+    pub table: TypeTable,
 }
 
 /// Lists variables at the path of a number.
@@ -151,7 +151,7 @@ fn list_standard(
 /// Lists an instance at the path of a number, with those below it, so many levels deep.
 #[cycle(lists)]
 fn list_block(
-    table: &Table,
+    table: &TypeTable,
     depth: usize,
     of: BlockRef,
     path: usize,
@@ -181,9 +181,9 @@ fn list_block(
 /// Lists an instance of the routine at the path of a number, so many levels deep. What holds nothing is passed over.
 #[cycle(lists)]
 fn list_part(
-    table: &Table,
+    table: &TypeTable,
     depth: usize,
-    part: Part,
+    part: NamedInstance,
     path: usize,
     listed: &mut Listed,
 ) -> Result<(), AllocError>
@@ -206,7 +206,7 @@ fn list_part(
 /// Lists a routine at the path of a number, so many levels deep: its own variables and arrays, and then its instances.
 #[cycle(lists)]
 fn list_routine(
-    table: &Table,
+    table: &TypeTable,
     depth: usize,
     shape: &Shape,
     path: usize,
@@ -229,7 +229,11 @@ fn list_routine(
 }
 
 /// Lists programs, one after another.
-fn list_programs(table: &Table, programs: &[Program], listed: &mut Listed) -> Result<(), AllocError>
+fn list_programs(
+    table: &TypeTable,
+    programs: &[Program],
+    listed: &mut Listed,
+) -> Result<(), AllocError>
     requires { IsListing listed.old }
     ensures numbered { OnOk result (IsListing listed.new) }
     ensures lists { OnOk result

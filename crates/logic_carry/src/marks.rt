@@ -3,10 +3,10 @@
 
 ghost use Rattle.std.specs.Prelude.{◌≡◌, IfOk, true, false, set, replicate};
 ghost use Rattle.std.specs.List.{list_all};
-ghost use Rattle.logic_carry.specs.declared.words.Part.{Part};
+ghost use Rattle.logic_carry.specs.declared.words.NamedInstance.{NamedInstance};
 ghost use Rattle.logic_carry.specs.Marks.{is_marked, holds_nothing, marked_one, AreMarked};
 
-use crate::words::{Part, Shape};
+use crate::words::{NamedInstance, Shape};
 use logic_source::BlockRef;
 use std::alloc::{AllocError, Global};
 
@@ -27,8 +27,8 @@ pub fn is_marked(marks: &[bool], of: BlockRef) -> bool
 }
 
 /// Whether all these instances are of block types that are marked.
-fn are_marked(marks: &[bool], parts: &[Part]) -> bool
-    ensures { result ≡ list_all (λ (p : Part). is_marked marks.now p.of) parts.now }
+fn are_marked(marks: &[bool], parts: &[NamedInstance]) -> bool
+    ensures { result ≡ list_all (λ (p : NamedInstance). is_marked marks.now p.of) parts.now }
 {
     parts.iter().all(|part| is_marked(marks, part.of))
 }

@@ -30,7 +30,7 @@ pub struct OwnRow {
 
 /// An instance: the number of its name's word, and what it is of.
 #[derive(Clone, Copy, Drop)]
-pub struct Part {
+pub struct NamedInstance {
     pub word: usize,
     pub of: BlockRef,
 }
@@ -40,7 +40,7 @@ pub struct Part {
 pub struct Shape {
     pub own: Vec<Own>,
     pub rows: Vec<OwnRow>,
-    pub parts: Vec<Part>,
+    pub parts: Vec<NamedInstance>,
 }
 
 /// Adds a name that isn't there.
@@ -127,14 +127,14 @@ pub fn parts_of(
     alloc: Global,
     names: &mut Names,
     instances: &[Instance],
-) -> Result<Vec<Part>, AllocError>
+) -> Result<Vec<NamedInstance>, AllocError>
     ensures are { IfOk result (λ parts. AreParts (find_name names.new) parts.items instances.now) }
     ensures grows { OnOk result (Grows (find_name names.old) (find_name names.new)) }
 {
     let mut parts = Vec::with_capacity(alloc, instances.len())?;
     for instance in instances {
         let word = word_number(alloc, names, instance.name.as_str())?;
-        parts.push(Part {
+        parts.push(NamedInstance {
             word,
             of: instance.of,
         })?;

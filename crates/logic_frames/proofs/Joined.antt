@@ -8,7 +8,7 @@ use Rattle.st_tree.specs.declared.tree.Label.{Label}
 use Rattle.st_tree.specs.Plain.{PlainExpr, PlainStmt, empty, assign, store, call, if_else, case_of, for_to, PlainBody, done, next, Branches, no_branch, branch, Choices, no_choice, choice}
 use Rattle.st_tree.specs.Numbers.{count_stmt, count_body, count_branches, count_choices}
 use Rattle.st_tree.specs.View.{view_stmt, view_body, view_branch, view_branches, view_choice, view_choices}
-use Rattle.logic_frames.specs.declared.scope.Scope.{Scope}
+use Rattle.logic_frames.specs.declared.scope.RoutineNames.{RoutineNames}
 use Rattle.logic_frames.specs.Scoped.{flat_expr, flat_stmt, flat_body, flat_branches, flat_choices}
 
 abbrev pub joined : {V : Type 0} → PlainBody V → PlainBody V → PlainBody V
@@ -57,7 +57,7 @@ one_at_least (if_else number branches last) = omega arith
 one_at_least (case_of number e choices last) = omega arith
 one_at_least (for_to number v from to by body) = omega arith
 
-module _ (scope : Scope) where
+module _ (scope : RoutineNames) where
   -- what was resolved, and what is still to be resolved from a number on, are the whole; so are their counts
   pub record Body (whole : PlainBody ℕ) (all : ℕ) (body : List (Stmt (List ℕ))) (i : ℕ) (number : ℕ) (resolved : List (Stmt ℕ)) : Type 0 where
     pub are : joined (view_body resolved) (flat_body scope number (view_body (drop i body))) ≡ whole

@@ -30,7 +30,7 @@ use Rattle.logic_source.proofs.Seats.{row_of_number}
 use Rattle.logic_frames.specs.declared.names.Arrays.{Arrays}
 use Rattle.logic_frames.specs.declared.names.Laid.{Laid}
 use Rattle.logic_frames.specs.declared.names.Variables.{Variables}
-use Rattle.logic_frames.specs.declared.scope.Scope.{Scope}
+use Rattle.logic_frames.specs.declared.scope.RoutineNames.{RoutineNames}
 use Rattle.logic_frames.specs.Numbers.{shown_number, numbers}
 use Rattle.logic_frames.specs.Scoped.{kind_among, array_among, block_among, laid, laid_from, scope_globals, scope_array, scope_element_kind, scope_bounds, AreArrays, AreVariables, AreMembers, IsScope, local_names, local_kinds, own_variables, global_variables, scope_variable, scope_kind, scope_instance, own_number, own_kind_of, input_among, output_among, output_kind_by, scope_input, scope_output, scope_output_kind, scope_kinds, flat_body}
 
@@ -141,7 +141,7 @@ module _ (blocks : List PlainRoutine) (members : List Variables) (are : AreMembe
       ap (option_map (λ (x : Variables). x.kinds.items)) (sym known) ∙ sym (slice_get-map (λ (x : Variables). x.kinds.items) members n) ∙ ap (λ l. slice_get l n) are.kinds_are ∙ slice_get-map (λ (x : PlainRoutine). local_kinds x.locals) blocks n ∙ ap (option_map (λ (x : PlainRoutine). local_kinds x.locals)) there in
       record { names_are = cc; kinds_are = cc }
 
-module _ (source : Source) (r : PlainRoutine) (scope : Scope) (is : IsScope source r scope) where
+module _ (source : Source) (r : PlainRoutine) (scope : RoutineNames) (is : IsScope source r scope) where
   long : scope_globals scope ≡ global_cells source
   long = is.global_arrays_are.end_is
 

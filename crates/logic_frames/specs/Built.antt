@@ -22,7 +22,7 @@ use Rattle.logic_frames.specs.Numbers.{numbers}
 use Rattle.logic_frames.specs.Reached.{flagged, AreReached}
 use Rattle.logic_frames.specs.Small.{HasFewCells, HasFewSteps}
 use Rattle.logic_frames.specs.Frames.{place_in, IsFrame, framed, IsBlank}
-use Rattle.logic_frames.specs.declared.scope.Scope.{Scope}
+use Rattle.logic_frames.specs.declared.scope.RoutineNames.{RoutineNames}
 use Rattle.logic_frames.specs.Scoped.{AreVariables, AreArrays, AreMembers, IsNumberedIn, global_variables}
 
 -- where the first instance of a routine begins
@@ -118,7 +118,7 @@ AllBegun globals members programs table before k frames =
     → AreBegun source order used run 0 before table → AreBegun source order used run k frames table
 
 -- a frame has initial values alone, which are numbered in a scope
-pub record IsStartIn (scope : Scope) (starts : PlainBody (List ℕ)) (frame : Frame) : Type 0 where
+pub record IsStartIn (scope : RoutineNames) (starts : PlainBody (List ℕ)) (frame : Frame) : Type 0 where
   pub seats_are : frame.seats.items ≡ []
   pub starts_are : IsNumberedIn scope starts (view_body frame.starts.items)
   pub body_is : frame.body.items ≡ []

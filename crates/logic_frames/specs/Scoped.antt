@@ -26,7 +26,7 @@ use Rattle.logic_frames.specs.declared.names.Arrays.{Arrays}
 use Rattle.logic_frames.specs.declared.names.Laid.{Laid}
 use Rattle.logic_frames.specs.declared.names.Variables.{Variables}
 use Rattle.logic_frames.specs.declared.names.Instances.{Instances}
-use Rattle.logic_frames.specs.declared.scope.Scope.{Scope}
+use Rattle.logic_frames.specs.declared.scope.RoutineNames.{RoutineNames}
 
 -- the kind of the variable of a name
 abbrev pub kind_among : Variables → List ℕ → Option Kind
@@ -98,35 +98,35 @@ pub record AreInstances (list : List Instance) (instances : Instances) : Type 0 
   pub blocks_are : instances.blocks.items ≡ map (λ (i : Instance). i.of) list
 
 -- how many cells the globals have: one for each variable, and one for each element of an array
-abbrev pub scope_globals : Scope → ℕ
+abbrev pub scope_globals : RoutineNames → ℕ
 scope_globals scope = scope.globals.now.arrays.end
 
 -- the number of the variable of a name, where the globals have the first numbers and the routine's own variables those after them
-abbrev pub scope_variable : Scope → List ℕ → ℕ
+abbrev pub scope_variable : RoutineNames → List ℕ → ℕ
 scope_variable scope name = unwrap_or (own_or_global (scope_globals scope) (find_name scope.own.now.names name) (find_name scope.globals.now.names name)) 0
 
 -- the kind of the variable of a name
-abbrev pub scope_kind : Scope → List ℕ → Kind
+abbrev pub scope_kind : RoutineNames → List ℕ → Kind
 scope_kind scope name = unwrap_or (or_other (kind_among scope.own.now name) (kind_among scope.globals.now name)) kind.Bool
 
 -- the number of the array of a name, that of its first element: the global arrays follow the global variables, and the routine's own arrays its own variables
-abbrev pub scope_array : Scope → List ℕ → ℕ
+abbrev pub scope_array : RoutineNames → List ℕ → ℕ
 scope_array scope name =
     unwrap_or (own_or_global (scope_globals scope) (first_among scope.own.now.arrays name) (first_among scope.globals.now.arrays name)) 0
 
 -- the array of a name: one of the routine's own hides a global one
-abbrev pub array_in : Scope → List ℕ → Option Laid
+abbrev pub array_in : RoutineNames → List ℕ → Option Laid
 array_in scope name = or_other (array_among scope.own.now.arrays name) (array_among scope.globals.now.arrays name)
 
 -- the kind of its elements, and its bounds
-abbrev pub scope_element_kind : Scope → List ℕ → Kind
+abbrev pub scope_element_kind : RoutineNames → List ℕ → Kind
 scope_element_kind scope name = option_map_or (λ (l : Laid). l.kind) (array_in scope name) kind.Bool
 
-abbrev pub scope_bounds : Scope → List ℕ → Bounds
+abbrev pub scope_bounds : RoutineNames → List ℕ → Bounds
 scope_bounds scope name = option_map_or (λ (l : Laid). l.bounds) (array_in scope name) (record { low = pos 0; high = pos 0 })
 
 -- the number of the instance of a name
-abbrev pub scope_instance : Scope → List ℕ → ℕ
+abbrev pub scope_instance : RoutineNames → List ℕ → ℕ
 scope_instance scope name = unwrap_or (find_name scope.instances.now.names name) 0
 
 -- the number of a block type's own variable of a name, and its kind
@@ -160,21 +160,21 @@ output_kind_by members (Some Tof) name = if same_word name (codes "ET") then kin
 output_kind_by members (Some RTrig) name = kind.Bool
 output_kind_by members (Some (Declared n)) name = unwrap_or (own_kind_of members n name) kind.Bool
 
-abbrev pub scope_input : Scope → List ℕ → List ℕ → ℕ
+abbrev pub scope_input : RoutineNames → List ℕ → List ℕ → ℕ
 scope_input scope instance name = unwrap_or (input_among scope.members.now (block_among scope.instances.now instance) name) 0
 
-abbrev pub scope_output : Scope → List ℕ → List ℕ → ℕ
+abbrev pub scope_output : RoutineNames → List ℕ → List ℕ → ℕ
 scope_output scope instance name = unwrap_or (output_among scope.members.now (block_among scope.instances.now instance) name) 0
 
-abbrev pub scope_output_kind : Scope → List ℕ → List ℕ → Kind
+abbrev pub scope_output_kind : RoutineNames → List ℕ → List ℕ → Kind
 scope_output_kind scope instance name = output_kind_by scope.members.now (block_among scope.instances.now instance) name
 
 -- the kinds of the names
-abbrev pub scope_kinds : Scope → KindsOf (List ℕ)
+abbrev pub scope_kinds : RoutineNames → KindsOf (List ℕ)
 scope_kinds scope = record { variable = scope_kind scope; output = scope_output_kind scope; element = scope_element_kind scope; bounds = scope_bounds scope }
 
 -- the numbers in the places of the names
-abbrev pub mapping_of : Scope → Mapping (List ℕ) ℕ
+abbrev pub mapping_of : RoutineNames → Mapping (List ℕ) ℕ
 mapping_of scope = record {
   variable = scope_variable scope;
   array = scope_array scope;
@@ -184,7 +184,7 @@ mapping_of scope = record {
   node = λ e. e;
 }
 
-module _ (scope : Scope) where
+module _ (scope : RoutineNames) where
   -- an expression over numbers, each operator chosen by the kind of its operands
   abbrev pub flat_expr : PlainExpr (List ℕ) → PlainExpr ℕ
   flat_expr e = mapped_expr (mapping_of scope) (resolved_expr (scope_kinds scope) e)
@@ -215,7 +215,7 @@ pub record AreMembers (blocks : List PlainRoutine) (members : List Variables) : 
   pub kinds_are : map (λ (v : Variables). v.kinds.items) members ≡ map (λ (b : PlainRoutine). local_kinds b.locals) blocks
 
 -- a scope is that of a routine of a source
-pub record IsScope (source : Source) (r : PlainRoutine) (scope : Scope) : Type 0 where
+pub record IsScope (source : Source) (r : PlainRoutine) (scope : RoutineNames) : Type 0 where
   pub globals_are : AreVariables (global_variables source.globals) scope.globals.now
   pub global_arrays_are : AreArrays (length source.globals) source.rows scope.globals.now.arrays
   pub own_are : AreVariables (own_variables r.locals) scope.own.now
@@ -224,5 +224,5 @@ pub record IsScope (source : Source) (r : PlainRoutine) (scope : Scope) : Type 0
   pub members_are : AreMembers source.blocks scope.members.now
 
 -- a body over numbers is that of each routine whose scope it is
-abbrev pub IsNumberedIn : Scope → PlainBody (List ℕ) → PlainBody ℕ → Type 0
+abbrev pub IsNumberedIn : RoutineNames → PlainBody (List ℕ) → PlainBody ℕ → Type 0
 IsNumberedIn scope body flat = (source : Source) (r : PlainRoutine) → IsScope source r scope → flat ≡ mapped_body (numbers source r) (meant_in source r body)

@@ -21,7 +21,7 @@ use crate::names::{
 };
 use crate::reached::{flagged, reached};
 use crate::resolve::resolve_body;
-use crate::scope::Scope;
+use crate::scope::RoutineNames;
 use logic_seats::{Callee, Extent, called_in, has_starts, seats_by};
 use logic_source::{Logic, Routine, block_type_has_clocks, block_type_has_values, row_cells};
 use logic_walk::{Frame, Seat};
@@ -51,7 +51,7 @@ fn members_of(alloc: Global, blocks: &[Routine]) -> Result<Vec<Variables>, Alloc
 /// A body over numbers, its statements numbered from 1.
 fn number_body(
     alloc: Global,
-    scope: &Scope<'_>,
+    scope: &RoutineNames<'_>,
     body: &[Stmt<Text>],
 ) -> Result<Vec<Stmt<usize>>, AllocError>
     requires { 1 + count_body (view_body body.now) < 2 ^ 32 }
@@ -101,7 +101,7 @@ fn seats_of(
 /// The frame of a routine in the scope of its names, without its body if nothing comes to call it, and what it has.
 fn frame_in(
     alloc: Global,
-    scope: &Scope<'_>,
+    scope: &RoutineNames<'_>,
     table: &[Callee],
     routine: &Routine,
     is_run: bool,
@@ -147,7 +147,7 @@ fn frame_of(
 {
     let own = own_variables(alloc, &routine.locals, &routine.rows)?;
     let instances = instances_of(alloc, &routine.instances)?;
-    let scope = Scope {
+    let scope = RoutineNames {
         globals,
         own: &own,
         instances: &instances,
@@ -316,7 +316,11 @@ pub fn frames_of(alloc: Global, logic: &Logic, order: &[usize]) -> Result<Vec<Fr
 }
 
 /// The frame of initial values in the scope of their names.
-fn start_in(alloc: Global, scope: &Scope<'_>, starts: &[Stmt<Text>]) -> Result<Frame, AllocError>
+fn start_in(
+    alloc: Global,
+    scope: &RoutineNames<'_>,
+    starts: &[Stmt<Text>],
+) -> Result<Frame, AllocError>
     requires { 1 + count_body (view_body starts.now) < 2 ^ 32 }
     ensures { IfOk result (λ frame. IsStartIn scope.now (view_body starts.now) frame) }
 {
@@ -344,7 +348,7 @@ fn start_by(
 {
     let own = no_variables(alloc);
     let instances = no_instances(alloc);
-    let scope = Scope {
+    let scope = RoutineNames {
         globals,
         own: &own,
         instances: &instances,

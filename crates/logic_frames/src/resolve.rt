@@ -9,7 +9,7 @@ ghost use Rattle.st_tree.specs.Plain.{store};
 ghost use Rattle.st_tree.specs.Numbers.{count_stmt, count_body, count_branches, count_choices};
 ghost use Rattle.logic_frames.specs.Scoped.{scope_kinds, mapping_of, flat_expr, flat_option, flat_argument, flat_stmt, flat_body, flat_branches, flat_choices};
 
-use crate::scope::Scope;
+use crate::scope::RoutineNames;
 use plant_types::{Kind, Text};
 use st_tree::{
     Argument, Branch, Choice, Expr, Stmt, binary_result, copy_labels, resolved_binary,
@@ -20,7 +20,7 @@ use std::alloc::{AllocError, Global};
 /// Resolves an expression. Returns its kind too, which is right if its operators take their operands.
 fn resolve_kinded(
     alloc: Global,
-    scope: &Scope<'_>,
+    scope: &RoutineNames<'_>,
     expr: &Expr<Text>,
 ) -> Result<(Expr<usize>, Kind), AllocError>
     ensures expr { IfOk result (λ r. view_expr r.0 ≡ flat_expr scope.now (view_expr expr.now)) }
@@ -72,7 +72,7 @@ fn resolve_kinded(
 /// Resolves an expression.
 fn resolve_expr(
     alloc: Global,
-    scope: &Scope<'_>,
+    scope: &RoutineNames<'_>,
     expr: &Expr<Text>,
 ) -> Result<Expr<usize>, AllocError>
     ensures { IfOk result (λ e. view_expr e ≡ flat_expr scope.now (view_expr expr.now)) }
@@ -84,7 +84,7 @@ fn resolve_expr(
 /// Resolves an expression, if there is one.
 fn resolve_option(
     alloc: Global,
-    scope: &Scope<'_>,
+    scope: &RoutineNames<'_>,
     expr: &Option<Expr<Text>>,
 ) -> Result<Option<Expr<usize>>, AllocError>
     ensures { IfOk result (λ e. view_option e ≡ flat_option scope.now (view_option expr.now)) }
@@ -98,7 +98,7 @@ fn resolve_option(
 /// Resolves the bounds and the step of a FOR.
 fn resolve_range(
     alloc: Global,
-    scope: &Scope<'_>,
+    scope: &RoutineNames<'_>,
     from: &Expr<Text>,
     to: &Expr<Text>,
     by: &Option<Expr<Text>>,
@@ -115,7 +115,7 @@ fn resolve_range(
 /// Resolves an argument of a call of an instance.
 fn resolve_argument(
     alloc: Global,
-    scope: &Scope<'_>,
+    scope: &RoutineNames<'_>,
     instance: &Text,
     argument: &Argument<Text>,
 ) -> Result<Argument<usize>, AllocError>
@@ -137,7 +137,7 @@ fn resolve_argument(
 /// Resolves the arguments of a call of an instance, in their order.
 fn resolve_arguments(
     alloc: Global,
-    scope: &Scope<'_>,
+    scope: &RoutineNames<'_>,
     instance: &Text,
     arguments: &[Argument<Text>],
 ) -> Result<Vec<Argument<usize>>, AllocError>
@@ -166,7 +166,7 @@ fn next_number(number: &mut u32) -> u32
 /// Resolves an assignment to an element of an array, whose statement has this number.
 fn resolve_store(
     alloc: Global,
-    scope: &Scope<'_>,
+    scope: &RoutineNames<'_>,
     number: u32,
     array: &Text,
     index: &Expr<Text>,
@@ -192,7 +192,7 @@ fn resolve_store(
 #[cycle(resolve)]
 fn resolve_stmt(
     alloc: Global,
-    scope: &Scope<'_>,
+    scope: &RoutineNames<'_>,
     stmt: &Stmt<Text>,
     number: &mut u32,
 ) -> Result<Stmt<usize>, AllocError>
@@ -255,7 +255,7 @@ fn resolve_stmt(
 #[cycle(resolve)]
 fn resolve_branches(
     alloc: Global,
-    scope: &Scope<'_>,
+    scope: &RoutineNames<'_>,
     branches: &[Branch<Text>],
     number: &mut u32,
 ) -> Result<Vec<Branch<usize>>, AllocError>
@@ -278,7 +278,7 @@ fn resolve_branches(
 #[cycle(resolve)]
 fn resolve_choices(
     alloc: Global,
-    scope: &Scope<'_>,
+    scope: &RoutineNames<'_>,
     choices: &[Choice<Text>],
     number: &mut u32,
 ) -> Result<Vec<Choice<usize>>, AllocError>
@@ -301,7 +301,7 @@ fn resolve_choices(
 #[cycle(resolve)]
 pub fn resolve_body(
     alloc: Global,
-    scope: &Scope<'_>,
+    scope: &RoutineNames<'_>,
     body: &[Stmt<Text>],
     number: &mut u32,
 ) -> Result<Vec<Stmt<usize>>, AllocError>

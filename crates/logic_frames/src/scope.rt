@@ -11,7 +11,7 @@ use plant_types::{Bounds, Kind, same_word};
 
 /// The names that a routine may use: the globals, its own variables, the arrays of both, its instances, and the variables of each block type by number.
 #[derive(Drop)]
-pub struct Scope<'a> {
+pub struct RoutineNames<'a> {
     pub globals: &'a Variables,
     pub own: &'a Variables,
     pub instances: &'a Instances,
@@ -114,7 +114,7 @@ fn output_kind_by(members: &[Variables], block: Option<BlockRef>, name: &str) ->
     }
 }
 
-impl<'a> Scope<'a> {
+impl<'a> RoutineNames<'a> {
     /// How many cells the globals have: one for each variable, and one for each element of an array.
     fn global_cells(&self) -> usize
         ensures count { result ≡ scope_globals self.now }

@@ -6,12 +6,12 @@ use Rattle.std.proofs.lemmas.List.Elements.{All-head, All-tail}
 use Rattle.std.proofs.Math.ListN.{get_or-eq_default}
 use Rattle.std.specs.Prelude.{◌==◌, slice_index_or}
 use Rattle.std.specs.List.{list_any}
-use Rattle.plant_file.specs.declared.console.Console.{Console}
+use Rattle.plant_file.specs.declared.console.ListedConsole.{ListedConsole}
 use Rattle.plant_file.specs.PlantFiles.{IsConsole}
 use Rattle.plant_config.specs.Orderers.{has_area, orderers_of, SayWho}
 
 -- a number is among those of an area's consoles where a console of this number has the area
-among : (consoles : List Console) (number area : ℕ) → list_any (λ n. n == number) (orderers_of consoles area) ≡ list_any (has_area number area) consoles
+among : (consoles : List ListedConsole) (number area : ℕ) → list_any (λ n. n == number) (orderers_of consoles area) ≡ list_any (has_area number area) consoles
 among [] number area = refl
 among (console ∷ consoles) number area =
     let rest = among consoles number area in
@@ -36,7 +36,7 @@ past (a ∷ areas) area count within beyond =
     rw other rest
 
 -- no console has an area past all areas
-none_past : (listed : List (List ℕ)) (consoles : List Console) (number area : ℕ) → All (IsConsole listed) consoles → length listed ≤ area → list_any (has_area number area) consoles ≡ false
+none_past : (listed : List (List ℕ)) (consoles : List ListedConsole) (number area : ℕ) → All (IsConsole listed) consoles → length listed ≤ area → list_any (has_area number area) consoles ≡ false
 none_past listed [] number area within beyond = refl
 none_past listed (console ∷ consoles) number area within beyond =
     let here = past console.areas area (length listed) (All-head (IsConsole listed) console consoles within).areas beyond in
@@ -47,7 +47,7 @@ none_past listed (console ∷ consoles) number area within beyond =
     ]
 
 -- the lists of all areas say who may order
-pub say_who : (listed : List (List ℕ)) (consoles : List Console) (lists : List (List ℕ)) → length lists ≡ length listed → ((k : ℕ) → k < length listed → slice_index_or lists k [] ≡ orderers_of consoles k)
+pub say_who : (listed : List (List ℕ)) (consoles : List ListedConsole) (lists : List (List ℕ)) → length lists ≡ length listed → ((k : ℕ) → k < length listed → slice_index_or lists k [] ≡ orderers_of consoles k)
     → All (IsConsole listed) consoles → SayWho consoles lists
 say_who listed consoles lists long each within number area =
     elim (cases_lt area (length listed)) [
@@ -56,7 +56,7 @@ say_who listed consoles lists long each within number area =
     ]
 
 -- the numbers so far, once a console more was looked at
-pub looked : (consoles : List Console) (area index : ℕ) (console : Console) (numbers new : List ℕ) (has : Bool) → index < length consoles → console ≡ get_or consoles index console
+pub looked : (consoles : List ListedConsole) (area index : ℕ) (console : ListedConsole) (numbers new : List ℕ) (has : Bool) → index < length consoles → console ≡ get_or consoles index console
     → has ≡ list_any (λ a. a == area) console.areas → new ≡ cond has (numbers ++ console.number ∷ []) numbers
     → numbers ++ orderers_of (drop index consoles) area ≡ orderers_of consoles area → new ++ orderers_of (drop (index + 1) consoles) area ≡ orderers_of consoles area
 looked consoles area index console numbers new has less item has_is new_is kept =

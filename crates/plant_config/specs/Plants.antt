@@ -5,7 +5,7 @@ use Rattle.std.specs.Str.{bytes_eq}
 use Rattle.base_stamps.specs.Stamps.{epoch_bound}
 use Rattle.plant_file.specs.Lists.{repeats}
 use Rattle.plant_file.specs.PlantFiles.{PlainPlantFile, IsConsole, numbers_clash}
-use Rattle.plant_file.specs.declared.console.Console.{Console}
+use Rattle.plant_file.specs.declared.console.ListedConsole.{ListedConsole}
 use Rattle.logic_source.specs.declared.logic.Variable.{Variable}
 use Rattle.logic_source.specs.Source.{Source}
 use Rattle.vm_logic.specs.Sound.{IsSound}
@@ -15,7 +15,7 @@ use Rattle.plant_config.specs.declared.rows.AlarmRow.{AlarmRow}
 pub record PlainPlant : Type 0 where
   pub source : Source
   pub areas : List (List ℕ)
-  pub consoles : List Console
+  pub consoles : List ListedConsole
   pub alarms : List AlarmRow
   pub epoch : ℕ
 

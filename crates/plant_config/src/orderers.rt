@@ -10,7 +10,7 @@ use crate::fault::ConfigFault;
 use crate::files::Handed;
 use crate::limits::check_limits;
 use base_stamps::Epoch;
-use plant_file::{Console, PlantFile};
+use plant_file::{ListedConsole, PlantFile};
 use plant_types::Items;
 use std::alloc::{AllocError, Global};
 
@@ -22,7 +22,11 @@ fn is_among(areas: &[usize], area: usize) -> bool
 }
 
 /// The numbers of the consoles that have an area, in order.
-fn orderers_of(alloc: Global, consoles: &[Console], area: usize) -> Result<Items<u32>, AllocError>
+fn orderers_of(
+    alloc: Global,
+    consoles: &[ListedConsole],
+    area: usize,
+) -> Result<Items<u32>, AllocError>
     ensures { IfOk result (λ numbers. numbers ≡ orderers_of consoles.now area) }
 {
     let mut numbers = Vec::new(alloc);

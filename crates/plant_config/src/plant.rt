@@ -29,7 +29,7 @@ use crate::spelling::{refused, units_of};
 use alarm_db::Tags;
 use base_stamps::Epoch;
 use logic_source::Variable;
-use plant_file::{Console, PlantFile};
+use plant_file::{ListedConsole, PlantFile};
 use plant_types::{Items, same_word};
 use st_parser::Unit;
 use st_typing::{Typed, check};
@@ -392,7 +392,7 @@ impl Plant {
     }
 
     /// The consoles, in the order in which the plant lists them.
-    pub fn consoles(&self) -> &[Console]
+    pub fn consoles(&self) -> &[ListedConsole]
         ensures consoles { result.now ≡ self.now.consoles }
         ensures plant { IsPlant self.now }
     {

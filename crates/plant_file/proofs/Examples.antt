@@ -3,11 +3,11 @@ use Rattle.std.proofs.Common.{◌≡◌, ℕ, pos, List, [], ◌∷◌, Some, No
 use Rattle.std.specs.Str.{chars, is_utf8}
 use Rattle.toml.specs.Data.{Data, string, integer, array, table, Items, no_items, item, Members, no_members, member}
 use Rattle.toml.proofs.OnLiterals.{toml_on_literals}
-use Rattle.plant_file.specs.declared.console.Console.{Console}
+use Rattle.plant_file.specs.declared.console.ListedConsole.{ListedConsole}
 use Rattle.plant_file.specs.PlantFiles.{plant_file}
 use Rattle.plant_file.specs.Read.{document_in, plant_file_in}
 
-abbrev console : ℕ → List ℕ → Console
+abbrev console : ℕ → List ℕ → ListedConsole
 console number areas = record { number = number; areas = areas }
 
 abbrev console_table : ℕ → Items → Data

@@ -13,7 +13,7 @@ use Rattle.std.specs.Str.{bytes_eq}
 use Rattle.toml.specs.Data.{Items, no_items, item, Members, as_table}
 use Rattle.plant_file.specs.Lists.{◌>>=◌, passing, repeats}
 use Rattle.plant_file.specs.PlantFiles.{PlainPlantFile, IsPlantFile, IsConsole, is_sized, is_tag, list_at, text_at, texts, texts_at, number_in, integer_at, has_key, has_only, name_in, areas_in, sources_in, alarms_in, numbers_of, console_number, console_of, consoles_of, consoles_in, numbers_clash}
-use Rattle.plant_file.specs.declared.console.Console.{Console}
+use Rattle.plant_file.specs.declared.console.ListedConsole.{ListedConsole}
 
 -- where something came of a value, there was one
 bound : {A B : Type 0} (o : Option A) (f : A → Option B) (y : B) → (o >>= f) ≡ Some y → (x : A) × (o ≡ Some x) × (f x ≡ Some y)
@@ -108,7 +108,7 @@ number_within (pos m) n e =
     (grind (arith, nat_tests, low), grind (arith, nat_tests, high))
 number_within (negsuc m) n e = absurd (cc e)
 
-console_right : (areas : List (List ℕ)) (members : Members) (console : Console) → console_of areas members ≡ Some console → IsConsole areas console
+console_right : (areas : List (List ℕ)) (members : Members) (console : ListedConsole) → console_of areas members ≡ Some console → IsConsole areas console
 console_right areas members console e =
     let f = chosen (has_only (codes "number" ∷ codes "areas" ∷ []) members) (number_in members >>= (λ number. texts_at (codes "areas") members >>= numbers_of areas >>= (λ its. Some (record { number = number; areas = its })))) console e in
     let (number, is, g) = bound (number_in members) (λ number. texts_at (codes "areas") members >>= numbers_of areas >>= (λ its. Some (record { number = number; areas = its }))) console f in
@@ -119,7 +119,7 @@ console_right areas members console e =
     let (low, high) = number_within z number known in
     rw (← same) (record { lowest = low; highest = high; areas = numbers_within areas names its within; areas_once = numbers_once areas names its within (once_in (codes "areas") members names named) })
 
-consoles_right : (areas : List (List ℕ)) (items : Items) (consoles : List Console) → consoles_of areas items ≡ Some consoles → All (IsConsole areas) consoles
+consoles_right : (areas : List (List ℕ)) (items : Items) (consoles : List ListedConsole) → consoles_of areas items ≡ Some consoles → All (IsConsole areas) consoles
 consoles_right areas no_items consoles e = let same : [] ≡ consoles = same_Some _ _ e in rw (← same) (All-nil (IsConsole areas))
 consoles_right areas (item value items) consoles e =
     let (console, is, f) = bound (as_table value >>= console_of areas) (λ console. consoles_of areas items >>= (λ more. Some (console ∷ more))) consoles e in
@@ -128,12 +128,12 @@ consoles_right areas (item value items) consoles e =
     let same : console ∷ more ≡ consoles = same_Some _ _ g in
     rw (← same) (All-cons (IsConsole areas) console more (console_right areas members console known) (consoles_right areas items more are))
 
-listed_right : (members : Members) (areas : List (List ℕ)) (consoles : List Console) → consoles_in areas members ≡ Some consoles → All (IsConsole areas) consoles × (numbers_clash consoles ≡ false)
+listed_right : (members : Members) (areas : List (List ℕ)) (consoles : List ListedConsole) → consoles_in areas members ≡ Some consoles → All (IsConsole areas) consoles × (numbers_clash consoles ≡ false)
 listed_right members areas consoles e =
     elim (cases_Bool (has_key (codes "console") members)) [
       | inl there ↦
-          let listed : (list_at (codes "console") members >>= consoles_of areas >>= passing (λ (cs : List Console). not (numbers_clash cs))) ≡ Some consoles = rw there at e in
-          let (are, fit) = passing_of (λ (cs : List Console). not (numbers_clash cs)) (list_at (codes "console") members >>= consoles_of areas) consoles listed in
+          let listed : (list_at (codes "console") members >>= consoles_of areas >>= passing (λ (cs : List ListedConsole). not (numbers_clash cs))) ≡ Some consoles = rw there at e in
+          let (are, fit) = passing_of (λ (cs : List ListedConsole). not (numbers_clash cs)) (list_at (codes "console") members >>= consoles_of areas) consoles listed in
           let (items, _, known) = bound (list_at (codes "console") members) (consoles_of areas) consoles are in
           (consoles_right areas items consoles known, not_true (numbers_clash consoles) fit)
       | inr missing ↦

@@ -5,7 +5,7 @@ use Rattle.std.specs.Str.{bytes_eq}
 use Rattle.std.specs.Char.{is_ascii_alphanumeric}
 use Rattle.toml.specs.Data.{Items, no_items, item, Members, no_members, member, get_member, as_str, as_integer, as_array, as_table}
 use Rattle.plant_file.specs.Lists.{◌>>=◌, passing, repeats}
-use Rattle.plant_file.specs.declared.console.Console.{Console}
+use Rattle.plant_file.specs.declared.console.ListedConsole.{ListedConsole}
 
 -- a plant file: the plant's name, the text of its epoch, its areas, the files of its sources and of its alarms, and its consoles, whose areas are numbers in `areas`, from 0
 pub record PlainPlantFile : Type 0 where
@@ -14,7 +14,7 @@ pub record PlainPlantFile : Type 0 where
   pub areas : List (List ℕ)
   pub sources : List (List ℕ)
   pub alarms : List ℕ
-  pub consoles : List Console
+  pub consoles : List ListedConsole
 
 -- a text of so many bytes
 abbrev pub is_sized : ℕ → ℕ → List ℕ → Bool
@@ -93,23 +93,23 @@ abbrev pub number_in : Members → Option ℕ
 number_in members = integer_at (codes "number") members >>= console_number
 
 -- a console is a table with a number and a list of areas, each of which is an area of the plant
-abbrev pub console_of : List (List ℕ) → Members → Option Console
+abbrev pub console_of : List (List ℕ) → Members → Option ListedConsole
 console_of areas members =
     if has_only (codes "number" ∷ codes "areas" ∷ []) members
     then number_in members >>= (λ number. texts_at (codes "areas") members >>= numbers_of areas >>= (λ its. Some (record { number = number; areas = its })))
     else None
 
 -- the consoles of a list, in order
-abbrev pub consoles_of : List (List ℕ) → Items → Option (List Console)
+abbrev pub consoles_of : List (List ℕ) → Items → Option (List ListedConsole)
 consoles_of areas no_items = Some []
 consoles_of areas (item value items) = as_table value >>= console_of areas >>= (λ console. consoles_of areas items >>= (λ more. Some (console ∷ more)))
 
 -- a number is that of two consoles
-abbrev pub numbers_clash : List Console → Bool
-numbers_clash consoles = repeats nat_eq (map (λ (console : Console). console.number) consoles)
+abbrev pub numbers_clash : List ListedConsole → Bool
+numbers_clash consoles = repeats nat_eq (map (λ (console : ListedConsole). console.number) consoles)
 
 -- `console`: a list of consoles, no two of one number; none where the key is missing
-abbrev pub consoles_in : List (List ℕ) → Members → Option (List Console)
+abbrev pub consoles_in : List (List ℕ) → Members → Option (List ListedConsole)
 consoles_in areas members =
     if has_key (codes "console") members
     then list_at (codes "console") members >>= consoles_of areas >>= passing (λ consoles. not (numbers_clash consoles))
@@ -128,7 +128,7 @@ plant_file members =
     else None
 
 -- what holds of each console of a plant file
-pub record IsConsole (listed : List (List ℕ)) (console : Console) : Type 0 where
+pub record IsConsole (listed : List (List ℕ)) (console : ListedConsole) : Type 0 where
   pub lowest : 1 ≤ console.number
   pub highest : console.number ≤ 999999999
   pub areas : All (λ area. area < length listed) console.areas

@@ -12,29 +12,29 @@ use std::alloc::{AllocError, Global};
 use toml::{Table, Value};
 
 /// An operator's console.
-pub struct Console {
+pub struct ListedConsole {
     /// Its number in the plant file, 1 to 999999999.
     pub number: u32,
     /// The areas whose alarms it may order, each by its number, from 0, in the list of the plant's areas.
     pub areas: Items<usize>,
 }
 
-impl Drop for Console {
+impl Drop for ListedConsole {
     fn drop(self) {
-        let Console {
+        let ListedConsole {
             number: _,
             areas: _,
         } = self;
     }
 }
 
-impl Console {
+impl ListedConsole {
     /// The same console.
-    pub(crate) fn copy(&self, alloc: Global) -> Result<Console, AllocError>
+    pub(crate) fn copy(&self, alloc: Global) -> Result<ListedConsole, AllocError>
         ensures { IfOk result (λ copy. copy ≡ self.now) }
     {
         let areas = Vec::from_slice(alloc, self.areas.as_slice())?;
-        Ok(Console {
+        Ok(ListedConsole {
             number: self.number,
             areas: Items::from_vec(areas),
         })
@@ -83,7 +83,11 @@ fn numbers_of(
 }
 
 /// The console of a table; `None` if it is none.
-fn console_of(alloc: Global, areas: &TextSet, table: &Table) -> Result<Option<Console>, AllocError>
+fn console_of(
+    alloc: Global,
+    areas: &TextSet,
+    table: &Table,
+) -> Result<Option<ListedConsole>, AllocError>
     ensures { IfOk result (λ console. console ≡ console_of areas.now (table_view table.now)) }
 {
     if !has_only(table, &["number", "areas"]) {
@@ -98,7 +102,7 @@ fn console_of(alloc: Global, areas: &TextSet, table: &Table) -> Result<Option<Co
     let Some(areas) = numbers_of(alloc, areas, names.as_slice())? else {
         return Ok(None);
     };
-    Ok(Some(Console { number, areas }))
+    Ok(Some(ListedConsole { number, areas }))
 }
 
 /// The consoles of a list; `None` if an item is no console.
@@ -106,7 +110,7 @@ fn consoles_of(
     alloc: Global,
     areas: &TextSet,
     items: &[Value],
-) -> Result<Option<Items<Console>>, AllocError>
+) -> Result<Option<Items<ListedConsole>>, AllocError>
     ensures { IfOk result (λ consoles. consoles ≡ consoles_of areas.now (items_view items.now)) }
 {
     let mut consoles = Vec::new(alloc);
@@ -123,7 +127,7 @@ fn consoles_of(
 }
 
 /// Whether two consoles have one number.
-fn numbers_clash(alloc: Global, consoles: &[Console]) -> Result<bool, AllocError>
+fn numbers_clash(alloc: Global, consoles: &[ListedConsole]) -> Result<bool, AllocError>
     ensures { IfOk result (λ clash. clash ≡ numbers_clash consoles.now) }
 {
     let mut numbers = IndexSet::new(alloc);
@@ -140,7 +144,7 @@ pub fn consoles_in(
     alloc: Global,
     areas: &TextSet,
     table: &Table,
-) -> Result<Option<Items<Console>>, AllocError>
+) -> Result<Option<Items<ListedConsole>>, AllocError>
     ensures { IfOk result (λ consoles. consoles ≡ consoles_in areas.now (table_view table.now)) }
 {
     if !has_key(table, "console") {
@@ -159,7 +163,10 @@ pub fn consoles_in(
 }
 
 /// The same consoles in the same order.
-pub fn copy_consoles(alloc: Global, consoles: &[Console]) -> Result<Items<Console>, AllocError>
+pub fn copy_consoles(
+    alloc: Global,
+    consoles: &[ListedConsole],
+) -> Result<Items<ListedConsole>, AllocError>
     ensures { IfOk result (λ copies. copies ≡ consoles.now) }
 {
     let mut copies = Vec::new(alloc);

@@ -3,7 +3,7 @@
 ghost use Rattle.std.specs.Prelude.{◌≡◌, IfOk};
 ghost use Rattle.plant_file.specs.PlantFiles.{IsPlantFile};
 
-use crate::console::{Console, copy_consoles};
+use crate::console::{ListedConsole, copy_consoles};
 use crate::texts::{TextSet, copy_texts, set_of};
 use plant_types::{Items, Text};
 use std::alloc::{AllocError, Global};
@@ -16,7 +16,7 @@ pub struct PlantFile {
     pub(crate) areas: Items<Text>,
     pub(crate) sources: Items<Text>,
     pub(crate) alarms: Text,
-    pub(crate) consoles: Items<Console>,
+    pub(crate) consoles: Items<ListedConsole>,
 }
 
 impl Drop for PlantFile {
@@ -91,7 +91,7 @@ impl PlantFile {
     }
 
     /// The plant's consoles. No two have one number.
-    pub fn consoles(&self) -> &[Console]
+    pub fn consoles(&self) -> &[ListedConsole]
         ensures consoles { result.now ≡ self.now.consoles }
         ensures file { IsPlantFile self.now }
     {

@@ -18,7 +18,7 @@ mod table;
 mod texts;
 mod unread;
 
-pub use console::Console;
+pub use console::ListedConsole;
 pub use fault::PlantFileFault;
 pub use file::PlantFile;
 pub use mistakes::{Mistake, Mistakes, Why};

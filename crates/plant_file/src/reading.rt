@@ -6,7 +6,7 @@ ghost use Rattle.toml.specs.View.{table_view};
 ghost use Rattle.plant_file.specs.PlantFiles.{IsPlantFile, alarms_in, areas_in, is_sized, is_tag, name_in, plant_file, sources_in};
 ghost use Rattle.plant_file.specs.Read.{IsRefused, document_in, plant_file_in};
 
-use crate::console::{Console, consoles_in};
+use crate::console::{ListedConsole, consoles_in};
 use crate::fault::PlantFileFault;
 use crate::file::PlantFile;
 use crate::mistakes::mistakes_in;
@@ -120,7 +120,7 @@ fn file_with(
     areas: &TextSet,
     sources: &TextSet,
     alarms: &str,
-    consoles: Items<Console>,
+    consoles: Items<ListedConsole>,
 ) -> Result<PlantFile, AllocError>
     requires { IsPlantFile
         (record {

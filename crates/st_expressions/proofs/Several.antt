@@ -4,8 +4,8 @@ use Rattle.std.specs.Prelude.{option_map}
 use Rattle.st_expressions.specs.Lexemes.{Lexeme}
 use Rattle.st_expressions.specs.Outcome.{Fails}
 use Rattle.st_expressions.specs.Reading.{◌>>=◌, with_first, many, perhaps_at}
-use Rattle.st_expressions.specs.declared.stop.Stop.{Stop}
-use Rattle.st_expressions.specs.declared.stop.Stop.TheVariants as stop
+use Rattle.st_expressions.specs.declared.stop.ParseStop.{ParseStop}
+use Rattle.st_expressions.specs.declared.stop.ParseStop.TheVariants as stop
 use Rattle.st_expressions.proofs.Steps.{same_some}
 use Rattle.st_expressions.proofs.Many.{many_goes, many_ends}
 
@@ -41,7 +41,7 @@ module _ {A : Type 0} where
   many_fail starts one_at before (suc fuel) ts h = let (some, none) = one_fails (starts ts) (one_at ts) ts h in rw (some, none) refl
 
   -- what stops one of them stops all
-  pub several_stop : (starts : List Lexeme → Bool) (one_at : List Lexeme → Option (A × List Lexeme)) (before : List A) (fuel : ℕ) (ts : List Lexeme) (e : Stop) → Fails e (perhaps_at starts one_at ts) → Fails e (with_first before (many starts one_at fuel ts))
+  pub several_stop : (starts : List Lexeme → Bool) (one_at : List Lexeme → Option (A × List Lexeme)) (before : List A) (fuel : ℕ) (ts : List Lexeme) (e : ParseStop) → Fails e (perhaps_at starts one_at ts) → Fails e (with_first before (many starts one_at fuel ts))
   several_stop starts one_at before fuel ts stop.Memory h = tt
   several_stop starts one_at before fuel ts (stop.Left n) h = many_fail starts one_at before fuel ts h
 

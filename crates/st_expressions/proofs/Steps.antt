@@ -11,8 +11,8 @@ use Rattle.st_lexer.specs.declared.token.TokenKind.TheVariants as kind
 use Rattle.st_expressions.specs.Lexemes.{Lexeme, word, keyword, symbol, lexeme_of, first_name}
 use Rattle.st_expressions.specs.Reading.{Answer, tree_of, ◌>>=◌, word_at, is_symbol, is_keyword, symbol_at, keyword_at}
 use Rattle.st_expressions.specs.Outcome.{Fails}
-use Rattle.st_expressions.specs.declared.stop.Stop.{Stop}
-use Rattle.st_expressions.specs.declared.stop.Stop.TheVariants as stop
+use Rattle.st_expressions.specs.declared.stop.ParseStop.{ParseStop}
+use Rattle.st_expressions.specs.declared.stop.ParseStop.TheVariants as stop
 
 pub both_ways : (l k : ℕ) → ((nat_le l k ≡ true) × (l ≤ k)) ⊎ ((nat_le l k ≡ false) × (k < l))
 both_ways l k = leb_tells l k
@@ -84,6 +84,6 @@ first_is k name ts rest is =
     subst (λ (l : List Lexeme). l ≡ lexeme_of k (first_name l) ∷ drop 1 l) (sym is) (ap (λ l. l ∷ rest) (same_first k name rest))
 
 -- what stops an expression stops it without its depth
-pub fails_tree : (s : Stop) (a : Answer) → Fails s a → Fails s (tree_of a)
+pub fails_tree : (s : ParseStop) (a : Answer) → Fails s a → Fails s (tree_of a)
 fails_tree stop.Memory a h = tt
 fails_tree (stop.Left n) a h = ap tree_of h

@@ -9,7 +9,7 @@ ghost use Rattle.st_expressions.specs.Outcome.{Returns};
 ghost use Rattle.st_expressions.specs.Reading.{operator_at, index_at, variable_at, reference_at, minus_at, operand as operand_at, prefixed as prefixed_at, chain as chain_at, climb, expression_at};
 
 use crate::reader::Reader;
-use crate::stop::Stop;
+use crate::stop::ParseStop;
 use plant_types::{Bounds, Text, Value};
 use st_lexer::{Keyword, Symbol, TokenKind};
 use st_tree::{Binary, Expr, Literal, Unary};
@@ -112,7 +112,7 @@ pub fn negated(n: u32) -> i32
 }
 
 /// Parses an expression.
-pub fn expression(alloc: Global, reader: &mut Reader) -> Result<Expr<Text>, Stop>
+pub fn expression(alloc: Global, reader: &mut Reader) -> Result<Expr<Text>, ParseStop>
     ensures { Returns (λ e. (view_expr e, reader.new)) result (expression_at reader.old) }
 {
     let (expr, _depth) = climb(alloc, DEPTH, 0, reader)?;
@@ -126,7 +126,7 @@ fn climb(
     limit: u32,
     level_wanted: u32,
     reader: &mut Reader,
-) -> Result<(Expr<Text>, u32), Stop>
+) -> Result<(Expr<Text>, u32), ParseStop>
     ensures read { Returns (λ x. (view_expr x.0, x.1, reader.new)) result
         (climb limit level_wanted reader.old) }
     ensures deep { IfOk result (λ x. x.1 ≤ limit) }
@@ -151,7 +151,7 @@ fn leaf(value: Value, reader: &mut Reader) -> (Expr<Text>, u32)
 /// Parses an operand whose parts are at most `deeper` deep, and returns it with its depth.
 #[cycle(expr)]
 #[tactic(auto, unfolding(crate::specs::Reading::operand))]
-fn operand(alloc: Global, deeper: u32, reader: &mut Reader) -> Result<(Expr<Text>, u32), Stop>
+fn operand(alloc: Global, deeper: u32, reader: &mut Reader) -> Result<(Expr<Text>, u32), ParseStop>
     requires { deeper < u32.MAX }
     ensures read { Returns (λ x. (view_expr x.0, x.1, reader.new)) result
         (operand_at (climb deeper) reader.old) }
@@ -196,7 +196,7 @@ fn reference(
     word: Text,
     deeper: u32,
     reader: &mut Reader,
-) -> Result<(Expr<Text>, u32), Stop>
+) -> Result<(Expr<Text>, u32), ParseStop>
     requires { deeper < u32.MAX }
     ensures read { Returns (λ x. (view_expr x.0, x.1, reader.new)) result
         (reference_at (climb deeper) word reader.old) }
@@ -221,7 +221,7 @@ fn indexed(
     word: Text,
     deeper: u32,
     reader: &mut Reader,
-) -> Result<(Expr<Text>, u32), Stop>
+) -> Result<(Expr<Text>, u32), ParseStop>
     requires { deeper < u32.MAX }
     ensures read { Returns (λ x. (view_expr x.0, x.1, reader.new)) result
         (index_at (climb deeper) word (drop 1 reader.old)) }
@@ -251,7 +251,7 @@ fn element_of(alloc: Global, name: Text, index: Expr<Text>) -> Result<Expr<Text>
 
 /// Parses the operand after a minus. With an integer it is one literal.
 #[cycle(expr)]
-fn minus(alloc: Global, deeper: u32, reader: &mut Reader) -> Result<(Expr<Text>, u32), Stop>
+fn minus(alloc: Global, deeper: u32, reader: &mut Reader) -> Result<(Expr<Text>, u32), ParseStop>
     requires { deeper < u32.MAX }
     ensures read { Returns (λ x. (view_expr x.0, x.1, reader.new)) result
         (minus_at (climb deeper) reader.old) }
@@ -276,7 +276,7 @@ fn prefixed(
     op: Unary,
     deeper: u32,
     reader: &mut Reader,
-) -> Result<(Expr<Text>, u32), Stop>
+) -> Result<(Expr<Text>, u32), ParseStop>
     requires { deeper < u32.MAX }
     ensures read { Returns (λ x. (view_expr x.0, x.1, reader.new)) result
         (prefixed_at op (climb deeper top reader.old)) }
@@ -319,7 +319,7 @@ fn chain(
     first: Expr<Text>,
     first_depth: u32,
     reader: &mut Reader,
-) -> Result<(Expr<Text>, u32), Stop>
+) -> Result<(Expr<Text>, u32), ParseStop>
     requires some { 0 < limit }
     requires fits { first_depth ≤ limit }
     ensures read { Returns (λ x. (view_expr x.0, x.1, reader.new)) result

@@ -13,4 +13,4 @@ mod stop;
 pub use expr::{expression, negated, unknown_bounds};
 pub use phrases::{Phrase, parse_after, parse_all};
 pub use reader::Reader;
-pub use stop::Stop;
+pub use stop::ParseStop;

@@ -6,7 +6,7 @@ ghost use Rattle.st_expressions.specs.Outcome.{Returns};
 ghost use Rattle.st_expressions.specs.Reading.{with_first, all_at, perhaps_at};
 
 use crate::reader::Reader;
-use crate::stop::Stop;
+use crate::stop::ParseStop;
 use std::alloc::Global;
 
 /// A phrase of which several may stand one after another.
@@ -25,7 +25,7 @@ pub trait Phrase {
     ghost one_at: { Self → List Lexeme → Option (Plain × List Lexeme) };
 
     /// Parses one, if one is next; `None` otherwise.
-    fn parse(&self, alloc: Global, reader: &mut Reader) -> Result<Option<Self::Tree>, Stop>
+    fn parse(&self, alloc: Global, reader: &mut Reader) -> Result<Option<Self::Tree>, ParseStop>
         ensures { Returns (λ tree. (option_map view tree, reader.new)) result
             (perhaps_at (starts self.now) (one_at self.now) reader.old) };
 }
@@ -36,7 +36,7 @@ fn parse_more<P: Phrase>(
     phrase: &P,
     before: Vec<P::Tree>,
     reader: &mut Reader,
-) -> Result<Vec<P::Tree>, Stop>
+) -> Result<Vec<P::Tree>, ParseStop>
     ensures { Returns (λ all. (map P.view all.items, reader.new)) result
         (with_first (map P.view before.items)
         (all_at (P.starts phrase.now) (P.one_at phrase.now) reader.old)) }
@@ -60,7 +60,7 @@ pub fn parse_all<P: Phrase>(
     alloc: Global,
     phrase: &P,
     reader: &mut Reader,
-) -> Result<Vec<P::Tree>, Stop>
+) -> Result<Vec<P::Tree>, ParseStop>
     ensures { Returns (λ all. (map P.view all.items, reader.new)) result
         (all_at (P.starts phrase.now) (P.one_at phrase.now) reader.old) }
 {
@@ -73,7 +73,7 @@ pub fn parse_after<P: Phrase>(
     phrase: &P,
     first: P::Tree,
     reader: &mut Reader,
-) -> Result<Vec<P::Tree>, Stop>
+) -> Result<Vec<P::Tree>, ParseStop>
     ensures { Returns (λ all. (map P.view all.items, reader.new)) result
         (with_first (P.view first ∷ [])
         (all_at (P.starts phrase.now) (P.one_at phrase.now) reader.old)) }

@@ -5,7 +5,7 @@ ghost use Rattle.st_expressions.specs.Lexemes.{lexemes, lexeme_of, first_name, s
 ghost use Rattle.st_expressions.specs.Reading.{word_at, is_symbol, is_keyword, is_word, symbol_at, keyword_at};
 ghost use Rattle.st_expressions.specs.Outcome.{Returns};
 
-use crate::stop::Stop;
+use crate::stop::ParseStop;
 use plant_types::Text;
 use st_lexer::{Keyword, Symbol, Token, TokenKind};
 use std::alloc::Global;
@@ -43,10 +43,10 @@ impl<'a> Reader<'a> {
     }
 
     /// The fault at the next token.
-    pub fn stop(&self) -> Stop
-        ensures { result ≡ Stop.Left (length self.now) }
+    pub fn stop(&self) -> ParseStop
+        ensures { result ≡ ParseStop.Left (length self.now) }
     {
-        Stop::Left(self.tokens.len())
+        ParseStop::Left(self.tokens.len())
     }
 
     /// The kind of the next token; `None` at the end.
@@ -99,7 +99,7 @@ impl<'a> Reader<'a> {
     }
 
     /// Goes past this symbol; fails if another token is next.
-    pub fn symbol(&mut self, wanted: Symbol) -> Result<(), Stop>
+    pub fn symbol(&mut self, wanted: Symbol) -> Result<(), ParseStop>
         ensures { Returns (λ _. self.new) result (symbol_at wanted self.old) }
     {
         if self.is_symbol(wanted) {
@@ -111,7 +111,7 @@ impl<'a> Reader<'a> {
     }
 
     /// Goes past this keyword; fails if another token is next.
-    pub fn keyword(&mut self, wanted: Keyword) -> Result<(), Stop>
+    pub fn keyword(&mut self, wanted: Keyword) -> Result<(), ParseStop>
         ensures { Returns (λ _. self.new) result (keyword_at wanted self.old) }
     {
         if self.is_keyword(wanted) {
@@ -123,7 +123,7 @@ impl<'a> Reader<'a> {
     }
 
     /// Goes past this symbol, which stands after what was parsed, and returns that; lets it go and fails if another token is next.
-    pub fn symbol_after<T: Drop>(&mut self, parsed: T, wanted: Symbol) -> Result<T, Stop>
+    pub fn symbol_after<T: Drop>(&mut self, parsed: T, wanted: Symbol) -> Result<T, ParseStop>
         ensures read { Returns (λ _. self.new) result (symbol_at wanted self.old) }
         ensures kept { IfOk result (λ kept. kept ≡ parsed) }
     {
@@ -132,7 +132,7 @@ impl<'a> Reader<'a> {
     }
 
     /// Goes past this keyword, which stands after what was parsed, and returns that; lets it go and fails if another token is next.
-    pub fn keyword_after<T: Drop>(&mut self, parsed: T, wanted: Keyword) -> Result<T, Stop>
+    pub fn keyword_after<T: Drop>(&mut self, parsed: T, wanted: Keyword) -> Result<T, ParseStop>
         ensures read { Returns (λ _. self.new) result (keyword_at wanted self.old) }
         ensures kept { IfOk result (λ kept. kept ≡ parsed) }
     {
@@ -141,7 +141,7 @@ impl<'a> Reader<'a> {
     }
 
     /// Parses a word, and returns it as it is spelled.
-    pub fn word(&mut self, alloc: Global) -> Result<Text, Stop>
+    pub fn word(&mut self, alloc: Global) -> Result<Text, ParseStop>
         ensures { Returns (λ name. (name, self.new)) result (word_at self.old) }
     {
         let Some((first, rest)) = self.tokens.split_first() else {

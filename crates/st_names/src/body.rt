@@ -10,7 +10,7 @@ use crate::declared::{Declared, declared_in};
 use crate::named::{sort_array, sort_kind};
 use crate::scope::Scope;
 use crate::shared::SharedNames;
-use crate::table::Table;
+use crate::table::NameTable;
 use plant_types::{Bounds, Kind, Region, Text};
 use st_parser::{Section, SectionKind, Sort};
 use std::alloc::{AllocError, Global};
@@ -21,7 +21,7 @@ use std::marker::Model;
 pub struct BodyScope<'a> {
     shared: &'a SharedNames<'a>,
     declared: Vec<Declared<'a>>,
-    own: Table<Declared<'a>>,
+    own: NameTable<Declared<'a>>,
 }
 
 impl<'a> Model for BodyScope<'a> {
@@ -39,10 +39,13 @@ impl<'a> Model for BodyScope<'a> {
 }
 
 /// The first declaration of each name.
-fn own_entries<'a>(alloc: Global, list: &[Declared<'a>]) -> Result<Table<Declared<'a>>, AllocError>
+fn own_entries<'a>(
+    alloc: Global,
+    list: &[Declared<'a>],
+) -> Result<NameTable<Declared<'a>>, AllocError>
     ensures { IfOk result (λ table. table ≡ own_entries list.now) }
 {
-    let mut table = Table::new(alloc);
+    let mut table = NameTable::new(alloc);
     for declared in list {
         let name = declared.name();
         table.add(alloc, name.as_str(), declared.copy())?;

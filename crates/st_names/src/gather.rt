@@ -10,7 +10,7 @@ ghost use Rattle.st_names.specs.Kept.{member_entry, members_of, named_of, shared
 
 use crate::declared::{Declared, declared_in, first_declared};
 use crate::named::{Members, Named, sort_kind};
-use crate::table::Table;
+use crate::table::NameTable;
 use st_parser::{Pou, PouKind, Section, SectionKind, Unit};
 use std::alloc::{AllocError, Global};
 
@@ -82,8 +82,8 @@ fn members_of(alloc: Global, block: &Pou) -> Result<Members, AllocError>
     ensures { IfOk result (λ members. members ≡ members_of (view_pou block.now)) }
 {
     let mut members = Members {
-        inputs: Table::new(alloc),
-        outputs: Table::new(alloc),
+        inputs: NameTable::new(alloc),
+        outputs: NameTable::new(alloc),
     };
     match add_declared(alloc, &mut members, &block.sections) {
         Ok(()) => Ok(members),
@@ -107,7 +107,7 @@ fn named_of<'a>(alloc: Global, declaration: &Pou) -> Result<Named<'a>, AllocErro
 /// Adds globals.
 fn add_globals<'a>(
     alloc: Global,
-    table: &mut Table<Named<'a>>,
+    table: &mut NameTable<Named<'a>>,
     list: &[Declared<'a>],
 ) -> Result<(), AllocError>
     ensures { IfOk result (λ _. table.new
@@ -121,7 +121,11 @@ fn add_globals<'a>(
 }
 
 /// Adds blocks and programs.
-fn add_pous<'a>(alloc: Global, table: &mut Table<Named<'a>>, pous: &[Pou]) -> Result<(), AllocError>
+fn add_pous<'a>(
+    alloc: Global,
+    table: &mut NameTable<Named<'a>>,
+    pous: &[Pou],
+) -> Result<(), AllocError>
     ensures { IfOk result (λ _. table.new
         ≡ with_entries table.old (map shared_entry (map pou (map view_pou pous.now)))) }
 {
@@ -134,7 +138,7 @@ fn add_pous<'a>(alloc: Global, table: &mut Table<Named<'a>>, pous: &[Pou]) -> Re
 /// Adds what a source shares.
 fn add_unit<'a>(
     alloc: Global,
-    table: &mut Table<Named<'a>>,
+    table: &mut NameTable<Named<'a>>,
     unit: &'a Unit,
 ) -> Result<(), AllocError>
     ensures { IfOk result (λ _. table.new
@@ -151,7 +155,7 @@ fn add_unit<'a>(
 /// Adds what sources share.
 fn add_units<'a>(
     alloc: Global,
-    table: &mut Table<Named<'a>>,
+    table: &mut NameTable<Named<'a>>,
     units: &'a [Unit],
 ) -> Result<(), AllocError>
     ensures { IfOk result (λ _. table.new
@@ -164,10 +168,13 @@ fn add_units<'a>(
 }
 
 /// The first declaration of each name that sources share.
-pub fn shared_entries<'a>(alloc: Global, units: &'a [Unit]) -> Result<Table<Named<'a>>, AllocError>
+pub fn shared_entries<'a>(
+    alloc: Global,
+    units: &'a [Unit],
+) -> Result<NameTable<Named<'a>>, AllocError>
     ensures { IfOk result (λ table. table ≡ shared_entries (map view_unit units.now)) }
 {
-    let mut table = Table::new(alloc);
+    let mut table = NameTable::new(alloc);
     match add_units(alloc, &mut table, units) {
         Ok(()) => Ok(table),
         Err(refused) => {

@@ -11,7 +11,7 @@ ghost use Rattle.st_names.specs.Known.{expr_known, option_known, argument_known,
 ghost use Rattle.st_names.specs.Asked.{is_member_of, bounds_known, call_known};
 
 use crate::repeated::{inputs_repeat, outputs_repeat};
-use crate::rules::{Rule, every};
+use crate::rules::{StatementRule, every};
 use crate::scope::Scope;
 use plant_types::Text;
 use st_parser::{Declaration, Section, SectionKind, Sort};
@@ -160,7 +160,7 @@ struct NamesKnown<'a, S> {
     scope: &'a S,
 }
 
-impl<'a, S: Scope> Rule for NamesKnown<'a, S> {
+impl<'a, S: Scope> StatementRule for NamesKnown<'a, S> {
     ghost rule = { λ known. stmt_known (S.units known.scope.now) (S.own known.scope.now) };
 
     fn keeps(&self, alloc: Global, stmt: &Stmt<Text>) -> Result<bool, AllocError> {

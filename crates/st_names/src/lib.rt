@@ -26,6 +26,6 @@ pub use known::body_known;
 pub use misnamed::first_misnamed;
 pub use named::{sort_array, sort_kind};
 pub use place::UnitPlace;
-pub use rules::{Rule, every};
+pub use rules::{StatementRule, every};
 pub use scope::Scope;
 pub use shared::SharedNames;

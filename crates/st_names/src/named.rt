@@ -5,14 +5,14 @@ ghost use Rattle.st_parser.specs.Units.{view_pou};
 ghost use Rattle.st_names.specs.DeclaredNames.{sort_kind, sort_array};
 
 use crate::declared::Declared;
-use crate::table::Table;
+use crate::table::NameTable;
 use plant_types::{Bounds, Kind};
 use st_parser::Sort;
 
 /// The inputs and outputs of a function block, each with its kind; an instance or an array in their place has none.
 pub struct Members {
-    pub inputs: Table<Option<Kind>>,
-    pub outputs: Table<Option<Kind>>,
+    pub inputs: NameTable<Option<Kind>>,
+    pub outputs: NameTable<Option<Kind>>,
 }
 
 impl Drop for Members {

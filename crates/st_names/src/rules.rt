@@ -10,7 +10,7 @@ use st_tree::Stmt;
 use std::alloc::{AllocError, Global};
 
 /// A rule of a statement by itself: of its own names and expressions, and not of the statements inside it.
-pub trait Rule {
+pub trait StatementRule {
     /// Whether a statement keeps the rule.
     ghost rule: { Self → PlainStmt (List ℕ) → Bool };
 
@@ -25,7 +25,7 @@ struct Named<'a, R> {
     rule: &'a R,
 }
 
-impl<'a, R: Rule> st_tree::Rule<Text> for Named<'a, R> {
+impl<'a, R: StatementRule> st_tree::Rule<Text> for Named<'a, R> {
     ghost rule = { λ named. R.rule named.rule.now };
 
     fn keeps(&self, alloc: Global, stmt: &Stmt<Text>) -> Result<bool, AllocError> {
@@ -34,7 +34,11 @@ impl<'a, R: Rule> st_tree::Rule<Text> for Named<'a, R> {
 }
 
 /// Whether each statement of a body keeps a rule, and each statement inside one of them.
-pub fn every<R: Rule>(alloc: Global, rule: &R, body: &[Stmt<Text>]) -> Result<bool, AllocError>
+pub fn every<R: StatementRule>(
+    alloc: Global,
+    rule: &R,
+    body: &[Stmt<Text>],
+) -> Result<bool, AllocError>
     ensures { IfOk result (λ keep. keep ≡ every (R.rule rule.now) (view_body body.now)) }
 {
     st_tree::every(alloc, &Named { rule }, body)

@@ -14,7 +14,7 @@ use crate::named::{Members, Named};
 use crate::standard::{
     is_standard, is_timer, is_trigger, timer_input, timer_output, trigger_input, trigger_output,
 };
-use crate::table::Table;
+use crate::table::NameTable;
 use plant_types::{Kind, Text};
 use st_parser::Unit;
 use std::alloc::{AllocError, Global};
@@ -23,7 +23,7 @@ use std::marker::Model;
 /// The names that all sources of a plant share, in any letter case: globals, function blocks and programs. Contracts see the sources.
 pub struct SharedNames<'a> {
     units: &'a [Unit],
-    table: Table<Named<'a>>,
+    table: NameTable<Named<'a>>,
 }
 
 impl Drop for SharedNames<'_> {

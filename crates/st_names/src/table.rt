@@ -10,21 +10,21 @@ use std::marker::Model;
 /// What names stand for: the value of each name, found in any letter case.
 ///
 /// Contracts see its entries in the order in which they were added, each a name and its value; none has the name of another.
-pub struct Table<T> {
+pub struct NameTable<T> {
     names: Names,
     values: Vec<T>,
 }
 
-impl<T: Drop> Drop for Table<T> {
+impl<T: Drop> Drop for NameTable<T> {
     fn drop(self) {
-        let Table {
+        let NameTable {
             names: _,
             values: _,
         } = self;
     }
 }
 
-impl<T> Model for Table<T> {
+impl<T> Model for NameTable<T> {
     ghost use Rattle.std.specs.Prelude.{◌≡◌, List, ℕ, length};
     ghost use Rattle.std.specs.List.{zip};
 
@@ -35,12 +35,12 @@ impl<T> Model for Table<T> {
     ghost invariant = { λ table. length table.values.items ≡ length table.names };
 }
 
-impl<T: Drop> Table<T> {
+impl<T: Drop> NameTable<T> {
     /// A table without names.
-    pub fn new(alloc: Global) -> Table<T>
+    pub fn new(alloc: Global) -> NameTable<T>
         ensures { result ≡ [] }
     {
-        Table {
+        NameTable {
             names: Names::new(alloc),
             values: Vec::new(alloc),
         }

@@ -6,14 +6,14 @@ ghost use Rattle.st_parser.specs.ReadingStatements.{argument_at, arguments_at};
 ghost use Rattle.st_tree.specs.View.{view_argument};
 
 use plant_types::Text;
-use st_expressions::{Phrase, Reader, Stop, expression, parse_after};
+use st_expressions::{ParseStop, Phrase, Reader, expression, parse_after};
 use st_lexer::Symbol;
 use st_tree::Argument;
 use std::alloc::Global;
 
 /// Parses an argument.
 #[tactic(auto, unfolding(crate::specs::ReadingStatements::argument_at, crate::specs::ReadingStatements::argued_at))]
-fn argument(alloc: Global, reader: &mut Reader) -> Result<Argument<Text>, Stop>
+fn argument(alloc: Global, reader: &mut Reader) -> Result<Argument<Text>, ParseStop>
     ensures { Returns (λ a. (view_argument a, reader.new)) result (argument_at reader.old) }
 {
     let name = reader.word(alloc)?;
@@ -49,7 +49,11 @@ impl Phrase for CommaArgument {
 
     ghost one_at = { λ _. after_symbol Comma argument_at };
 
-    fn parse(&self, alloc: Global, reader: &mut Reader) -> Result<Option<Argument<Text>>, Stop> {
+    fn parse(
+        &self,
+        alloc: Global,
+        reader: &mut Reader,
+    ) -> Result<Option<Argument<Text>>, ParseStop> {
         if !reader.is_symbol(Symbol::Comma) {
             return Ok(None);
         }
@@ -60,7 +64,7 @@ impl Phrase for CommaArgument {
 
 /// Parses the arguments of a call, up to its closing parenthesis.
 #[tactic(auto, unfolding(crate::specs::ReadingStatements::arguments_at))]
-pub fn arguments(alloc: Global, reader: &mut Reader) -> Result<Vec<Argument<Text>>, Stop>
+pub fn arguments(alloc: Global, reader: &mut Reader) -> Result<Vec<Argument<Text>>, ParseStop>
     ensures { Returns (λ a. (map view_argument a.items, reader.new)) result (arguments_at reader.old) }
 {
     if reader.is_symbol(Symbol::Close) {

@@ -11,7 +11,7 @@ ghost use Rattle.st_tree.specs.View.{view_expr};
 use crate::labels::number;
 use crate::unit::{Declaration, PouKind, Section, SectionKind, Sort};
 use plant_types::{Bounds, Kind, Region, Text};
-use st_expressions::{Phrase, Reader, Stop, expression, parse_after, parse_all};
+use st_expressions::{ParseStop, Phrase, Reader, expression, parse_after, parse_all};
 use st_lexer::{Keyword, Symbol, TokenKind};
 use st_tree::Expr;
 use std::alloc::Global;
@@ -29,7 +29,7 @@ fn next_kind(reader: &Reader) -> Option<Kind>
 }
 
 /// Parses a kind.
-fn kind(reader: &mut Reader) -> Result<Kind, Stop>
+fn kind(reader: &mut Reader) -> Result<Kind, ParseStop>
     ensures { Returns (λ kind. (kind, reader.new)) result (table_at kind_of_word reader.old) }
 {
     match next_kind(reader) {
@@ -43,7 +43,7 @@ fn kind(reader: &mut Reader) -> Result<Kind, Stop>
 
 /// Parses the bounds of an array in their brackets.
 #[tactic(auto, unfolding(crate::specs::ReadingUnits::limits_at))]
-fn limits(reader: &mut Reader) -> Result<Bounds, Stop>
+fn limits(reader: &mut Reader) -> Result<Bounds, ParseStop>
     ensures { Returns (λ bounds. (bounds, reader.new)) result (limits_at reader.old) }
 {
     reader.symbol(Symbol::OpenBracket)?;
@@ -56,7 +56,7 @@ fn limits(reader: &mut Reader) -> Result<Bounds, Stop>
 
 /// Parses the rest of what arrays are declared as after `ARRAY`.
 #[tactic(auto, unfolding(crate::specs::ReadingUnits::array_at))]
-fn array(reader: &mut Reader) -> Result<Sort, Stop>
+fn array(reader: &mut Reader) -> Result<Sort, ParseStop>
     ensures { Returns (λ sort. (sort, reader.new)) result (array_at reader.old) }
 {
     let bounds = limits(reader)?;
@@ -67,7 +67,7 @@ fn array(reader: &mut Reader) -> Result<Sort, Stop>
 
 /// Parses what variables are declared as.
 #[tactic(auto, unfolding(crate::specs::ReadingUnits::sort_at))]
-fn sort(alloc: Global, reader: &mut Reader) -> Result<Sort, Stop>
+fn sort(alloc: Global, reader: &mut Reader) -> Result<Sort, ParseStop>
     ensures { Returns (λ sort. (sort, reader.new)) result (sort_at reader.old) }
 {
     if reader.is_keyword(Keyword::Array) {
@@ -79,7 +79,7 @@ fn sort(alloc: Global, reader: &mut Reader) -> Result<Sort, Stop>
 }
 
 /// Parses a kind or the name of a block type.
-fn simple_sort(alloc: Global, reader: &mut Reader) -> Result<Sort, Stop>
+fn simple_sort(alloc: Global, reader: &mut Reader) -> Result<Sort, ParseStop>
     ensures { Returns (λ sort. (sort, reader.new)) result (table_at sort_of reader.old) }
 {
     match reader.peek() {
@@ -104,7 +104,7 @@ fn simple_sort(alloc: Global, reader: &mut Reader) -> Result<Sort, Stop>
 }
 
 /// Parses an address.
-fn address(reader: &mut Reader) -> Result<Region, Stop>
+fn address(reader: &mut Reader) -> Result<Region, ParseStop>
     ensures { Returns (λ region. (region, reader.new)) result (address_at reader.old) }
 {
     match reader.peek() {
@@ -117,7 +117,7 @@ fn address(reader: &mut Reader) -> Result<Region, Stop>
 }
 
 /// Parses `:=` and an initial value, if it is next.
-fn initial_value(alloc: Global, reader: &mut Reader) -> Result<Option<Expr<Text>>, Stop>
+fn initial_value(alloc: Global, reader: &mut Reader) -> Result<Option<Expr<Text>>, ParseStop>
     ensures { Returns (λ o. (option_map view_expr o, reader.new)) result
         (perhaps_at (is_symbol Symbol.Becomes) (after_symbol Symbol.Becomes expression_at) reader.old) }
 {
@@ -138,7 +138,7 @@ fn end_of_declaration(
     region: Option<Region>,
     sort: Sort,
     reader: &mut Reader,
-) -> Result<Declaration, Stop>
+) -> Result<Declaration, ParseStop>
     ensures { Returns (λ d. (view_declaration d, reader.new)) result
         (initial_at names.items region sort reader.old) }
 {
@@ -171,7 +171,7 @@ impl Phrase for CommaName {
 
     ghost one_at = { λ _. after_symbol Comma word_at };
 
-    fn parse(&self, alloc: Global, reader: &mut Reader) -> Result<Option<Text>, Stop> {
+    fn parse(&self, alloc: Global, reader: &mut Reader) -> Result<Option<Text>, ParseStop> {
         if !reader.is_symbol(Symbol::Comma) {
             return Ok(None);
         }
@@ -181,7 +181,7 @@ impl Phrase for CommaName {
 }
 
 /// Parses the names after a first one, each with its comma.
-fn more_names(alloc: Global, first: Text, reader: &mut Reader) -> Result<Vec<Text>, Stop>
+fn more_names(alloc: Global, first: Text, reader: &mut Reader) -> Result<Vec<Text>, ParseStop>
     ensures { Returns (λ names. (names.items, reader.new)) result
         (with_first (first ∷ []) (others_at word_at reader.old)) }
 {
@@ -190,7 +190,7 @@ fn more_names(alloc: Global, first: Text, reader: &mut Reader) -> Result<Vec<Tex
 
 /// Parses the rest of a declaration after its first name.
 #[tactic(auto, unfolding(crate::specs::ReadingUnits::declared_at))]
-fn declared(alloc: Global, first: Text, reader: &mut Reader) -> Result<Declaration, Stop>
+fn declared(alloc: Global, first: Text, reader: &mut Reader) -> Result<Declaration, ParseStop>
     ensures { Returns (λ d. (view_declaration d, reader.new)) result (declared_at first reader.old) }
 {
     let names = more_names(alloc, first, reader)?;
@@ -201,7 +201,7 @@ fn declared(alloc: Global, first: Text, reader: &mut Reader) -> Result<Declarati
 
 /// Parses the rest of a declaration after a global's name and `AT`.
 #[tactic(auto, unfolding(crate::specs::ReadingUnits::placed_at))]
-fn placed(alloc: Global, name: Text, reader: &mut Reader) -> Result<Declaration, Stop>
+fn placed(alloc: Global, name: Text, reader: &mut Reader) -> Result<Declaration, ParseStop>
     ensures { Returns (λ d. (view_declaration d, reader.new)) result (placed_at name reader.old) }
 {
     let mut names = Vec::new(alloc);
@@ -214,7 +214,7 @@ fn placed(alloc: Global, name: Text, reader: &mut Reader) -> Result<Declaration,
 
 /// Parses a declaration of a block or a program.
 #[tactic(auto, unfolding(crate::specs::ReadingUnits::declaration_at))]
-fn declaration(alloc: Global, reader: &mut Reader) -> Result<Declaration, Stop>
+fn declaration(alloc: Global, reader: &mut Reader) -> Result<Declaration, ParseStop>
     ensures { Returns (λ d. (view_declaration d, reader.new)) result (declaration_at reader.old) }
 {
     let name = reader.word(alloc)?;
@@ -223,7 +223,7 @@ fn declaration(alloc: Global, reader: &mut Reader) -> Result<Declaration, Stop>
 
 /// Parses a declaration of globals.
 #[tactic(auto, unfolding(crate::specs::ReadingUnits::global_at))]
-fn global(alloc: Global, reader: &mut Reader) -> Result<Declaration, Stop>
+fn global(alloc: Global, reader: &mut Reader) -> Result<Declaration, ParseStop>
     ensures { Returns (λ d. (view_declaration d, reader.new)) result (global_at reader.old) }
 {
     let name = reader.word(alloc)?;
@@ -254,7 +254,7 @@ impl Phrase for LocalDeclaration {
 
     ghost one_at = { λ _. declaration_at };
 
-    fn parse(&self, alloc: Global, reader: &mut Reader) -> Result<Option<Declaration>, Stop> {
+    fn parse(&self, alloc: Global, reader: &mut Reader) -> Result<Option<Declaration>, ParseStop> {
         if !reader.is_word() {
             return Ok(None);
         }
@@ -281,7 +281,7 @@ impl Phrase for GlobalDeclaration {
 
     ghost one_at = { λ _. global_at };
 
-    fn parse(&self, alloc: Global, reader: &mut Reader) -> Result<Option<Declaration>, Stop> {
+    fn parse(&self, alloc: Global, reader: &mut Reader) -> Result<Option<Declaration>, ParseStop> {
         if !reader.is_word() {
             return Ok(None);
         }
@@ -291,7 +291,7 @@ impl Phrase for GlobalDeclaration {
 
 /// Parses a section of globals.
 #[tactic(auto, unfolding(crate::specs::ReadingUnits::globals_at))]
-pub fn globals(alloc: Global, reader: &mut Reader) -> Result<Section, Stop>
+pub fn globals(alloc: Global, reader: &mut Reader) -> Result<Section, ParseStop>
     ensures { Returns (λ s. (view_section s, reader.new)) result (globals_at reader.old) }
 {
     reader.keyword(Keyword::VarGlobal)?;
@@ -325,7 +325,7 @@ pub fn is_section(pou: PouKind, reader: &Reader) -> bool
 
 /// Parses a section of a block or a program.
 #[tactic(auto, unfolding(crate::specs::ReadingUnits::section_at))]
-pub fn section(alloc: Global, pou: PouKind, reader: &mut Reader) -> Result<Section, Stop>
+pub fn section(alloc: Global, pou: PouKind, reader: &mut Reader) -> Result<Section, ParseStop>
     ensures { Returns (λ s. (view_section s, reader.new)) result (section_at pou reader.old) }
 {
     let Some(kind) = next_section(pou, reader) else {

@@ -5,7 +5,7 @@ ghost use Rattle.st_expressions.specs.Outcome.{Returns};
 ghost use Rattle.st_expressions.specs.Reading.{listed_at, perhaps_at, is_symbol, after_symbol};
 ghost use Rattle.st_parser.specs.ReadingStatements.{number_at, label_at, is_label, negative_at};
 
-use st_expressions::{Phrase, Reader, Stop, negated, parse_after};
+use st_expressions::{ParseStop, Phrase, Reader, negated, parse_after};
 use st_lexer::{Symbol, TokenKind};
 use st_tree::Label;
 use std::alloc::Global;
@@ -22,7 +22,7 @@ pub fn is_label(reader: &Reader) -> bool
 }
 
 /// Parses the integer after a minus, and returns the negative number.
-fn negative(reader: &mut Reader) -> Result<i32, Stop>
+fn negative(reader: &mut Reader) -> Result<i32, ParseStop>
     ensures { Returns (λ n. (n, reader.new)) result (negative_at reader.old) }
 {
     match reader.peek() {
@@ -36,7 +36,7 @@ fn negative(reader: &mut Reader) -> Result<i32, Stop>
 
 /// Parses an integer of a label or a bound, with its minus if it has one.
 #[tactic(auto, unfolding(crate::specs::ReadingStatements::number_at))]
-pub fn number(reader: &mut Reader) -> Result<i32, Stop>
+pub fn number(reader: &mut Reader) -> Result<i32, ParseStop>
     ensures { Returns (λ n. (n, reader.new)) result (number_at reader.old) }
 {
     match reader.peek() {
@@ -53,7 +53,7 @@ pub fn number(reader: &mut Reader) -> Result<i32, Stop>
 }
 
 /// Parses `..` and the end of a range, if they are next.
-fn range_end(reader: &mut Reader) -> Result<Option<i64>, Stop>
+fn range_end(reader: &mut Reader) -> Result<Option<i64>, ParseStop>
     ensures { Returns (λ high. (high, reader.new)) result
         (perhaps_at (is_symbol Symbol.Range) (after_symbol Symbol.Range number_at) reader.old) }
 {
@@ -68,7 +68,7 @@ fn range_end(reader: &mut Reader) -> Result<Option<i64>, Stop>
 
 /// Parses a label.
 #[tactic(auto, unfolding(crate::specs::ReadingStatements::label_at))]
-fn label(reader: &mut Reader) -> Result<Label, Stop>
+fn label(reader: &mut Reader) -> Result<Label, ParseStop>
     ensures { Returns (λ label. (label, reader.new)) result (label_at reader.old) }
 {
     let low = i64::from(number(reader)?);
@@ -96,7 +96,7 @@ impl Phrase for CommaLabel {
 
     ghost one_at = { λ _. after_symbol Comma label_at };
 
-    fn parse(&self, _alloc: Global, reader: &mut Reader) -> Result<Option<Label>, Stop> {
+    fn parse(&self, _alloc: Global, reader: &mut Reader) -> Result<Option<Label>, ParseStop> {
         if !reader.is_symbol(Symbol::Comma) {
             return Ok(None);
         }
@@ -106,7 +106,7 @@ impl Phrase for CommaLabel {
 }
 
 /// Parses the labels of a choice, with commas between them.
-pub fn labels(alloc: Global, reader: &mut Reader) -> Result<Vec<Label>, Stop>
+pub fn labels(alloc: Global, reader: &mut Reader) -> Result<Vec<Label>, ParseStop>
     ensures { Returns (λ labels. (labels.items, reader.new)) result (listed_at label_at reader.old) }
 {
     let first = label(reader)?;

@@ -10,7 +10,7 @@ ghost use Rattle.st_tree.specs.View.{view_expr, view_option, view_stmt, view_bod
 use crate::calls::arguments;
 use crate::labels::{is_label, labels};
 use plant_types::Text;
-use st_expressions::{Reader, Stop, expression, unknown_bounds};
+use st_expressions::{ParseStop, Reader, expression, unknown_bounds};
 use st_lexer::{Keyword, Symbol, TokenKind};
 use st_tree::{Branch, Choice, Expr, Stmt};
 use std::alloc::Global;
@@ -19,7 +19,7 @@ use std::alloc::Global;
 const DEPTH: u32 = 64;
 
 /// Parses statements, as many as there are.
-pub fn statements(alloc: Global, reader: &mut Reader) -> Result<Vec<Stmt<Text>>, Stop>
+pub fn statements(alloc: Global, reader: &mut Reader) -> Result<Vec<Stmt<Text>>, ParseStop>
     ensures { Returns (λ b. (view_body b.items, reader.new)) result (body_at reader.old) }
 {
     body(alloc, DEPTH, reader)
@@ -41,7 +41,7 @@ fn is_statement(reader: &Reader) -> bool
 
 /// Parses the rest of an assignment after the variable's name.
 #[tactic(auto, unfolding(crate::specs::ReadingStatements::assigned_at))]
-fn assignment(alloc: Global, word: Text, reader: &mut Reader) -> Result<Stmt<Text>, Stop>
+fn assignment(alloc: Global, word: Text, reader: &mut Reader) -> Result<Stmt<Text>, ParseStop>
     ensures { Returns (λ s. (view_stmt s, reader.new)) result (assigned_at word reader.old) }
 {
     reader.symbol(Symbol::Becomes)?;
@@ -51,7 +51,7 @@ fn assignment(alloc: Global, word: Text, reader: &mut Reader) -> Result<Stmt<Tex
 
 /// Parses the rest of an assignment to an element after the array's name and its bracket.
 #[tactic(auto, unfolding(crate::specs::ReadingStatements::stored_at))]
-fn storing(alloc: Global, word: Text, reader: &mut Reader) -> Result<Stmt<Text>, Stop>
+fn storing(alloc: Global, word: Text, reader: &mut Reader) -> Result<Stmt<Text>, ParseStop>
     ensures { Returns (λ s. (view_stmt s, reader.new)) result (stored_at word reader.old) }
 {
     let index = expression(alloc, reader)?;
@@ -75,7 +75,7 @@ fn storing(alloc: Global, word: Text, reader: &mut Reader) -> Result<Stmt<Text>,
 
 /// Parses the rest of a call after the instance's name and its parenthesis.
 #[tactic(auto, unfolding(crate::specs::ReadingStatements::called_at))]
-fn call(alloc: Global, word: Text, reader: &mut Reader) -> Result<Stmt<Text>, Stop>
+fn call(alloc: Global, word: Text, reader: &mut Reader) -> Result<Stmt<Text>, ParseStop>
     ensures { Returns (λ s. (view_stmt s, reader.new)) result (called_at word reader.old) }
 {
     let arguments = arguments(alloc, reader)?;
@@ -85,7 +85,7 @@ fn call(alloc: Global, word: Text, reader: &mut Reader) -> Result<Stmt<Text>, St
 
 /// Parses the rest of a statement after its first word.
 #[tactic(auto, unfolding(crate::specs::ReadingStatements::simple_at, crate::specs::ReadingStatements::targeted_at))]
-fn simple(alloc: Global, word: Text, reader: &mut Reader) -> Result<Stmt<Text>, Stop>
+fn simple(alloc: Global, word: Text, reader: &mut Reader) -> Result<Stmt<Text>, ParseStop>
     ensures { Returns (λ s. (view_stmt s, reader.new)) result (simple_at word reader.old) }
 {
     if reader.is_symbol(Symbol::Open) {
@@ -100,7 +100,7 @@ fn simple(alloc: Global, word: Text, reader: &mut Reader) -> Result<Stmt<Text>, 
 }
 
 /// Parses `BY` and the step of a `FOR`, if they are next.
-fn step(alloc: Global, reader: &mut Reader) -> Result<Option<Expr<Text>>, Stop>
+fn step(alloc: Global, reader: &mut Reader) -> Result<Option<Expr<Text>>, ParseStop>
     ensures { Returns (λ o. (view_option o, reader.new)) result
         (perhaps_at (is_keyword Keyword.By) (after_keyword Keyword.By expression_at) reader.old) }
 {
@@ -118,7 +118,7 @@ type Bounds = (Expr<Text>, Expr<Text>, Option<Expr<Text>>);
 
 /// Parses the first value, the bound and the step of a `FOR`.
 #[tactic(auto, unfolding(crate::specs::ReadingStatements::bounds_at))]
-fn bounds(alloc: Global, reader: &mut Reader) -> Result<Bounds, Stop>
+fn bounds(alloc: Global, reader: &mut Reader) -> Result<Bounds, ParseStop>
     ensures { Returns (λ b. ((view_expr b.0, view_expr b.1, view_option b.2), reader.new)) result
         (bounds_at reader.old) }
 {
@@ -143,7 +143,7 @@ fn bounds(alloc: Global, reader: &mut Reader) -> Result<Bounds, Stop>
 
 /// Parses statements that are at most `depth` deep, as many as there are.
 #[cycle(stmt)]
-fn body(alloc: Global, depth: u32, reader: &mut Reader) -> Result<Vec<Stmt<Text>>, Stop>
+fn body(alloc: Global, depth: u32, reader: &mut Reader) -> Result<Vec<Stmt<Text>>, ParseStop>
     ensures { Returns (λ b. (view_body b.items, reader.new)) result (sequence_at depth reader.old) }
 {
     // Most bodies have one statement.
@@ -164,7 +164,7 @@ fn body(alloc: Global, depth: u32, reader: &mut Reader) -> Result<Vec<Stmt<Text>
 /// Parses a statement with its semicolon, at most `depth` deep.
 #[cycle(stmt)]
 #[tactic(auto, unfolding(crate::specs::ReadingStatements::ended_at))]
-fn item(alloc: Global, depth: u32, reader: &mut Reader) -> Result<Stmt<Text>, Stop>
+fn item(alloc: Global, depth: u32, reader: &mut Reader) -> Result<Stmt<Text>, ParseStop>
     ensures { Returns (λ s. (view_stmt s, reader.new)) result (item_at depth reader.old) }
 {
     if depth == 0 {
@@ -178,7 +178,7 @@ fn item(alloc: Global, depth: u32, reader: &mut Reader) -> Result<Stmt<Text>, St
 /// Parses a statement whose inner statements are at most `deeper` deep.
 #[cycle(stmt)]
 #[tactic(auto, unfolding(crate::specs::ReadingStatements::stmt_at))]
-fn statement(alloc: Global, deeper: u32, reader: &mut Reader) -> Result<Stmt<Text>, Stop>
+fn statement(alloc: Global, deeper: u32, reader: &mut Reader) -> Result<Stmt<Text>, ParseStop>
     ensures { Returns (λ s. (view_stmt s, reader.new)) result (stmt_at (sequence_at deeper) reader.old) }
 {
     match reader.peek() {
@@ -206,7 +206,7 @@ fn statement(alloc: Global, deeper: u32, reader: &mut Reader) -> Result<Stmt<Tex
 /// Parses the rest of a statement after `IF`.
 #[cycle(stmt)]
 #[tactic(auto, unfolding(crate::specs::ReadingStatements::if_at))]
-fn if_statement(alloc: Global, deeper: u32, reader: &mut Reader) -> Result<Stmt<Text>, Stop>
+fn if_statement(alloc: Global, deeper: u32, reader: &mut Reader) -> Result<Stmt<Text>, ParseStop>
     ensures { Returns (λ s. (view_stmt s, reader.new)) result (if_at (sequence_at deeper) reader.old) }
 {
     let branches = branches(alloc, deeper, reader)?;
@@ -218,7 +218,7 @@ fn if_statement(alloc: Global, deeper: u32, reader: &mut Reader) -> Result<Stmt<
 /// Parses the branches of an `IF`.
 #[cycle(stmt)]
 #[tactic(auto, unfolding(crate::specs::ReadingStatements::branches_at))]
-fn branches(alloc: Global, deeper: u32, reader: &mut Reader) -> Result<Vec<Branch<Text>>, Stop>
+fn branches(alloc: Global, deeper: u32, reader: &mut Reader) -> Result<Vec<Branch<Text>>, ParseStop>
     ensures { Returns (λ b. (map view_branch b.items, reader.new)) result
         (branches_at (sequence_at deeper) reader.old) }
 {
@@ -233,7 +233,7 @@ fn more_branches(
     deeper: u32,
     first: Branch<Text>,
     reader: &mut Reader,
-) -> Result<Vec<Branch<Text>>, Stop>
+) -> Result<Vec<Branch<Text>>, ParseStop>
     ensures { Returns (λ b. (map view_branch b.items, reader.new)) result
         (with_first (view_branch first ∷ [])
         (all_at (is_keyword Keyword.Elsif) (after_keyword Keyword.Elsif (branch_at (sequence_at deeper)))
@@ -258,7 +258,7 @@ fn more_branches(
 /// Parses a test, `THEN` and the statements of a branch.
 #[cycle(stmt)]
 #[tactic(auto, unfolding(crate::specs::ReadingStatements::branch_at))]
-fn tested(alloc: Global, deeper: u32, reader: &mut Reader) -> Result<Branch<Text>, Stop>
+fn tested(alloc: Global, deeper: u32, reader: &mut Reader) -> Result<Branch<Text>, ParseStop>
     ensures { Returns (λ b. (view_branch b, reader.new)) result
         (branch_at (sequence_at deeper) reader.old) }
 {
@@ -276,7 +276,7 @@ fn tested(alloc: Global, deeper: u32, reader: &mut Reader) -> Result<Branch<Text
 /// Parses `ELSE` and its statements, if it is next.
 #[cycle(stmt)]
 #[tactic(auto, unfolding(crate::specs::ReadingStatements::otherwise_at))]
-fn otherwise(alloc: Global, deeper: u32, reader: &mut Reader) -> Result<Vec<Stmt<Text>>, Stop>
+fn otherwise(alloc: Global, deeper: u32, reader: &mut Reader) -> Result<Vec<Stmt<Text>>, ParseStop>
     ensures { Returns (λ b. (view_body b.items, reader.new)) result
         (otherwise_at (sequence_at deeper) reader.old) }
 {
@@ -291,7 +291,7 @@ fn otherwise(alloc: Global, deeper: u32, reader: &mut Reader) -> Result<Vec<Stmt
 /// Parses the rest of a statement after `CASE`.
 #[cycle(stmt)]
 #[tactic(auto, unfolding(crate::specs::ReadingStatements::case_at))]
-fn case_statement(alloc: Global, deeper: u32, reader: &mut Reader) -> Result<Stmt<Text>, Stop>
+fn case_statement(alloc: Global, deeper: u32, reader: &mut Reader) -> Result<Stmt<Text>, ParseStop>
     ensures { Returns (λ s. (view_stmt s, reader.new)) result (case_at (sequence_at deeper) reader.old) }
 {
     let selector = expression(alloc, reader)?;
@@ -320,7 +320,7 @@ fn case_statement(alloc: Global, deeper: u32, reader: &mut Reader) -> Result<Stm
 /// Parses the choices of a `CASE`.
 #[cycle(stmt)]
 #[tactic(auto, unfolding(crate::specs::ReadingStatements::choices_at))]
-fn choices(alloc: Global, deeper: u32, reader: &mut Reader) -> Result<Vec<Choice<Text>>, Stop>
+fn choices(alloc: Global, deeper: u32, reader: &mut Reader) -> Result<Vec<Choice<Text>>, ParseStop>
     ensures { Returns (λ c. (map view_choice c.items, reader.new)) result
         (choices_at (sequence_at deeper) reader.old) }
 {
@@ -335,7 +335,7 @@ fn more_choices(
     deeper: u32,
     first: Choice<Text>,
     reader: &mut Reader,
-) -> Result<Vec<Choice<Text>>, Stop>
+) -> Result<Vec<Choice<Text>>, ParseStop>
     ensures { Returns (λ c. (map view_choice c.items, reader.new)) result
         (with_first (view_choice first ∷ [])
         (all_at is_label (choice_at (sequence_at deeper)) reader.old)) }
@@ -358,7 +358,7 @@ fn more_choices(
 /// Parses the labels of a choice, a colon and its statements.
 #[cycle(stmt)]
 #[tactic(auto, unfolding(crate::specs::ReadingStatements::choice_at))]
-fn labelled(alloc: Global, deeper: u32, reader: &mut Reader) -> Result<Choice<Text>, Stop>
+fn labelled(alloc: Global, deeper: u32, reader: &mut Reader) -> Result<Choice<Text>, ParseStop>
     ensures { Returns (λ c. (view_choice c, reader.new)) result
         (choice_at (sequence_at deeper) reader.old) }
 {
@@ -370,7 +370,7 @@ fn labelled(alloc: Global, deeper: u32, reader: &mut Reader) -> Result<Choice<Te
 
 /// Parses what stands after `FOR` and before its statements.
 #[tactic(auto, unfolding(crate::specs::ReadingStatements::header_at))]
-fn header(alloc: Global, reader: &mut Reader) -> Result<(Text, Bounds), Stop>
+fn header(alloc: Global, reader: &mut Reader) -> Result<(Text, Bounds), ParseStop>
     ensures { Returns (λ h. ((h.0, (view_expr h.1.0, view_expr h.1.1, view_option h.1.2)), reader.new))
         result (header_at reader.old) }
 {
@@ -408,7 +408,7 @@ fn for_of(header: (Text, Bounds), body: Vec<Stmt<Text>>) -> Stmt<Text>
 /// Parses the rest of a statement after `FOR`.
 #[cycle(stmt)]
 #[tactic(auto, unfolding(crate::specs::ReadingStatements::for_at))]
-fn for_statement(alloc: Global, deeper: u32, reader: &mut Reader) -> Result<Stmt<Text>, Stop>
+fn for_statement(alloc: Global, deeper: u32, reader: &mut Reader) -> Result<Stmt<Text>, ParseStop>
     ensures { Returns (λ s. (view_stmt s, reader.new)) result (for_at (sequence_at deeper) reader.old) }
 {
     let header = header(alloc, reader)?;

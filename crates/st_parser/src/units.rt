@@ -13,7 +13,7 @@ use crate::declare::{globals, is_section, section};
 use crate::fault::ParseFault;
 use crate::stmt::statements;
 use crate::unit::{Pou, PouKind, Section, Unit};
-use st_expressions::{Phrase, Reader, Stop, parse_all};
+use st_expressions::{ParseStop, Phrase, Reader, parse_all};
 use st_lexer::{Keyword, Token, TokenKind};
 use std::alloc::Global;
 
@@ -37,7 +37,7 @@ impl Phrase for GlobalSection {
 
     ghost one_at = { λ _. globals_at };
 
-    fn parse(&self, alloc: Global, reader: &mut Reader) -> Result<Option<Section>, Stop> {
+    fn parse(&self, alloc: Global, reader: &mut Reader) -> Result<Option<Section>, ParseStop> {
         if !reader.is_keyword(Keyword::VarGlobal) {
             return Ok(None);
         }
@@ -65,7 +65,7 @@ impl Phrase for LocalSection {
 
     ghost one_at = { λ phrase. section_at phrase.pou };
 
-    fn parse(&self, alloc: Global, reader: &mut Reader) -> Result<Option<Section>, Stop> {
+    fn parse(&self, alloc: Global, reader: &mut Reader) -> Result<Option<Section>, ParseStop> {
         if !is_section(self.pou, reader) {
             return Ok(None);
         }
@@ -103,7 +103,7 @@ fn closing_keyword(kind: PouKind) -> Keyword
 
 /// Parses a block or a program.
 #[tactic(auto, unfolding(crate::specs::ReadingUnits::pou_at))]
-fn pou(alloc: Global, reader: &mut Reader) -> Result<Pou, Stop>
+fn pou(alloc: Global, reader: &mut Reader) -> Result<Pou, ParseStop>
     ensures { Returns (λ p. (view_pou p, reader.new)) result (pou_at reader.old) }
 {
     let Some(kind) = next_pou_kind(reader) else {
@@ -140,7 +140,7 @@ impl Phrase for AnyPou {
 
     ghost one_at = { λ _. pou_at };
 
-    fn parse(&self, alloc: Global, reader: &mut Reader) -> Result<Option<Pou>, Stop> {
+    fn parse(&self, alloc: Global, reader: &mut Reader) -> Result<Option<Pou>, ParseStop> {
         if !is_pou(reader) {
             return Ok(None);
         }
@@ -150,7 +150,7 @@ impl Phrase for AnyPou {
 
 /// Parses a unit.
 #[tactic(auto, unfolding(crate::specs::ReadingUnits::unit_at))]
-fn unit(alloc: Global, reader: &mut Reader) -> Result<Unit, Stop>
+fn unit(alloc: Global, reader: &mut Reader) -> Result<Unit, ParseStop>
     ensures { Returns (λ unit. (view_unit unit, reader.new)) result (unit_at reader.old) }
 {
     let globals = parse_all(alloc, &GlobalSection, reader)?;
@@ -184,8 +184,8 @@ pub fn parse(alloc: Global, text: &[u8], tokens: &[Token]) -> Result<Unit, Parse
                 Err(refused(tokens, left))
             }
         }
-        Err(Stop::Memory) => Err(ParseFault::Memory),
-        Err(Stop::Left(left)) => Err(refused(tokens, left)),
+        Err(ParseStop::Memory) => Err(ParseFault::Memory),
+        Err(ParseStop::Left(left)) => Err(refused(tokens, left)),
     }
 }
 

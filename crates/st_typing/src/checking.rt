@@ -17,11 +17,11 @@ use std::alloc::{AllocError, Global};
 
 /// Judges units by their kinds.
 #[derive(Drop)]
-struct Misfit<'a> {
+struct KindJudge<'a> {
     shared: &'a SharedNames<'a>,
 }
 
-impl<'a> Judge for Misfit<'a> {
+impl<'a> Judge for KindJudge<'a> {
     ghost use Rattle.st_typing.specs.Kinds.{globals_misfit, pou_misfit};
 
     ghost bad_globals = { λ judge. globals_misfit judge.shared.now };
@@ -70,7 +70,7 @@ fn check_kinds(alloc: Global, shared: &SharedNames<'_>) -> Result<(), TypeFault>
     if let Some(place) = first_misnamed(alloc, shared)? {
         return Err(TypeFault::Name(place));
     }
-    if let Some(place) = first_unit(alloc, &Misfit { shared }, shared.units())? {
+    if let Some(place) = first_unit(alloc, &KindJudge { shared }, shared.units())? {
         return Err(TypeFault::Kind(place));
     }
     Ok(())

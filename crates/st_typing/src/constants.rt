@@ -13,7 +13,7 @@ ghost use Rattle.st_names.specs.DeclaredNames.{declared_together, declared_by, d
 ghost use Rattle.st_typing.specs.Constants.{has_value, is_step, outputs_assign, stmt_assigns, never_assigns, turns_of, for_turns, meant_constant, bounds_allowed, is_initial, constant_step, in_order, sort_in_order, declared_constant, globals_inconstant, pou_inconstant, pou_long};
 
 use plant_types::{Bounds, Kind, Text, Trap, same_word};
-use st_names::{Rule, Scope, every};
+use st_names::{Scope, StatementRule, every};
 use st_parser::{Declaration, Pou, Section, Sort};
 use st_tree::{
     Argument, Binary, Expr, Stmt, Unary, binary_result, count_turns, eval_binary, eval_unary,
@@ -166,7 +166,7 @@ struct Unassigned<'a> {
     variable: &'a Text,
 }
 
-impl<'a> Rule for Unassigned<'a> {
+impl<'a> StatementRule for Unassigned<'a> {
     ghost use Rattle.std.specs.Prelude.{not};
     ghost use Rattle.st_typing.specs.Constants.{stmt_assigns};
 
@@ -190,7 +190,7 @@ struct Allowed<'a, S: Scope> {
     scope: &'a S,
 }
 
-impl<'a, S: Scope> Rule for Allowed<'a, S> {
+impl<'a, S: Scope> StatementRule for Allowed<'a, S> {
     ghost use Rattle.st_typing.specs.Constants.{stmt_allowed};
 
     ghost rule = { λ r. stmt_allowed (S.own r.scope.now) };
@@ -221,7 +221,7 @@ impl<'a, S: Scope> Rule for Allowed<'a, S> {
 #[derive(Drop)]
 struct Short;
 
-impl Rule for Short {
+impl StatementRule for Short {
     ghost use Rattle.st_typing.specs.Constants.{stmt_short};
 
     ghost rule = { λ r. stmt_short };

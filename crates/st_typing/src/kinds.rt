@@ -12,7 +12,7 @@ ghost use Rattle.st_names.specs.Scopes.{element_kind};
 ghost use Rattle.st_typing.specs.Kinds.{context_of, parts_fit, initial_fits, instance_fits, is_array, array_stands, declared_fits, is_global, globals_misfit, pou_misfit};
 
 use plant_types::{Bounds, Kind, Text};
-use st_names::{Rule, Scope, every, sort_kind};
+use st_names::{Scope, StatementRule, every, sort_kind};
 use st_parser::{Declaration, Pou, Section, SectionKind, Sort};
 use st_tree::{Argument, Branch, Expr, Stmt, binary_kind, is_bit, unary_kind};
 use std::alloc::{AllocError, Global};
@@ -159,7 +159,7 @@ struct PartsFit<'a, S: Scope> {
     scope: &'a S,
 }
 
-impl<'a, S: Scope> Rule for PartsFit<'a, S> {
+impl<'a, S: Scope> StatementRule for PartsFit<'a, S> {
     ghost use Rattle.st_typing.specs.Kinds.{context_of, parts_fit};
 
     ghost rule = { λ r. parts_fit (context_of (S.units r.scope.now) (S.own r.scope.now)) };

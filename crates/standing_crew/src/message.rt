@@ -23,7 +23,7 @@ pub(crate) struct Parcel<J, D> {
 
 /// The runs of one parcel. They are `whole` unless memory for them was refused.
 #[derive(Drop)]
-pub(crate) struct Answer<J, D> {
+pub(crate) struct ReturnedRuns<J, D> {
     pub(crate) round: u64,
     pub(crate) place: usize,
     pub(crate) lists: Lists<J, D>,

@@ -8,7 +8,7 @@ ghost use Rattle.standing_crew.specs.Standings.{lost_after, IsAsBefore, IsByItse
 
 use crate::assembly::begin_ticks;
 use crate::gathered::{Gathered, gathered_all, run_in, take_in};
-use crate::message::{Answer, Lists, Parcel, lists_of, move_last, run_all, run_back};
+use crate::message::{Lists, Parcel, ReturnedRuns, lists_of, move_last, run_all, run_back};
 use crate::share::{LEAST_ROUND, cost_of, cut, kept, own_of, share_of};
 use crate::starts::{Begun, starts_of};
 use crate::waiting::next_of;
@@ -36,7 +36,7 @@ const MOST_ANSWERS: usize = 512;
 pub struct Standing<J, S, D, G> {
     parcels: Option<Sender<Parcel<J, D>>>,
     waiting: Receiver<Parcel<J, D>>,
-    answers: Receiver<Answer<J, D>>,
+    answers: Receiver<ReturnedRuns<J, D>>,
     threads: Vec<JoinHandle<()>>,
     hands: u32,
     gate: Arc<G>,
@@ -188,7 +188,7 @@ fn add_thread<
     rt: &H,
     threads: &mut Vec<JoinHandle<()>>,
     waiting: &Receiver<Parcel<J, D>>,
-    done: &Sender<Answer<J, D>>,
+    done: &Sender<ReturnedRuns<J, D>>,
     gate: &Arc<G>,
 ) -> Result<(), CrewFault>
     ensures { IfErr result (λ fault. IsStartFault fault) }
@@ -225,7 +225,7 @@ fn stand<J: Work<S, D>, S, D: Drop, G: Gate, H: Wait>(
     rt: &H,
     gate: &Arc<G>,
     waiting: &Receiver<Parcel<J, D>>,
-    done: &Sender<Answer<J, D>>,
+    done: &Sender<ReturnedRuns<J, D>>,
 ) {
     for _ in rt.forever() {
         let Some(parcel) = next_of(rt, waiting) else {
@@ -241,14 +241,17 @@ fn stand<J: Work<S, D>, S, D: Drop, G: Gate, H: Wait>(
 }
 
 /// Runs the jobs of a message.
-fn answer_of<J: Work<S, D>, S, D: Drop, G: Gate>(gate: &G, parcel: Parcel<J, D>) -> Answer<J, D> {
+fn answer_of<J: Work<S, D>, S, D: Drop, G: Gate>(
+    gate: &G,
+    parcel: Parcel<J, D>,
+) -> ReturnedRuns<J, D> {
     let Parcel {
         round,
         place,
         mut lists,
     } = parcel;
     let whole = run_back::<J, S, D, G>(gate, &mut lists.jobs, &mut lists.runs);
-    Answer {
+    ReturnedRuns {
         round,
         place,
         lists,
@@ -544,14 +547,19 @@ impl<J: Work<S, D>, S: Drop, D: Drop, G: Gate> Standing<J, S, D, G> {
     }
 
     /// Takes in the runs of a message of this round. What comes of another round is dropped, and the first fault stays.
-    fn take_answer(&self, starts: &[Begun<S>], answer: Answer<J, D>, gathered: &mut Gathered<J, D>)
+    fn take_answer(
+        &self,
+        starts: &[Begun<S>],
+        answer: ReturnedRuns<J, D>,
+        gathered: &mut Gathered<J, D>,
+    )
         requires distinct { IsDistinct starts.now }
         requires ticked { IsGathered starts.now gathered.old.fault gathered.old.ticks.items
             (map J.ended_from gathered.old.runs.items) }
         ensures { IsGathered starts.now gathered.new.fault gathered.new.ticks.items
             (map J.ended_from gathered.new.runs.items) }
     {
-        let Answer {
+        let ReturnedRuns {
             round,
             place,
             lists,

@@ -10,7 +10,7 @@ use Rattle.alarm_orders.specs.declared.order.Order.{Order}
 use Rattle.plant_config.specs.Plants.{PlainPlant}
 use Rattle.engine_system.specs.declared.event.Reply.{Reply}
 use Rattle.engine_system.specs.System.{System, opening_system, after_event}
-use Rattle.console_boards.specs.declared.entry.Answer.{Answer as Shown}
+use Rattle.console_boards.specs.declared.entry.AnsweredOrder.{AnsweredOrder}
 use Rattle.console_boards.specs.Counts.{answers_of as answers_shown}
 use Rattle.console_boards.proofs.Counting.{counted, answers_begin}
 use Rattle.console_boards.proofs.Prefixes.{prefix_of_both}
@@ -29,8 +29,8 @@ turned m n = elim (cases_Bool (m == n)) [
 ]
 
 -- by whether an order is this console's
-one_shown : (mine : Bool) (a : A) (answers : List A) (rest : List Shown) → map board_answer answers ≡ rest → map board_answer ((if mine then a ∷ [] else []) ++ answers) ≡ (if mine then board_answer a ∷ rest else rest)
-one_shown true a answers rest h = ap (λ (l : List Shown). board_answer a ∷ l) h
+one_shown : (mine : Bool) (a : A) (answers : List A) (rest : List AnsweredOrder) → map board_answer answers ≡ rest → map board_answer ((if mine then a ∷ [] else []) ++ answers) ≡ (if mine then board_answer a ∷ rest else rest)
+one_shown true a answers rest h = ap (λ (l : List AnsweredOrder). board_answer a ∷ l) h
 one_shown false a answers rest h = h
 
 shown_from : (n : ℕ) (sys : System) (events : List Event) → map board_answer (answers_from n sys events) ≡ answers_shown n (entries_from sys events)

@@ -4,13 +4,13 @@ use Rattle.std.proofs.lemmas.Bool.{cases_Bool}
 use Rattle.std.proofs.lemmas.Bool.Decides.{nat_tests}
 use Rattle.std.proofs.lemmas.List.Elements.{All-nil, All-head, All-tail, All-cons}
 use mathlib.Core.List.{IsPrefix}
-use Rattle.console_link.specs.declared.console.Finished.{Finished}
+use Rattle.console_link.specs.declared.console.FinishedLink.{FinishedLink}
 use Rattle.console_link.specs.declared.lane.Lane.{Lane}
 use Rattle.engine_history.specs.declared.event.Event.{Event}
 use Rattle.alarm_orders.specs.declared.order.Order.{Order}
 use Rattle.plant_config.specs.Plants.{PlainPlant}
 use Rattle.engine_system.specs.declared.event.Reply.{Reply}
-use Rattle.console_boards.specs.declared.entry.Entry.{Entry}
+use Rattle.console_boards.specs.declared.entry.BoardEntry.{BoardEntry}
 use Rattle.console_boards.specs.declared.writer.BoardWriter.{BoardWriter}
 use Rattle.console_boards.specs.Stories.{Begins}
 use Rattle.console_boards.specs.Readers.{published, laid}
@@ -30,7 +30,7 @@ pub prefix_on : {E : Type 0} (xs ys zs : List E) → IsPrefix xs ys → IsPrefix
 prefix_on {E} xs ys zs h k = (h.0 ++ k.0, sym (append_assoc xs h.0 k.0) ∙ (ap (λ (l : List E). l ++ k.0) h.1 ∙ k.1))
 
 -- the list becomes longer, and what one more console saw is a beginning of it too
-pub begin_more : (f : F) (fs : List F) (xs ys : List Entry) → All (λ (g : F). IsPrefix g.mark.entries xs) fs → IsPrefix xs ys → IsPrefix f.mark.entries ys → All (λ (g : F). IsPrefix g.mark.entries ys) (f ∷ fs)
+pub begin_more : (f : F) (fs : List F) (xs ys : List BoardEntry) → All (λ (g : F). IsPrefix g.mark.entries xs) fs → IsPrefix xs ys → IsPrefix f.mark.entries ys → All (λ (g : F). IsPrefix g.mark.entries ys) (f ∷ fs)
 begin_more f fs xs ys h on own = All-cons (λ (g : F). IsPrefix g.mark.entries ys) f fs own (λ k d lt. prefix_on (slice_index_or fs k d).mark.entries xs ys (h k d lt) on)
 
 -- the rings of ended consoles
@@ -70,13 +70,13 @@ pub is_beginning : (plant : PlainPlant) (history : List Event) (fs : List F) (n 
     → within ≡ has_seen_within (length history) (finished_of n (links_in fs)) → within ≡ true → IsPrefix f.mark.entries (entries_of plant history)
 is_beginning plant history fs n f within all found exact is =
     let theirs = found_ended (λ (g : F). IsPrefix g.mark.entries all.one) n fs f all.theirs found in
-    let le : nat_le f.link.seen (length history) ≡ true = sym (ap (λ (o : Option (Finished Order Reply)). has_seen_within (length history) o) (links_found n fs f found)) ∙ (sym exact ∙ is) in
+    let le : nat_le f.link.seen (length history) ≡ true = sym (ap (λ (o : Option (FinishedLink Order Reply)). has_seen_within (length history) o) (links_found n fs f found)) ∙ (sym exact ∙ is) in
     let not_longer : length f.mark.entries ≤ length (entries_of plant history) = omega (arith, f.counted, few f.link.seen (length history) le, length_of plant history) in
     prefix_of_both f.mark.entries (entries_of plant history) all.one theirs all.own not_longer
 
-none_begins : (xs ys : List Entry) → Begins xs ys → ys ≡ [] → xs ≡ []
+none_begins : (xs ys : List BoardEntry) → Begins xs ys → ys ≡ [] → xs ≡ []
 none_begins [] ys h is = refl
-none_begins (x ∷ xs) ys h is = absurd (let k : [] ≡ x ∷ xs = sym (ap (λ (l : List Entry). take (suc (length xs)) l) is) ∙ h in cc (k))
+none_begins (x ∷ xs) ys h is = absurd (let k : [] ≡ x ∷ xs = sym (ap (λ (l : List BoardEntry). take (suc (length xs)) l) is) ∙ h in cc (k))
 
 -- what a board shows before the first event
 pub opening_published : (plant now : PlainPlant) (history : List Event) (board : BoardWriter) → now ≡ plant → history ≡ [] → HasHistory now history board → published board ≡ history_story plant []
@@ -84,4 +84,4 @@ opening_published plant now history board p h has =
     let shown = board.writer.desk.shown.value in
     let is : laid board ≡ history_story plant [] = has.laid_is ∙ (λ i. history_story (p i) (h i)) in
     let none : shown.list ≡ [] = none_begins shown.list board.log.entries board.begins (ap (λ (s : BoardStory). s.1) is ∙ no_entries plant) in
-    ap (λ (l : List Entry). (shown.opening.value, l)) (none ∙ (sym (no_entries plant) ∙ sym (ap (λ (s : BoardStory). s.1) is))) ∙ is
+    ap (λ (l : List BoardEntry). (shown.opening.value, l)) (none ∙ (sym (no_entries plant) ∙ sym (ap (λ (s : BoardStory). s.1) is))) ∙ is

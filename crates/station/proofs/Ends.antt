@@ -7,8 +7,8 @@ use Rattle.std.proofs.lemmas.Bool.{cases_Bool, eqb-false}
 use Rattle.rtrb.specs.Ring.{known_items}
 use Rattle.logbook.specs.Pages.{Book}
 use Rattle.console_link.specs.declared.answer.Answer.{Answer}
-use Rattle.console_link.specs.declared.console.Console.{Console}
-use Rattle.console_link.specs.declared.console.Finished.{Finished}
+use Rattle.console_link.specs.declared.console.Link.{Link}
+use Rattle.console_link.specs.declared.console.FinishedLink.{FinishedLink}
 use Rattle.console_link.specs.declared.lane.Lane.{Lane}
 use Rattle.console_link.specs.Seats.{SameConsole, SameLane, Ends, IsConsoleOf, IsEndOf, left_of, seen_by, orders_taken, answers_given, all_taken}
 use Rattle.engine_history.specs.declared.event.Event.{Event}
@@ -21,7 +21,7 @@ use Rattle.console_orders.specs.Turns.{TookParts}
 use Rattle.console_boards.specs.Stories.{is_seen_lawful, seen_events, seen_list}
 use Rattle.console_boards.specs.Replies.{after, allows}
 use Rattle.console_entries.specs.Entries.{history_story}
-use Rattle.console_operator.specs.declared.console.Console.{Console as Operator}
+use Rattle.console_operator.specs.declared.console.Console.{Console}
 use Rattle.console_operator.specs.declared.console.Finished.{Finished as Ended}
 use Rattle.console_operator.specs.Sights.{BoardStory}
 use Rattle.console_operator.specs.Consoles.{story_seen, story_told, EndsAs}
@@ -34,10 +34,10 @@ abbrev L : Type 0
 L = Lane Order Reply
 
 abbrev C : Type 0
-C = Console Order Reply
+C = Link Order Reply
 
 abbrev F : Type 0
-F = Finished Order Reply
+F = FinishedLink Order Reply
 
 -- the same lane is the owner's end of the same console's rings
 console_stays : (c : C) (a b : L) → SameLane a b → IsConsoleOf c a → IsConsoleOf c b
@@ -378,7 +378,7 @@ pub last_of : {X : Type 0} (P : X → Type 0) (fs : List X) (f : X) (es whole : 
 last_of {X} P fs f es whole is h = last_in P fs f es (subst (λ (xs : List X). All P xs) is h)
 
 -- what an ended console saw opens as the history before the first event, of which it was told
-pub console_has_seen : (plant : PlainPlant) (c : Operator Order Reply) (f : Ended Order Reply) (story : BoardStory) → story_told c ≡ Some (history_story plant []) → EndsAs c f → story_seen c ≡ Some story → HasSeen plant story f
+pub console_has_seen : (plant : PlainPlant) (c : Console Order Reply) (f : Ended Order Reply) (story : BoardStory) → story_told c ≡ Some (history_story plant []) → EndsAs c f → story_seen c ≡ Some story → HasSeen plant story f
 console_has_seen plant c f story told ends seen = record {
   opening = ends.sound.0 (history_story plant []) story told seen;
   lawful = sym (ap (λ (s : Option BoardStory). is_seen_lawful after allows s) seen) ∙ ends.sound.1;

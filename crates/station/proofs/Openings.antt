@@ -6,13 +6,13 @@ use Rattle.std.proofs.lemmas.List.{map-append}
 use Rattle.std.proofs.lemmas.List.Elements.{All-nil, All-cons, All-weaker, All-push}
 use Rattle.std.proofs.lemmas.Bool.{cases_Bool}
 use Rattle.logbook.specs.Pages.{Book}
-use Rattle.console_link.specs.declared.console.Console.{Console}
+use Rattle.console_link.specs.declared.console.Link.{Link}
 use Rattle.console_link.specs.declared.lane.Lane.{Lane}
 use Rattle.console_link.specs.Seats.{IsConsoleOf}
 use Rattle.alarm_orders.specs.declared.order.Order.{Order}
 use Rattle.console_operator.specs.Sights.{BoardStory}
-use Rattle.plant_file.specs.declared.console.Console.{Console as Listed}
-use Rattle.console_operator.specs.declared.console.Console.{Console as Operator}
+use Rattle.plant_file.specs.declared.console.ListedConsole.{ListedConsole}
+use Rattle.console_operator.specs.declared.console.Console.{Console}
 use Rattle.plant_file.specs.Lists.{repeats}
 use Rattle.plant_config.specs.Plants.{PlainPlant, IsPlant}
 use Rattle.engine_system.specs.declared.event.Reply.{Reply}
@@ -24,10 +24,10 @@ abbrev L : Type 0
 L = Lane Order Reply
 
 abbrev C : Type 0
-C = Console Order Reply
+C = Link Order Reply
 
 abbrev O : Type 0
-O = Operator Order Reply
+O = Console Order Reply
 
 pub pairs_push : (cs : List C) (ls : List L) (c : C) (l : L) → ArePairs cs ls → IsConsoleOf c l → ArePairs (cs ++ c ∷ []) (ls ++ l ∷ [])
 pairs_push [] [] c l h k = (k, tt)
@@ -94,11 +94,11 @@ operators_more numbers os ls n o c l h same pair c_number l_number fresh unused 
     subst (λ (cs : List C). AreOpened (numbers ++ n ∷ []) cs (ls ++ l ∷ [])) (sym links) (opened_more numbers (links_of os) ls n c l h pair c_number l_number fresh unused)
 
 -- consoles and lanes that were opened for a plant, and told of what a board shows
-pub consoles_opened : {T E : Type 0} (r : Result T E) (os : T → List O) (ls : T → List L) (plant : PlainPlant) (listed : List Listed) (story : BoardStory) (log : Book) → listed ≡ plant.consoles → IsPlant plant
+pub consoles_opened : {T E : Type 0} (r : Result T E) (os : T → List O) (ls : T → List L) (plant : PlainPlant) (listed : List ListedConsole) (story : BoardStory) (log : Book) → listed ≡ plant.consoles → IsPlant plant
     → IfOk r (λ x. AreOpened (numbers_of listed) (links_of (os x)) (ls x)) → IfOk r (λ x. All (HasNotLooked story) (os x)) → IfOk r (λ x. All (IsOfLog log) (ls x))
     → IfOk r (λ x. AreConsolesOf plant story log (os x) (ls x))
 consoles_opened (Ok x) os ls plant listed story log same is h k m = record {
-  opened = subst (λ (cs : List Listed). AreOpened (numbers_of cs) (links_of (os x)) (ls x)) same h;
+  opened = subst (λ (cs : List ListedConsole). AreOpened (numbers_of cs) (links_of (os x)) (ls x)) same h;
   looks = k;
   marked = m;
   is_plant = is;

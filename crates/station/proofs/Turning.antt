@@ -5,7 +5,7 @@ use Rattle.console_link.specs.declared.lane.Lane.{Lane}
 use Rattle.engine_history.specs.declared.event.Event.{Event}
 use Rattle.alarm_orders.specs.declared.order.Order.{Order}
 use Rattle.plant_config.specs.Plants.{PlainPlant}
-use Rattle.plant_file.specs.declared.console.Console.{Console as Listed}
+use Rattle.plant_file.specs.declared.console.ListedConsole.{ListedConsole}
 use Rattle.engine_system.specs.declared.event.Reply.{Reply}
 use Rattle.std.proofs.lemmas.List.{length-map}
 use Rattle.console_orders.specs.Parts.{order_of_event}
@@ -27,7 +27,7 @@ station_kept p q h k log now ls a b e s =
 -- a station before the first event
 pub station_opened : (p : PlainPlant) (h : List Event) (log : Book) (ls : List L) → h ≡ [] → numbers_in ls ≡ numbers_of p.consoles → HasNoTwin (numbers_of p.consoles) → length p.consoles ≤ 32 → All IsUnused ls → All (IsOfLog log) ls → IsStation p h log ls
 station_opened p h log ls none numbers once few unused marked =
-    let count : length ls ≡ length p.consoles = sym (length-map ls (λ (l : L). l.number)) ∙ (ap (λ (ns : List ℕ). length ns) numbers ∙ length-map p.consoles (λ (x : Listed). x.number)) in
+    let count : length ls ≡ length p.consoles = sym (length-map ls (λ (l : L). l.number)) ∙ (ap (λ (ns : List ℕ). length ns) numbers ∙ length-map p.consoles (λ (x : ListedConsole). x.number)) in
     record {
       listed = numbers;
       once = subst (λ (ns : List ℕ). HasNoTwin ns) (sym numbers) once;

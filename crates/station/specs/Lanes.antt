@@ -1,7 +1,7 @@
 -- The lanes of a station's consoles: each is found by its number.
 use Rattle.std.specs.Prelude.{◌≡◌, ℕ, ◌==◌, Bool, true, false, List, [], ◌∷◌, length, map, nat_eq, nat_le, Option, Some, None, All, MatchBool, if◌then◌else◌}
-use Rattle.console_link.specs.declared.console.Console.{Console}
-use Rattle.console_link.specs.declared.console.Finished.{Finished}
+use Rattle.console_link.specs.declared.console.Link.{Link}
+use Rattle.console_link.specs.declared.console.FinishedLink.{FinishedLink}
 use Rattle.console_link.specs.declared.lane.Lane.{Lane}
 use Rattle.console_link.specs.Seats.{orders_taken, answers_given, submitted, taken as answers_taken, known_room, IsConsoleOf, IsEndOf, IsOpen, left_of, seen_by}
 use Rattle.alarm_orders.specs.declared.order.Order.{Order}
@@ -11,17 +11,17 @@ use Rattle.console_entries.specs.Entries.{picture_of}
 use Rattle.console_boards.specs.Stories.{is_lawful}
 use Rattle.console_boards.specs.Replies.{after, allows}
 use Rattle.logbook.specs.Pages.{Book}
-use Rattle.console_operator.specs.declared.console.Console.{Console as Operator}
+use Rattle.console_operator.specs.declared.console.Console.{Console}
 use Rattle.console_operator.specs.declared.console.Finished.{Finished as Ended}
 use Rattle.console_operator.specs.Sights.{BoardStory}
 use Rattle.console_operator.specs.Consoles.{story_seen, story_told}
 use Rattle.plant_file.specs.Lists.{repeats}
-use Rattle.plant_file.specs.declared.console.Console.{Console as Listed}
+use Rattle.plant_file.specs.declared.console.ListedConsole.{ListedConsole}
 use Rattle.engine_system.specs.declared.event.Reply.{Reply}
 
 -- the numbers of consoles, as a plant lists them
-abbrev pub numbers_of : List Listed → List ℕ
-numbers_of consoles = map (λ (console : Listed). console.number) consoles
+abbrev pub numbers_of : List ListedConsole → List ℕ
+numbers_of consoles = map (λ (console : ListedConsole). console.number) consoles
 
 -- the numbers of lanes, in order
 abbrev pub numbers_in : List (Lane Order Reply) → List ℕ
@@ -32,12 +32,12 @@ abbrev pub HasNoTwin : List ℕ → Type 0
 HasNoTwin numbers = repeats nat_eq numbers ≡ false
 
 -- the lane of a console's number is the owner's end of its rings
-abbrev pub IsConsoleIn : List (Lane Order Reply) → Console Order Reply → Type 0
+abbrev pub IsConsoleIn : List (Lane Order Reply) → Link Order Reply → Type 0
 IsConsoleIn [] c = ⊥
 IsConsoleIn (lane ∷ lanes) c = MatchBool (lane.number == c.number) (IsConsoleOf c lane) (IsConsoleIn lanes c)
 
 -- and of the rings of a console that has ended
-abbrev pub IsLinkEndIn : List (Lane Order Reply) → Finished Order Reply → Type 0
+abbrev pub IsLinkEndIn : List (Lane Order Reply) → FinishedLink Order Reply → Type 0
 IsLinkEndIn [] f = ⊥
 IsLinkEndIn (lane ∷ lanes) f = MatchBool (lane.number == f.number) (IsEndOf f lane) (IsLinkEndIn lanes f)
 
@@ -50,11 +50,11 @@ abbrev pub IsOfLog : Book → Lane Order Reply → Type 0
 IsOfLog log lane = lane.log ≡ log
 
 -- the rings of consoles that have ended
-abbrev pub links_in : List (Ended Order Reply) → List (Finished Order Reply)
+abbrev pub links_in : List (Ended Order Reply) → List (FinishedLink Order Reply)
 links_in consoles = map (λ (f : Ended Order Reply). f.link) consoles
 
 -- each console has its lane, in the same order
-abbrev pub ArePairs : List (Console Order Reply) → List (Lane Order Reply) → Type 0
+abbrev pub ArePairs : List (Link Order Reply) → List (Lane Order Reply) → Type 0
 ArePairs [] [] = Unit {0}
 ArePairs [] (lane ∷ lanes) = ⊥
 ArePairs (c ∷ consoles) [] = ⊥
@@ -67,14 +67,14 @@ pub record IsUnused (lane : Lane Order Reply) : Type 0 where
   pub is_open : IsOpen lane
 
 -- a console before it submits its first order
-pub record IsFresh (c : Console Order Reply) : Type 0 where
+pub record IsFresh (c : Link Order Reply) : Type 0 where
   pub none_submitted : submitted c ≡ []
   pub none_taken : answers_taken c ≡ []
   pub room : known_room c ≡ 64
 
 -- a console and a lane for each of these numbers, in order, before the first order
-pub record AreOpened (numbers : List ℕ) (consoles : List (Console Order Reply)) (lanes : List (Lane Order Reply)) : Type 0 where
-  pub console_numbers : map (λ (c : Console Order Reply). c.number) consoles ≡ numbers
+pub record AreOpened (numbers : List ℕ) (consoles : List (Link Order Reply)) (lanes : List (Lane Order Reply)) : Type 0 where
+  pub console_numbers : map (λ (c : Link Order Reply). c.number) consoles ≡ numbers
   pub lane_numbers : numbers_in lanes ≡ numbers
   pub pairs : ArePairs consoles lanes
   pub fresh : All IsFresh consoles
@@ -82,15 +82,15 @@ pub record AreOpened (numbers : List ℕ) (consoles : List (Console Order Reply)
 
 -- each console of the one is a console of the other, also where it has ended
 pub record KeepsConsoles (before after : List (Lane Order Reply)) : Type 0 where
-  pub consoles : (c : Console Order Reply) → IsConsoleIn before c → IsConsoleIn after c
-  pub ended : (f : Finished Order Reply) → IsLinkEndIn before f → IsLinkEndIn after f
+  pub consoles : (c : Link Order Reply) → IsConsoleIn before c → IsConsoleIn after c
+  pub ended : (f : FinishedLink Order Reply) → IsLinkEndIn before f → IsLinkEndIn after f
 
 -- the ends of the consoles' rings
-abbrev pub links_of : List (Operator Order Reply) → List (Console Order Reply)
-links_of consoles = map (λ (c : Operator Order Reply). c.link) consoles
+abbrev pub links_of : List (Console Order Reply) → List (Link Order Reply)
+links_of consoles = map (λ (c : Console Order Reply). c.link) consoles
 
 -- a console that has seen nothing of the board, and was told what it shows
-pub record HasNotLooked (story : BoardStory) (c : Operator Order Reply) : Type 0 where
+pub record HasNotLooked (story : BoardStory) (c : Console Order Reply) : Type 0 where
   pub none_seen : story_seen c ≡ None
   pub told_is : story_told c ≡ Some story
 
@@ -102,7 +102,7 @@ pub record HasSeen (plant : PlainPlant) (story : BoardStory) (f : Ended Order Re
   pub marked : f.mark.entries ≡ story.1
 
 -- a console and a lane for each that a plant lists, in order, before the first order; the consoles are told of this story of the board, and what they see is marked in this log
-pub record AreConsolesOf (plant : PlainPlant) (story : BoardStory) (log : Book) (consoles : List (Operator Order Reply)) (lanes : List (Lane Order Reply)) : Type 0 where
+pub record AreConsolesOf (plant : PlainPlant) (story : BoardStory) (log : Book) (consoles : List (Console Order Reply)) (lanes : List (Lane Order Reply)) : Type 0 where
   pub opened : AreOpened (numbers_of plant.consoles) (links_of consoles) lanes
   pub looks : All (HasNotLooked story) consoles
   pub marked : All (IsOfLog log) lanes
@@ -119,12 +119,12 @@ is_within number events [] = false
 is_within number events (lane ∷ lanes) = if lane.number == number then saw_within events (seen_by lane) else is_within number events lanes
 
 -- and a console that has ended, if it has
-abbrev pub has_seen_within : ℕ → Option (Finished Order Reply) → Bool
+abbrev pub has_seen_within : ℕ → Option (FinishedLink Order Reply) → Bool
 has_seen_within events None = false
 has_seen_within events (Some f) = nat_le f.seen events
 
 -- the first of a list of ended rings that has this number
-abbrev pub finished_of : ℕ → List (Finished Order Reply) → Option (Finished Order Reply)
+abbrev pub finished_of : ℕ → List (FinishedLink Order Reply) → Option (FinishedLink Order Reply)
 finished_of number [] = None
 finished_of number (f ∷ consoles) = if f.number == number then Some f else finished_of number consoles
 

@@ -5,7 +5,7 @@ use mathlib.Core.List.{IsPrefix}
 use Rattle.logbook.specs.Pages.{Book}
 use Rattle.plant_types.specs.Pairs.{PlainPair}
 use Rattle.console_link.specs.declared.answer.Answer.{Answer}
-use Rattle.console_link.specs.declared.console.Finished.{Finished}
+use Rattle.console_link.specs.declared.console.FinishedLink.{FinishedLink}
 use Rattle.console_link.specs.declared.lane.Lane.{Lane}
 use Rattle.console_link.specs.contracts.lane.Lane as lane_row
 use Rattle.console_link.specs.Seats.{orders_taken, answers_given, IsOpen, all_submitted, all_taken}
@@ -21,13 +21,13 @@ use Rattle.engine_system.specs.States.{IsReport}
 use Rattle.engine.specs.declared.reload.Reloaded.{Reloaded}
 use Rattle.engine.specs.Engines.{PlainEngine, engine_code, state_of}
 use Rattle.console_archive.specs.Records.{TakesReload}
-use Rattle.console_boards.specs.declared.entry.Answer.{Answer as Shown}
-use Rattle.console_boards.specs.declared.entry.Entry.{Entry}
+use Rattle.console_boards.specs.declared.entry.AnsweredOrder.{AnsweredOrder}
+use Rattle.console_boards.specs.declared.entry.BoardEntry.{BoardEntry}
 use Rattle.console_boards.specs.Counts.{answers_of as answers_shown}
 use Rattle.console_entries.specs.Entries.{board_reply, entries_of, history_story}
 use Rattle.console_orders.specs.Parts.{answers_of, orders_in}
 use Rattle.console_orders.specs.Turns.{TookParts}
-use Rattle.console_operator.specs.declared.console.Console.{Console as Operator}
+use Rattle.console_operator.specs.declared.console.Console.{Console}
 use Rattle.console_operator.specs.declared.console.Finished.{Finished as Ended}
 use Rattle.console_operator.specs.Consoles.{story_seen, story_told, EndsAs}
 use Rattle.console_operator.specs.Sights.{BoardStory, HasOrders}
@@ -107,7 +107,7 @@ module _ {C : Type 0} where
     pub refusals : new.refusals ≡ old.refusals
 
 -- what is known of a console once its station is closed: the orders that the history has of it, followed by those that are left, are what it submitted, each once and in order; the answers that it took are the first of those that the history has of it. Nothing is left of one whose end wasn't handed in
-abbrev pub IsClosed : List (Answer Order Reply) → List Order → Option (Finished Order Reply) → Type 0
+abbrev pub IsClosed : List (Answer Order Reply) → List Order → Option (FinishedLink Order Reply) → Type 0
 IsClosed answers left None = left ≡ []
 IsClosed answers left (Some f) = (orders_in answers ++ left ≡ all_submitted f) × IsPrefix (all_taken f) answers
 
@@ -127,17 +127,17 @@ SawBeginnings engine finished lanes =
     → IsPrefix f.mark.entries (entries_of engine.plant engine.history)
 
 -- what ended consoles saw of the board, and these entries, are beginnings of one list
-pub record AreBeginnings (entries : List Entry) (consoles : List (Ended Order Reply)) : Type 0 where
-  pub one : List Entry
+pub record AreBeginnings (entries : List BoardEntry) (consoles : List (Ended Order Reply)) : Type 0 where
+  pub one : List BoardEntry
   pub own : IsPrefix entries one
   pub theirs : All (λ (f : Ended Order Reply). IsPrefix f.mark.entries one) consoles
 
 -- an answer, as a board has it
-abbrev pub board_answer : Answer Order Reply → Shown
+abbrev pub board_answer : Answer Order Reply → AnsweredOrder
 board_answer a = record { order = a.order; reply = board_reply a.reply }
 
 -- the first orders of a console that these entries have are those of these answers, with the same replies
-abbrev pub HasAnswers : ℕ → List Entry → List (Answer Order Reply) → Type 0
+abbrev pub HasAnswers : ℕ → List BoardEntry → List (Answer Order Reply) → Type 0
 HasAnswers n entries taken = IsPrefix (map board_answer taken) (answers_shown n entries)
 
 -- of a board that shows a beginning of the history, with as many of a console's orders as it took answers or more, the first of these orders are those of the answers
@@ -147,5 +147,5 @@ AnswersAreShown = (n : ℕ) (plant : PlainPlant) (history : List Event) (story :
 
 -- an ended console that was told of the board before the first event saw what its end says
 abbrev pub EndsTellWhatWasSeen : Type 0
-EndsTellWhatWasSeen = (plant : PlainPlant) (c : Operator Order Reply) (f : Ended Order Reply) (story : BoardStory)
+EndsTellWhatWasSeen = (plant : PlainPlant) (c : Console Order Reply) (f : Ended Order Reply) (story : BoardStory)
     → story_told c ≡ Some (history_story plant []) → EndsAs c f → story_seen c ≡ Some story → HasSeen plant story f

@@ -5,8 +5,8 @@ ghost use mathlib.Core.List.{IsPrefix};
 ghost use Rattle.station.specs.Lanes.{left_in, is_within, numbers_in, links_in, HasNoTwin, IsOfLog, IsEndIn, IsLinkEndIn};
 ghost use Rattle.station.specs.Closings.{EndedOne, AreEnded};
 
-use console_boards::Entry;
-use console_link::{Finished, Lane};
+use console_boards::BoardEntry;
+use console_link::{FinishedLink, Lane};
 use console_log::Mark;
 use engine::{Engine, Order, Reply};
 use std::marker::Model;
@@ -39,7 +39,7 @@ impl<C> Model for Closing<C> {
 }
 
 /// Joins the rings of a console that has ended with the lane of its number.
-fn end_lane(lanes: &mut [Lane<Order, Reply>], console: Finished<Order, Reply>)
+fn end_lane(lanes: &mut [Lane<Order, Reply>], console: FinishedLink<Order, Reply>)
     requires { IsLinkEndIn lanes.old console }
     ensures { EndedOne console lanes.old lanes.new }
 {
@@ -56,8 +56,8 @@ fn end_lane(lanes: &mut [Lane<Order, Reply>], console: Finished<Order, Reply>)
 /// Joins the rings of consoles that have ended, each with the lane of its number, and takes in what their marks say.
 pub(crate) fn end_lanes(
     lanes: &mut [Lane<Order, Reply>],
-    mark: &mut Mark<Entry>,
-    mut finished: Vec<console_operator::Finished<Order, Reply>>,
+    mark: &mut Mark<BoardEntry>,
+    mut finished: Vec<console_operator::FinishedLink<Order, Reply>>,
 )
     requires once { HasNoTwin (numbers_in lanes.old) }
     requires ends { All (IsEndIn lanes.old) finished.items }

@@ -84,7 +84,7 @@ impl Case<'_> {
 
 /// What the table has said so far.
 #[derive(Drop)]
-struct Table<'a> {
+struct Rows<'a> {
     /// The last text or plant.
     case: Case<'a>,
     /// Whether its lines go on.
@@ -95,15 +95,15 @@ struct Table<'a> {
     page: Page,
 }
 
-impl<'a> Table<'a> {
-    fn new(alloc: Global, is_told: bool) -> Table<'a> {
+impl<'a> Rows<'a> {
+    fn new(alloc: Global, is_told: bool) -> Rows<'a> {
         let case = Case {
             name: "",
             files: Vec::new(alloc),
             asked: Asked::Told,
             refusal: "",
         };
-        Table {
+        Rows {
             case,
             is_open: false,
             is_told,
@@ -215,7 +215,7 @@ pub fn answers_to<H: Threads + Sync>(
     lines: &str,
     is_told: bool,
 ) -> Result<Vec<u8>, AllocError> {
-    let mut table = Table::new(alloc, is_told);
+    let mut table = Rows::new(alloc, is_told);
     for line in lines.lines() {
         table.take(rt, alloc, line);
     }

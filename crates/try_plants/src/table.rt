@@ -11,7 +11,7 @@ use try_text::{File, Page, have_gap};
 
 /// What the table has said so far.
 #[derive(Drop)]
-struct Table<'a> {
+struct Rows<'a> {
     /// The files of the last plant.
     files: Vec<File>,
     /// Whether they go on.
@@ -44,8 +44,8 @@ fn asked_by(line: &str) -> Option<Asked> {
 }
 
 /// The table before its first line.
-fn new_table<'a>(alloc: Global) -> Table<'a> {
-    Table {
+fn new_table<'a>(alloc: Global) -> Rows<'a> {
+    Rows {
         files: Vec::new(alloc),
         is_open: false,
         asked: Asked::Run,
@@ -57,7 +57,7 @@ fn new_table<'a>(alloc: Global) -> Table<'a> {
     }
 }
 
-impl<'a> Table<'a> {
+impl<'a> Rows<'a> {
     /// Runs the plant, if it is to be run, on the lines of its run.
     fn flush<H: Threads + Wait + Sync>(&mut self, rt: &H, alloc: Global, crews: &mut Crews) {
         let plan = Plan {

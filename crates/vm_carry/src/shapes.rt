@@ -9,7 +9,7 @@ ghost use Rattle.logic_carry.specs.Shapes.{AreOwn, IsShape, AreShapes, AreProgra
 
 use base_words::Names;
 use logic_carry::{
-    Own, Program, Shape, SourceShape, Table, globals_of, marks_of, own_of, parts_of, rows_of,
+    Own, Program, Shape, SourceShape, TypeTable, globals_of, marks_of, own_of, parts_of, rows_of,
     word_number,
 };
 use plant_types::Kind;
@@ -97,7 +97,7 @@ fn trigger_of(alloc: Global, names: &mut Names) -> Result<Vec<Own>, AllocError>
 }
 
 /// The table of block types, by their headings.
-fn table_of(alloc: Global, names: &mut Names, blocks: &[Heading]) -> Result<Table, AllocError>
+fn table_of(alloc: Global, names: &mut Names, blocks: &[Heading]) -> Result<TypeTable, AllocError>
     ensures table { IfOk result (λ table. (rs : List PlainRoutine)
         → map view_heading blocks.now ≡ map heading_of rs → AreTable (find_name names.new) table rs) }
     ensures grows { OnOk result (Grows (find_name names.old) (find_name names.new)) }
@@ -106,7 +106,7 @@ fn table_of(alloc: Global, names: &mut Names, blocks: &[Heading]) -> Result<Tabl
     let trigger = trigger_of(alloc, names)?;
     let blocks = shapes_of(alloc, names, blocks)?;
     let marks = marks_of(alloc, &blocks)?;
-    Ok(Table {
+    Ok(TypeTable {
         blocks,
         marks,
         timer,

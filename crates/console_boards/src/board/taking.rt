@@ -6,7 +6,7 @@ ghost use Rattle.console_boards.specs.Replies.{after, allows};
 ghost use Rattle.console_boards.specs.Counts.{count_of, tallied, consoles_in};
 
 use super::Board;
-use crate::entry::{Entry, Operation};
+use crate::entry::{BoardEntry, Operation};
 use crate::picture::Picture;
 use crate::replies::take;
 use crate::tally::{Tally, consoles_in, count_entry, reloads_as};
@@ -40,7 +40,7 @@ impl Board {
     }
 
     /// Takes in an entry, if it may come next.
-    fn take(&mut self, entry: &Entry)
+    fn take(&mut self, entry: &BoardEntry)
         ensures story { (self.new.opening.value, self.new.list)
             ≡ grown after allows (self.old.opening.value, self.old.list) entry.now }
         ensures mark { self.new.mark ≡ self.old.mark }
@@ -55,7 +55,7 @@ impl Board {
 }
 
 impl Absorb<Operation> for Board {
-    type State = (Picture, Trace<Entry>, Mark<Entry>);
+    type State = (Picture, Trace<BoardEntry>, Mark<BoardEntry>);
 
     ghost state = { λ b. (b.opening.value, b.list, b.mark) };
 

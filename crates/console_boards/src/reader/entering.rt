@@ -7,7 +7,7 @@ ghost use Rattle.console_boards.specs.Readers.{story_of, seen, told, log_of, sto
 
 use super::{BoardReader, BoardReading};
 use crate::board::Board;
-use crate::entry::Entry;
+use crate::entry::BoardEntry;
 use crate::rule::Looks;
 use console_log::Mark;
 
@@ -45,7 +45,7 @@ impl BoardReader {
     }
 
     /// A mark of the entries that it saw last, which are none where it saw nothing yet.
-    pub fn mark(&self) -> Mark<Entry>
+    pub fn mark(&self) -> Mark<BoardEntry>
         ensures { IsMark (log_of self.now) (seen_list (seen self.now)) result }
     {
         self.mark.again()
@@ -64,7 +64,7 @@ impl BoardReading {
     }
 
     /// A mark of its entries.
-    pub fn mark(&self) -> Mark<Entry>
+    pub fn mark(&self) -> Mark<BoardEntry>
         ensures { IsMark (log_read self.now) (story_read self.now).1 result }
     {
         self.reading.get().mark.again()

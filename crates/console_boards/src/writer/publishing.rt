@@ -7,7 +7,7 @@ ghost use Rattle.console_boards.specs.Readers.{story_of, published, laid, log_ke
 
 use super::BoardWriter;
 use crate::board::Board;
-use crate::entry::{Entry, Operation};
+use crate::entry::{BoardEntry, Operation};
 use crate::reader::BoardReader;
 use crate::rule::{Informs, Looks, Notes};
 use base_trace::Remembered;
@@ -56,7 +56,7 @@ impl BoardWriter {
     }
 
     /// A mark of all that was laid by.
-    pub fn mark(&self) -> Mark<Entry>
+    pub fn mark(&self) -> Mark<BoardEntry>
         ensures { IsMark (log_kept self.now) (laid self.now).1 result }
     {
         self.log.mark()
@@ -64,7 +64,7 @@ impl BoardWriter {
 
     /// Lays an entry by, to be published, which may come after all that was laid by before. Fails if memory was refused, where there are
     /// 2^64 - 1 entries, and where the log doesn't take the entry, which then takes no other: nothing was laid by.
-    pub fn lay(&mut self, entry: Entry) -> Result<(), AllocError>
+    pub fn lay(&mut self, entry: BoardEntry) -> Result<(), AllocError>
         requires may_come { allows (shown after (laid self.old).0 (laid self.old).1) entry ≡ true }
         ensures same { (published self.new ≡ published self.old)
             × (log_kept self.new ≡ log_kept self.old) }

@@ -4,7 +4,7 @@ use Rattle.alarm_machine.specs.Codes.{PlainChange}
 use Rattle.engine_history.specs.declared.event.Event.TheVariants as event
 use Rattle.engine_system.specs.States.{PlainPreparedOrder}
 use Rattle.engine.specs.Engines.{state_of}
-use Rattle.console_boards.specs.declared.entry.Entry.TheVariants as entry
+use Rattle.console_boards.specs.declared.entry.BoardEntry.TheVariants as entry
 use Rattle.console_entries.specs.Entries.{board_reply, entry_of}
 use Rattle.console_entries.proofs.Laid.{order_entry, may_come, laid_or_not}
 use Rattle.console_entries.proofs.laying.lay_order.Goals as goal

@@ -4,7 +4,7 @@ use Rattle.engine_history.specs.declared.event.Event.TheVariants as event
 use Rattle.plant_config.specs.Plants.{PlainPlant}
 use Rattle.engine_system.specs.Reloads.{news_of}
 use Rattle.engine.specs.Engines.{state_of}
-use Rattle.console_boards.specs.declared.entry.Entry.TheVariants as entry
+use Rattle.console_boards.specs.declared.entry.BoardEntry.TheVariants as entry
 use Rattle.console_entries.specs.Entries.{entry_of}
 use Rattle.console_entries.proofs.Laid.{may_come, laid_or_not}
 use Rattle.console_entries.proofs.laying.lay_reload.Goals as goal

@@ -7,7 +7,7 @@ use Rattle.logic_cells.specs.Cells.{value_at}
 use Rattle.plant_config.specs.Plants.{PlainPlant, IsPlant}
 use Rattle.engine_system.specs.States.{PlainPrepared}
 use Rattle.engine.specs.Engines.{state_of}
-use Rattle.console_boards.specs.declared.entry.Entry.TheVariants as entry
+use Rattle.console_boards.specs.declared.entry.BoardEntry.TheVariants as entry
 use Rattle.console_boards.specs.Replies.{is_scan}
 use Rattle.console_entries.specs.Entries.{entry_of}
 use Rattle.console_entries.proofs.Laid.{given_from, scan_entry, laid_or_not}

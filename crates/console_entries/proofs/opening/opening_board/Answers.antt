@@ -1,5 +1,5 @@
 use Rattle.std.proofs.Common.{List, ◌∙◌, ap}
-use Rattle.plant_file.specs.declared.console.Console.{Console}
+use Rattle.plant_file.specs.declared.console.ListedConsole.{ListedConsole}
 use Rattle.console_entries.specs.Entries.{counted_consoles}
 use Rattle.console_entries.proofs.opening.opening_board.Goals as goal
 
@@ -7,7 +7,7 @@ pub returns : goal.returns
 returns c = (
   λ i. record {
     panel = (c.new.ensures.alarms ∙ c.in_ok-panel.ensures) i;
-    consoles = (c.new.ensures.consoles ∙ (c.in_ok-tallies.ensures.all ∙ ap (λ (cs : List Console). counted_consoles cs) c.consoles.ensures.consoles)) i;
+    consoles = (c.new.ensures.consoles ∙ (c.in_ok-tallies.ensures.all ∙ ap (λ (cs : List ListedConsole). counted_consoles cs) c.consoles.ensures.consoles)) i;
   },
   c.new.ensures.none,
 )

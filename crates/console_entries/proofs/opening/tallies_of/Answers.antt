@@ -1,7 +1,7 @@
 use Rattle.std.proofs.Common.{◌≡◌, ℕ, ◌+◌, List, [], ◌∷◌, ◌++◌, take, refl, sym, ◌∙◌, ap}
 use Rattle.std.proofs.lemmas.List.{map_more, map-append}
 use Rattle.std.proofs.lemmas.List.Elements.{All-same, All-push}
-use Rattle.plant_file.specs.declared.console.Console.{Console}
+use Rattle.plant_file.specs.declared.console.ListedConsole.{ListedConsole}
 use Rattle.console_boards.specs.declared.tally.Tally.{Tally}
 use Rattle.console_boards.specs.Counts.{consoles_in}
 use Rattle.console_entries.specs.Entries.{counted_consoles}
@@ -15,7 +15,7 @@ loop-console-preserved c =
     let tallies = c.loop-console.tallies.items in
     let none : Tally = record { console = row.number; orders = 0 } in
     let more : counted_consoles (take (i + 1) rows) ≡ counted_consoles (take i rows) ++ row.number ∷ [] =
-    map_more (λ (x : Console). x.number) rows i row c.loop-console-test.true ∙ ap (λ (x : Console). counted_consoles (take i rows) ++ x.number ∷ []) (sym c.console-item.is) in (
+    map_more (λ (x : ListedConsole). x.number) rows i row c.loop-console-test.true ∙ ap (λ (x : ListedConsole). counted_consoles (take i rows) ++ x.number ∷ []) (sym c.console-item.is) in (
       All-same (λ (t : Tally). t.orders ≡ 0) _ (tallies ++ none ∷ []) c.in_ok-push.ensures.items (All-push (λ (t : Tally). t.orders ≡ 0) tallies none c.loop-console.invariant.0 refl),
       ap (λ (ts : List Tally). consoles_in ts) c.in_ok-push.ensures.items
           ∙ (map-append (λ (t : Tally). t.console) tallies (none ∷ []) ∙ (ap (λ (ns : List ℕ). ns ++ row.number ∷ []) c.loop-console.invariant.1 ∙ sym more)),

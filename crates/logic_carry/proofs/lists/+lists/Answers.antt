@@ -8,7 +8,7 @@ use Rattle.logic_source.specs.Layout.{block_clocks, instance_clocks, clocks_rule
 use Rattle.logic_source.specs.Ranges.{local_kinds, row_kinds, own_kinds, block_kinds, instance_kinds, kinds_rule}
 use Rattle.logic_carry.specs.declared.words.Own.{Own}
 use Rattle.logic_carry.specs.declared.words.OwnRow.{OwnRow}
-use Rattle.logic_carry.specs.declared.words.Part.{Part}
+use Rattle.logic_carry.specs.declared.words.NamedInstance.{NamedInstance}
 use Rattle.logic_carry.specs.Marks.{is_marked}
 use Rattle.logic_carry.specs.Shapes.{AreOwn, AreRows, AreParts}
 use Rattle.logic_carry.specs.Lists.{Adds, numbers_in}
@@ -72,7 +72,7 @@ pub list_routine-loop-part-preserved : goal.list_routine-loop-part-preserved
 list_routine-loop-part-preserved t c =
     let parts = c.deref-part-items.result.now in
     let n = c.loop-part.part-index in
-    let p : Part = slice_index_or parts n (record { word = 0; of = Ton }) in
+    let p : NamedInstance = slice_index_or parts n (record { word = 0; of = Ton }) in
     let at : slice_get parts n ≡ Some p = slice_get-get_or parts n (record { word = 0; of = Ton }) (omega (arith, c.loop-part-test.true)) in
     let before = c.args.listed.now in
     let old = c.loop-part.listed in
@@ -81,7 +81,7 @@ list_routine-loop-part-preserved t c =
       numbered = c.in_ok-list_part.ensures.numbered;
       lists = λ words blocks r q are is at_q.
           part_step words (numbers_in before) (numbers_in old) (numbers_in later) before.values.items old.values.items before.standards.items old.standards.items c.args.path 0 q n (numbers_in later) later.values.items later.standards.items blocks c.args.depth r parts p
-          (subst (λ (xs : List Part). AreParts words xs r.instances) (sym c.deref-part-items.ensures.value) is.parts) at at_q
+          (subst (λ (xs : List NamedInstance). AreParts words xs r.instances) (sym c.deref-part-items.ensures.value) is.parts) at at_q
           (c.loop-part.invariant.lists words blocks r q are is at_q) (λ i it here. c.in_ok-list_part.ensures.lists words blocks i q are it here);
     }
 
@@ -110,6 +110,6 @@ list_part-returns-clause-lists t c = on_ok_weaker c.list_block.result (λ f. λ 
 pub list_routine-returns-clause-lists : goal.list_routine-returns-clause-lists
 list_routine-returns-clause-lists t c = λ words blocks r q are is at_q.
     let parts = c.deref-part-items.result.now in
-    let whole = parts_all words parts r.instances c.loop-part.part-index (subst (λ (xs : List Part). AreParts words xs r.instances) (sym c.deref-part-items.ensures.value) is.parts) (omega (arith, c.loop-part-test.false)) in
+    let whole = parts_all words parts r.instances c.loop-part.part-index (subst (λ (xs : List NamedInstance). AreParts words xs r.instances) (sym c.deref-part-items.ensures.value) is.parts) (omega (arith, c.loop-part-test.false)) in
     subst (λ (is : List Instance). Adds words c.args.listed.now c.loop-part.listed (own_kinds r q ++ instance_kinds (deep_kinds blocks c.args.depth) is q) (instance_clocks (deep_clocks blocks c.args.depth) is q)) whole
     (c.loop-part.invariant.lists words blocks r q are is at_q)

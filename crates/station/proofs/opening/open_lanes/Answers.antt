@@ -1,7 +1,7 @@
 use Rattle.std.proofs.Common.{◌≡◌, ◌+◌, ◌∷◌, [], ◌++◌, take, ap, sym, ◌∙◌, Some}
 use Rattle.std.proofs.lemmas.List.{map_more}
 use Rattle.std.proofs.lemmas.List.Elements.{All-push}
-use Rattle.plant_file.specs.declared.console.Console.{Console as Listed}
+use Rattle.plant_file.specs.declared.console.ListedConsole.{ListedConsole}
 use Rattle.console_operator.specs.Sights.{BoardStory}
 use Rattle.console_boards.specs.Readers.{published, log_kept}
 use Rattle.station.specs.Lanes.{numbers_of, IsFresh, IsUnused, HasNotLooked, IsOfLog}
@@ -15,8 +15,8 @@ loop-row-preserved c =
     let given = c.in-Ok.ensures in
     let row = c.row-item.result in
     let more : numbers_of (take (c.loop-row.row-index + 1) c.args.listed.now) ≡ numbers_of (take c.loop-row.row-index c.args.listed.now) ++ row.number ∷ [] =
-    map_more (λ (x : Listed). x.number) c.args.listed.now c.loop-row.row-index row c.loop-row-test.true
-    ∙ ap (λ (x : Listed). numbers_of (take c.loop-row.row-index c.args.listed.now) ++ x.number ∷ []) (sym c.row-item.is) in
+    map_more (λ (x : ListedConsole). x.number) c.args.listed.now c.loop-row.row-index row c.loop-row-test.true
+    ∙ ap (λ (x : ListedConsole). numbers_of (take c.loop-row.row-index c.args.listed.now) ++ x.number ∷ []) (sym c.row-item.is) in
     let fresh : IsFresh c.in_ok-link.link = record { none_submitted = made.console.1; none_taken = made.console.2; room = made.console.3 } in
     let unused : IsUnused c.in_ok-link.lane = record { taken = made.lane.1; given = made.lane.2; is_open = made.lane.4 } in
     let looks : HasNotLooked (published c.args.board.now) c.new.result = record {

@@ -1,7 +1,7 @@
 use Rattle.std.proofs.Common.{◌≡◌, Some, List, drop, fold, ◌∙◌, ap, sym, subst}
 use Rattle.console_log.specs.Marks.{PlainMark}
 use Rattle.console_boards.specs.declared.board.Board.{Board}
-use Rattle.console_boards.specs.declared.entry.Entry.{Entry}
+use Rattle.console_boards.specs.declared.entry.BoardEntry.{BoardEntry}
 use Rattle.console_boards.specs.declared.entry.Operation.{Operation}
 use Rattle.console_boards.specs.Stories.{Begins}
 use Rattle.console_boards.specs.Marks.{MarkedStory, operated, log_in}
@@ -45,12 +45,12 @@ invariant_of-shown g c =
     let then = on_ok r.1 _ _ ok c.publish_as-writer.ensures.rule in
     let is : state_of new ≡ (old.opening.value, s.log.entries, c.mark.result) = values.0 ∙ all in
     let list : new.list ≡ s.log.entries = ap (λ (t : MarkedStory). t.1) is in
-    let log : new.mark.log ≡ s.log.log = ap (λ (t : MarkedStory). t.2.log) is ∙ ap (λ (m : PlainMark Entry). m.log) c.mark.ensures in
+    let log : new.mark.log ≡ s.log.log = ap (λ (t : MarkedStory). t.2.log) is ∙ ap (λ (m : PlainMark BoardEntry). m.log) c.mark.ensures in
     record {
       knows = then.2;
       log_is = ap log_in then.4 ∙ ap Some log;
       mark_is = log;
       opens = s.opens;
-      begins = subst (λ (es : List Entry). Begins es s.log.entries) (sym list) (begins_self s.log.entries);
-      lays = λ free. ap (λ (ops : List Operation). fold operated (state_of new) ops) values.1 ∙ ap (λ (es : List Entry). (new.opening.value, es, new.mark)) list;
+      begins = subst (λ (es : List BoardEntry). Begins es s.log.entries) (sym list) (begins_self s.log.entries);
+      lays = λ free. ap (λ (ops : List Operation). fold operated (state_of new) ops) values.1 ∙ ap (λ (es : List BoardEntry). (new.opening.value, es, new.mark)) list;
     }

@@ -5,7 +5,7 @@ use Rattle.alarm_orders.specs.declared.order.Order.{Order}
 use Rattle.engine_system.specs.declared.event.Reply.{Reply}
 use mathlib.Core.List.{IsPrefix}
 use Rattle.logbook.specs.Pages.{Book}
-use Rattle.console_boards.specs.declared.entry.Entry.{Entry}
+use Rattle.console_boards.specs.declared.entry.BoardEntry.{BoardEntry}
 use Rattle.console_entries.specs.Entries.{entries_of}
 use Rattle.console_operator.specs.Sights.{BoardStory}
 use Rattle.console_operator.specs.declared.console.Finished.{Finished as Ended}
@@ -55,7 +55,7 @@ returns-clause-one g c =
     let laid : c.mark-all.result.entries ≡ entries_of s.recorder.engine.plant s.recorder.engine.history = c.mark-all.ensures.1 ∙ ap (λ (t : BoardStory). t.1) s.recorder.has.laid_is in
     let all : AreBeginnings (entries_of s.recorder.engine.plant s.recorder.engine.history) c.args.finished.items = record {
       one = c.end_lanes.new.mark.entries;
-      own = subst (λ (es : List Entry). IsPrefix es c.end_lanes.new.mark.entries) laid c.end_lanes.ensures.own;
+      own = subst (λ (es : List BoardEntry). IsPrefix es c.end_lanes.new.mark.entries) laid c.end_lanes.ensures.own;
       theirs = c.end_lanes.ensures.theirs;
     } in
     rw (← c.self.view_is) all
@@ -68,7 +68,7 @@ returns-clause-begins g c =
     let laid : c.mark-all.result.entries ≡ entries_of s.recorder.engine.plant s.recorder.engine.history = c.mark-all.ensures.1 ∙ ap (λ (t : BoardStory). t.1) s.recorder.has.laid_is in
     let all : AreBeginnings (entries_of s.recorder.engine.plant s.recorder.engine.history) fs = record {
       one = c.end_lanes.new.mark.entries;
-      own = subst (λ (es : List Entry). IsPrefix es c.end_lanes.new.mark.entries) laid c.end_lanes.ensures.own;
+      own = subst (λ (es : List BoardEntry). IsPrefix es c.end_lanes.new.mark.entries) laid c.end_lanes.ensures.own;
       theirs = c.end_lanes.ensures.theirs;
     } in
     let ended : AreEnded (links_in fs) s.lanes.items lanes = subst (λ (ls : List (Lane Order Reply)). AreEnded (links_in fs) ls lanes) c.as_mut_slice.ensures.value c.end_lanes.ensures.lanes in

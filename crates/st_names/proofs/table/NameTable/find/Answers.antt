@@ -1,7 +1,7 @@
 use Rattle.std.proofs.Common.{◌∙◌, ap, sym}
 use Rattle.st_names.specs.Tables.{value_of}
 use Rattle.st_names.proofs.Entries.{none_at, some_at}
-use Rattle.st_names.proofs.table.Table.find.Goals as goal
+use Rattle.st_names.proofs.table.NameTable.find.Goals as goal
 
 pub returns-in-None : goal.returns-in-None
 returns-in-None g c =

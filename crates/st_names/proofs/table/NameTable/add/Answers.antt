@@ -1,7 +1,7 @@
 use Rattle.std.proofs.Common.{◌≡◌, ◌∙◌, ap, sym, length, arith}
 use Rattle.std.proofs.lemmas.Grind.{common_steps}
 use Rattle.st_names.proofs.Entries.{added_new, added_old, cut_back}
-use Rattle.st_names.proofs.table.Table.add.Goals as goal
+use Rattle.st_names.proofs.table.NameTable.add.Goals as goal
 
 pub returns-then-added : goal.returns-then-added
 returns-then-added g c =
