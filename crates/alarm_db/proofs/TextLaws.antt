@@ -6,8 +6,8 @@ use Rattle.std.specs.Str.{IsUtf8, is_utf8}
 use Rattle.std.proofs.lemmas.Bool.{cases_Bool}
 use Rattle.std.proofs.lemmas.Bool.Decides.{nat_tests}
 use Rattle.std.proofs.lemmas.Str.{IsUtf8-nil, IsUtf8-from_ascii, IsUtf8-from_is_utf8, is_utf8-from_IsUtf8}
-use Rattle.plant_types.specs.Words.{is_name, is_name_byte, is_letter}
-use Rattle.alarm_db.specs.Forms.{is_empty, is_tag, is_tag_byte, is_text, is_text_byte}
+use Rattle.plant_types.specs.Words.{is_name, is_name_byte, is_letter, is_tag, is_tag_byte}
+use Rattle.alarm_db.specs.Forms.{is_empty, is_text, is_text_byte}
 
 -- the test of a text as UTF-8
 pub utf8_test : {S E : Type 0} (P : S → Type 0) (Q : E → Type 0) (bs : List ℕ) (r : Result S E) → MatchResult r (λ s. P s × IsUtf8 bs) (λ e. ¬ (IsUtf8 bs) × Q e) → is_ok r ≡ is_utf8 bs

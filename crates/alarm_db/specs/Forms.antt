@@ -3,18 +3,10 @@ use Rattle.std.specs.Prelude.{ℕ, ◌==◌, ◌||◌, ◌&&◌, not, nat_le, Li
 use Rattle.std.specs.List.{list_all}
 use Rattle.std.specs.Str.{bytes_eq, is_utf8}
 use Rattle.std.specs.Str.Parse.{digits_value}
-use Rattle.std.specs.Char.{is_ascii_alphanumeric, is_ascii_digit}
-use Rattle.plant_types.specs.Words.{is_name, same_word}
+use Rattle.std.specs.Char.{is_ascii_digit}
+use Rattle.plant_types.specs.Words.{is_name, same_word, is_tag}
 use Rattle.alarm_db.specs.declared.column.Column.{Column}
 use Rattle.alarm_db.specs.declared.column.Column.TheVariants as column
-
--- whether a tag may have a byte: a letter, a digit, `_`, `-` or `.`
-abbrev pub is_tag_byte : ℕ → Bool
-is_tag_byte b = is_ascii_alphanumeric b || (b == 95) || (b == 45) || (b == 46)
-
--- whether a field is a tag or the name of an area: 1 to 32 such bytes
-abbrev pub is_tag : List ℕ → Bool
-is_tag field = nat_le 1 (length field) && nat_le (length field) 32 && list_all is_tag_byte field
 
 -- whether a field is 1 to `most` decimal digits
 abbrev pub has_digits : ℕ → List ℕ → Bool

@@ -2,13 +2,13 @@
 use Rattle.std.specs.Prelude.{◌≡◌, ◌≤◌, ℕ, true, not, if◌then◌else◌, List, Option, Some, None, IfSome}
 use Rattle.std.specs.List.{find}
 use Rattle.std.specs.Str.Parse.{digits_value}
-use Rattle.plant_types.specs.Words.{is_name}
+use Rattle.plant_types.specs.Words.{is_name, is_tag}
 use Rattle.alarm_db.specs.declared.column.Column.{Column}
 use Rattle.alarm_db.specs.declared.column.Column.TheVariants as column
 use Rattle.alarm_db.specs.declared.row.DatabaseRow.{DatabaseRow}
 use Rattle.alarm_db.specs.declared.column.Version.{Version}
 use Rattle.alarm_db.specs.Columns.{columns, field_of}
-use Rattle.alarm_db.specs.Forms.{has_form, is_tag, is_text, is_empty, latches}
+use Rattle.alarm_db.specs.Forms.{has_form, is_text, is_empty, latches}
 
 -- the first column of a version whose field in a record doesn't have its form
 unfoldable pub wrong_column : Version → List (List ℕ) → Option Column

@@ -4,37 +4,16 @@ ghost use Rattle.std.specs.Prelude.{◌≡◌, ◌≤◌, if◌then◌else◌, S
 ghost use Rattle.std.specs.Str.{is_utf8};
 ghost use Rattle.std.specs.Str.Parse.{digits_value};
 ghost use Rattle.std.specs.List.{list_all};
-ghost use Rattle.plant_types.specs.Words.{is_name};
-ghost use Rattle.alarm_db.specs.Forms.{has_digits, has_form, is_tag, is_tag_byte, is_text, is_text_byte, latches, latches_not};
+ghost use Rattle.plant_types.specs.Words.{is_name, is_tag};
+ghost use Rattle.alarm_db.specs.Forms.{has_digits, has_form, is_text, is_text_byte, latches, latches_not};
 
 use crate::column::Column;
 use alarm_machine::LONGEST_SHELVE_MS;
-use plant_types::{is_name, same_word};
+use plant_types::{is_name, is_tag, same_word};
 use std::str;
 
 /// The longest on-delay: a day.
 pub const LONGEST_DELAY_MS: u64 = 86_400_000;
-
-/// Whether a tag may have this byte: a letter, a digit, `_`, `-` or `.`.
-fn is_tag_byte(byte: u8) -> bool
-    ensures { result ≡ is_tag_byte byte }
-{
-    byte.is_ascii_alphanumeric() || byte == b'_' || byte == b'-' || byte == b'.'
-}
-
-/// Whether a tag may have each of these bytes.
-fn are_tag_bytes(field: &[u8]) -> bool
-    ensures { result ≡ list_all is_tag_byte field.now }
-{
-    field.iter().all(|byte| is_tag_byte(*byte))
-}
-
-/// Whether a field is a tag or the name of an area: 1 to 32 letters, digits, `_`, `-` and `.`.
-fn is_tag(field: &[u8]) -> bool
-    ensures { result ≡ is_tag field.now }
-{
-    !field.is_empty() && field.len() <= 32 && are_tag_bytes(field)
-}
 
 /// Parses a number of 1 to `most` decimal digits; `None` for any other field.
 pub(crate) fn number(field: &[u8], most: usize) -> Option<u64>

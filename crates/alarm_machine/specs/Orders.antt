@@ -1,5 +1,5 @@
 -- The texts of orders and of their refusals.
-use Rattle.std.specs.Prelude.{ℕ, List, codes}
+use Rattle.std.specs.Prelude.{Bool, true, false, ℕ, List, codes, Option, Some, None}
 use Rattle.alarm_machine.specs.declared.states.Verb.{Verb}
 use Rattle.alarm_machine.specs.declared.states.Verb.TheVariants as verb
 use Rattle.alarm_machine.specs.declared.states.OrderFault.{OrderFault}
@@ -15,6 +15,11 @@ verb_text verb.Remove = codes "remove"
 verb_text verb.PutBack = codes "return"
 verb_text verb.Restart = codes "restart"
 
+-- an order for a program, and not for an alarm
+abbrev pub is_restart : Verb → Bool
+is_restart verb.Restart = true
+is_restart _ = false
+
 -- the text of a refusal: its number
 abbrev pub order_fault_text : OrderFault → List ℕ
 order_fault_text fault.UnknownTarget = codes "O1"
@@ -23,3 +28,8 @@ order_fault_text fault.WrongState = codes "O3"
 order_fault_text fault.ShelveTime = codes "O4"
 order_fault_text fault.NotFaulted = codes "O5"
 order_fault_text fault.OldPlant = codes "O6"
+
+-- the text of a reply: OK, or the number of the refusal
+abbrev pub reply_text : Option OrderFault → List ℕ
+reply_text None = codes "OK"
+reply_text (Some fault) = order_fault_text fault

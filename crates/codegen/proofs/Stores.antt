@@ -5,14 +5,13 @@ use Rattle.std.proofs.lemmas.Bool.{lt-ltb}
 use Rattle.plant_types.specs.declared.values.Bounds.{Bounds}
 use Rattle.plant_types.specs.declared.values.Place.{Place}
 use Rattle.plant_types.specs.declared.values.Trap.TheVariants.{Index}
-use Rattle.plant_types.specs.Values.{has_index, indexed, row_place}
+use Rattle.plant_types.specs.Values.{has_index, indexed, row_place, Path}
 use Rattle.st_tree.specs.Plain.{PlainExpr}
 use Rattle.st_tree.specs.Operators.{Outcome}
 use Rattle.st_tree.specs.Meaning.{Space, then_one, index_of, Spot, Ran, Done, Trapped, with_value, outcome}
 use Rattle.st_tree.specs.Costs.{expr_cost}
 use Rattle.st_tree.proofs.FittedLaws.{index_within}
 use Rattle.logic_cells.specs.Cells.{PlainCells, assigned}
-use Rattle.logic_cells.specs.Runs.{Path}
 use Rattle.logic_walk.specs.declared.frame.Seat.{Seat}
 use Rattle.logic_walk.specs.declared.frame.Base.{Base}
 use Rattle.logic_walk.specs.Walks.{slot_of, frame_space}

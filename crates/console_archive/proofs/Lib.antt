@@ -1,4 +1,9 @@
-pub mod Numbered
-pub mod Pages
 pub mod Crews
+pub mod Laid
+pub mod Numbered
+pub mod Orders
+pub mod Pages
+pub mod Reloads
+pub mod Scans
 pub mod Shown
+pub mod Steps

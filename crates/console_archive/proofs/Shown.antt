@@ -7,8 +7,8 @@ use Rattle.console_boards.specs.declared.entry.BoardEntry.{BoardEntry}
 use Rattle.console_boards.specs.declared.picture.Picture.{Picture}
 use Rattle.console_boards.specs.Stories.{Story}
 use Rattle.console_boards.specs.Readers.{laid, published}
-use Rattle.console_entries.specs.Showing.{HasHistory}
-use Rattle.console_entries.proofs.Steps.{length_of}
+use Rattle.console_archive.specs.Showing.{HasHistory}
+use Rattle.console_archive.proofs.Steps.{length_of}
 use Rattle.console_orders.specs.Turns.{UnlessRefused}
 use Rattle.console_archive.specs.declared.recorder.Refusal.{Refusal}
 use Rattle.console_archive.specs.Records.{ShowsAll}

@@ -1,3 +1,5 @@
+pub mod Entries
 pub mod Pages
 pub mod Records
 pub mod Refusals
+pub mod Showing

@@ -7,14 +7,19 @@
 //! An event is first made ready in both engines, which may be refused and changes neither of them but for room, and then committed in both, which
 //! can't fail. A page of the book is the text of the rows of its journal that have these numbers.
 //!
+//! What a board shows of an engine's history is laid by before its event is committed, which may be refused for memory, and shown after that: a scan by what it gives to the
+//! alarms, an order by its console and its reply, a reload by the alarms of the new plant. So the board's alarms are the system's after each event.
+//!
 //! The recorder has the engine, the archive, the share and the board. Each event goes through all of them, or through none. Orders come to it by
 //! `Recording` of console_orders.
 //!
 //! Layer console_: it must not know the bytes of commands.
 #![tactic(auto)]
 
+mod board;
 mod book;
 mod both;
+mod laying;
 mod lock;
 mod opening;
 mod page;

@@ -2,11 +2,11 @@
 
 ghost use Rattle.std.specs.Prelude.{◌≡◌, ◌<◌, [], IfOk};
 
+use crate::board::open_board;
 use crate::book::Book;
 use crate::lock::Archive;
 use crate::recorder::Recorder;
 use base_trace::Trace;
-use console_entries::open_board;
 use engine::{Engine, Plant};
 use std::alloc::{AllocError, Global};
 use std::sync::ledger::{Blank, Ledger, Share};

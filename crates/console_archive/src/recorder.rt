@@ -4,17 +4,17 @@ ghost use Rattle.std.specs.Prelude.{◌≡◌, ◌↔◌, IsTrue, ◌<◌, ◌�
 ghost use Rattle.engine_system.specs.Faults.{faults_by};
 ghost use Rattle.engine.specs.Engines.{TakesScan};
 ghost use Rattle.console_boards.specs.Readers.{laid, published, log_kept};
-ghost use Rattle.console_entries.specs.Showing.{HasHistory};
+ghost use Rattle.console_archive.specs.Showing.{HasHistory};
 ghost use Rattle.console_archive.specs.Records.{IsReloadDue, IsScanDue, ShowsUnlessRefused, ShowsAll, TakesReload};
 ghost use Rattle.console_orders.specs.Turns.{UnlessRefused};
 
 use crate::both::{
     ReadyReload, commit_order, commit_reload, commit_scan, ready_order, ready_reload, ready_scan,
 };
+use crate::laying::{lay_order, lay_reload, lay_scan};
 use crate::lock::Archive;
 use base_trace::Trace;
 use console_boards::BoardWriter;
-use console_entries::{lay_order, lay_reload, lay_scan};
 use console_orders::{NotTaken, Recording};
 use engine::{
     Crew, Done, Engine, EngineFault, Job, Order, Pair, Plant, ReloadRefused, Reloaded, Reply,

@@ -15,7 +15,8 @@ use Rattle.console_boards.specs.declared.entry.BoardEntry.{BoardEntry}
 use Rattle.console_boards.specs.declared.entry.BoardEntry.TheVariants as entry
 use Rattle.console_boards.specs.declared.picture.Picture.{Picture}
 use Rattle.console_boards.specs.Stories.{shown, is_lawful}
-use Rattle.console_boards.specs.Replies.{fault_number, same_change, same_reply, is_restart, is_outside, IsAsked, may_answer, after, allows}
+use Rattle.alarm_machine.specs.Orders.{is_restart}
+use Rattle.console_boards.specs.Replies.{fault_number, same_change, same_reply, is_outside, IsAsked, may_answer, after, allows}
 
 -- the code of a place in the list of codes
 abbrev code_by : ℕ → Code

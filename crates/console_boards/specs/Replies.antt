@@ -1,6 +1,6 @@
 -- What an entry does to the alarms that a board shows, and whether it may come next.
 use Rattle.std.specs.Prelude.{◌≢◌, ℕ, ◌==◌, Bool, true, false, ◌&&◌, ◌||◌, if◌then◌else◌, Option, Some, None, Result, Ok, Err, slice_get}
-use Rattle.alarm_machine.specs.declared.states.Verb.{Verb}
+use Rattle.alarm_machine.specs.Orders.{is_restart}
 use Rattle.alarm_machine.specs.declared.states.Verb.TheVariants as verb
 use Rattle.alarm_machine.specs.declared.states.OrderFault.{OrderFault}
 use Rattle.alarm_machine.specs.declared.states.OrderFault.TheVariants as fault
@@ -37,11 +37,6 @@ same_reply (Ok c) (Ok d) = same_change c d
 same_reply (Ok c) (Err f) = false
 same_reply (Err e) (Ok d) = false
 same_reply (Err e) (Err f) = fault_number e == fault_number f
-
--- whether an order is for a program
-abbrev pub is_restart : Verb → Bool
-is_restart verb.Restart = true
-is_restart _ = false
 
 -- whether a reply refuses the order before any alarm is asked: no such target, not the console's, or for an older plant
 abbrev pub is_outside : Result (Option PlainChange) OrderFault → Bool

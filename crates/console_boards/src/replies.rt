@@ -1,6 +1,7 @@
 //! What an entry does to the alarms, and whether it may come next.
 ghost use Rattle.std.specs.Prelude.{◌≡◌, if◌then◌else◌};
-ghost use Rattle.console_boards.specs.Replies.{fault_number, same_change, same_reply, is_restart, is_outside, is_scan, may_answer, after_answer, panel_after_entry, panel_allows_entry};
+ghost use Rattle.alarm_machine.specs.Orders.{is_restart};
+ghost use Rattle.console_boards.specs.Replies.{fault_number, same_change, same_reply, is_outside, is_scan, may_answer, after_answer, panel_after_entry, panel_allows_entry};
 
 use crate::entry::{AnsweredOrder, BoardEntry, OrderOutcome};
 use alarm_bank::{Annunciator, BankEvent};

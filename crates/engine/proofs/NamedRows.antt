@@ -4,7 +4,7 @@ use Rattle.std.specs.Prelude.{slice_index_or}
 use Rattle.std.specs.Fmt.{decimal}
 use Rattle.base_stamps.specs.Stamps.{stamp}
 use Rattle.plant_types.specs.declared.values.Place.{Place}
-use Rattle.logic_source.specs.Worlds.{Path}
+use Rattle.plant_types.specs.Values.{Path}
 use Rattle.logic_source.specs.Paths.{paths_of, path_text}
 use Rattle.vm_logic.specs.Runs.{place_spot}
 use Rattle.plant_config.specs.Plants.{PlainPlant}

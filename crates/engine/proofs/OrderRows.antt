@@ -20,7 +20,8 @@ use Rattle.plant_config.specs.Orderers.{has_area}
 use Rattle.alarm_orders.specs.declared.order.Order.{Order}
 use Rattle.engine_system.specs.declared.state.Effect.{Effect}
 use Rattle.engine_system.specs.declared.state.Effect.TheVariants as effect
-use Rattle.engine_system.specs.Orders.{is_restart, is_console, order_at, alarm_order, program_order, order_outcome, unless_old, alarms_by, changed_by}
+use Rattle.alarm_machine.specs.Orders.{is_restart}
+use Rattle.engine_system.specs.Orders.{is_console, order_at, alarm_order, program_order, order_outcome, unless_old, alarms_by, changed_by}
 use Rattle.alarm_bank.specs.Moves.{change_from, changes_from}
 use Rattle.engine.specs.Journal.{refusal_of, one_or_none, HasTarget, IsNamed}
 

@@ -24,7 +24,8 @@ use Rattle.engine_history.specs.declared.event.Event.TheVariants as event
 use Rattle.alarm_orders.specs.declared.order.Order.{Order}
 use Rattle.engine_system.specs.declared.state.Effect.{Effect}
 use Rattle.engine_system.specs.Reports.{PlainReport}
-use Rattle.engine_system.specs.Orders.{is_restart, changed_by}
+use Rattle.alarm_machine.specs.Orders.{is_restart}
+use Rattle.engine_system.specs.Orders.{changed_by}
 use Rattle.engine_system.specs.Reloads.{kept_numbers, kept_count, fresh_count}
 use Rattle.engine_system.specs.System.{System, opening_system, after_event, ordered, faults_of, changes_of}
 

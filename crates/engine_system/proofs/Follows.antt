@@ -20,7 +20,8 @@ use Rattle.plant_config.specs.Orderers.{has_area}
 use Rattle.alarm_orders.specs.declared.order.Order.{Order}
 use Rattle.engine_system.specs.declared.state.Effect.{Effect}
 use Rattle.engine_system.specs.declared.state.Effect.TheVariants as effect
-use Rattle.engine_system.specs.Orders.{is_restart, is_console, alarm_effect, order_at, alarm_order, program_order, order_outcome, unless_old, alarms_by}
+use Rattle.alarm_machine.specs.Orders.{is_restart}
+use Rattle.engine_system.specs.Orders.{is_console, alarm_effect, order_at, alarm_order, program_order, order_outcome, unless_old, alarms_by}
 
 -- what is told of an alarm by its last condition or suppression is told again after an order
 abbrev Keeps : (PlainAlarm → Bool) → List PlainAlarm → Result Effect OrderFault → Type 0

@@ -1,7 +1,8 @@
 -- What an order of a console does, or why it is refused.
-use Rattle.std.specs.Prelude.{ℕ, ◌==◌, Bool, true, false, List, if◌then◌else◌, Option, Some, None, Result, Ok, Err, slice_get, slice_set}
+use Rattle.std.specs.Prelude.{ℕ, ◌==◌, Bool, false, List, if◌then◌else◌, Option, Some, None, Result, Ok, Err, slice_get, slice_set}
 use Rattle.std.specs.List.{list_any}
 use Rattle.std.specs.Option.{option_map}
+use Rattle.alarm_machine.specs.Orders.{is_restart}
 use Rattle.alarm_machine.specs.declared.states.Verb.{Verb}
 use Rattle.alarm_machine.specs.declared.states.Verb.TheVariants as verb
 use Rattle.alarm_machine.specs.declared.states.OrderFault.{OrderFault}
@@ -46,11 +47,6 @@ program_order plant faulted console n = elim (slice_get faulted n) [
   | None ↦ Err fault.UnknownTarget
   | Some flag ↦ if list_any (is_console console) plant.consoles then (if flag then Ok (effect.Restarted n) else Err fault.NotFaulted) else Err fault.NotYourArea
 ]
-
--- whether an order is for a program
-abbrev pub is_restart : Verb → Bool
-is_restart verb.Restart = true
-is_restart _ = false
 
 -- the order to restart the program of a number, in the plant after so many reloads
 abbrev pub restart_of : Option ℕ → ℕ → Order

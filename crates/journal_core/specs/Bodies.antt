@@ -1,10 +1,10 @@
 -- The text of a row: its number, its stamp and its body, with one definition for each kind of body.
-use Rattle.std.specs.Prelude.{ℕ, List, [], ◌++◌, Option, Some, None, codes}
+use Rattle.std.specs.Prelude.{ℕ, List, [], ◌++◌, Option, codes}
 use Rattle.std.specs.Fmt.{decimal}
 use Rattle.plant_types.specs.declared.values.Trap.{Trap}
 use Rattle.plant_types.specs.Values.{trap_text}
 use Rattle.alarm_machine.specs.Codes.{PlainChange, code_text}
-use Rattle.alarm_machine.specs.Orders.{verb_text, order_fault_text}
+use Rattle.alarm_machine.specs.Orders.{verb_text, reply_text}
 use Rattle.alarm_machine.specs.declared.states.Verb.{Verb}
 use Rattle.alarm_machine.specs.declared.states.Verb.TheVariants as verb
 use Rattle.alarm_machine.specs.declared.states.OrderFault.{OrderFault}
@@ -25,11 +25,6 @@ alarm_body tag change = codes "ALARM " ++ tag ++ codes " " ++ code_text change.f
 abbrev pub shelf_text : Verb → List ℕ
 shelf_text (verb.Shelve time) = decimal time ++ codes " "
 shelf_text _ = []
-
--- the reply to an order: OK, or the number of its refusal
-abbrev pub reply_text : Option OrderFault → List ℕ
-reply_text None = codes "OK"
-reply_text (Some fault) = order_fault_text fault
 
 -- the body for an order: `ORDER CONSOLE COMMAND TARGET REPLY`, for a shelving with its time before REPLY
 abbrev pub order_body : ℕ → Verb → List ℕ → Option OrderFault → List ℕ

@@ -1,7 +1,8 @@
 ghost use Rattle.std.specs.Prelude.{◌≡◌, ◌++◌, ◌≤◌, string_bytes, OnOk, IfOk};
 ghost use Rattle.std.specs.Fmt.{decimal};
 ghost use Rattle.alarm_machine.specs.declared.limits.TheConstants.{LAST_MOMENT};
-ghost use Rattle.journal_core.specs.Bodies.{fault_body, alarm_body, shelf_text, reply_text, order_body, reload_body, body_text, row_text};
+ghost use Rattle.alarm_machine.specs.Orders.{reply_text};
+ghost use Rattle.journal_core.specs.Bodies.{fault_body, alarm_body, shelf_text, order_body, reload_body, body_text, row_text};
 
 use crate::row::{Entry, Row};
 use alarm_machine::{Change, OrderFault, Verb};

@@ -5,11 +5,11 @@ use Rattle.std.proofs.lemmas.List.{length-map, get_or-map}
 use Rattle.std.proofs.lemmas.List.Sorted.{IsPermutation-map}
 use Rattle.plant_types.specs.declared.values.Trap.{Trap}
 use Rattle.st_tree.specs.Meaning.{Spot}
-use Rattle.logic_cells.specs.Runs.{Path}
+use Rattle.plant_types.specs.Values.{Path}
 use Rattle.acc_vm.specs.Codes.{PlainCode}
 use Rattle.vm_slices.specs.Parts.{PlainPart}
-use Rattle.level_laws.specs.Programs.{in_order}
-use Rattle.level_laws.specs.Levels.{IsAsInOrder}
+use Rattle.level_runs.specs.Stores.{in_order}
+use Rattle.level_runs.specs.Levels.{IsAsInOrder}
 use Rattle.level_runs.specs.Accesses.{HaveOwnCells}
 use Rattle.level_runs.specs.Plans.{IsPlanOf}
 use Rattle.level_runs.specs.Programs.{programs_at}

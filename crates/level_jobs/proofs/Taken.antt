@@ -9,15 +9,16 @@ use Rattle.plant_types.specs.declared.values.Trap.{Trap}
 use Rattle.st_tree.specs.Meaning.{Spot}
 use Rattle.logic_cells.specs.declared.stop.Stop.{Stop}
 use Rattle.logic_cells.specs.Cells.{PlainCells}
-use Rattle.logic_cells.specs.Runs.{Path, ended}
+use Rattle.plant_types.specs.Values.{Path}
+use Rattle.logic_cells.specs.Runs.{ended}
 use Rattle.acc_vm.specs.Machine.{Run, Over}
 use Rattle.acc_vm.specs.Codes.{PlainCode, run_of}
 use Rattle.vm_slices.specs.Parts.{PlainPart, IsPartOf}
-use Rattle.level_laws.specs.Programs.{with_fault}
-use Rattle.level_laws.specs.Levels.{IsRun, TakesLevel}
-use Rattle.level_laws.specs.Runs as order
-use Rattle.level_laws.specs.Runs.{AreRunsOf, traps_of}
-use Rattle.level_laws.proofs.Runs.{runs_make_a_level}
+use Rattle.level_runs.specs.Stores.{with_fault}
+use Rattle.level_runs.specs.Levels.{IsRun, TakesLevel}
+use Rattle.level_runs.specs.Runs as order
+use Rattle.level_runs.specs.Runs.{AreRunsOf, traps_of}
+use Rattle.level_runs.proofs.Runs.{runs_make_a_level}
 use Rattle.level_runs.specs.Programs.{Slot, Value, Clocked, cell_at, writes_slot, no_code, code_at, as_ran, programs_at}
 use Rattle.level_runs.proofs.Named.{value_written, writes_value, clock_named, names_clock}
 use Rattle.slice_store.specs.Starts.{Begun, Gives}

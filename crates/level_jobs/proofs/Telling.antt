@@ -4,8 +4,8 @@ use Rattle.std.specs.Prelude.{All}
 use Rattle.std.proofs.lemmas.List.Elements.{All-nil, All-push, All-weaker, Contains-append_left, Contains-push}
 use Rattle.logic_cells.specs.declared.stop.Stop.{Stop}
 use Rattle.logic_cells.specs.Cells.{PlainCells}
-use Rattle.logic_cells.specs.Runs.{Path}
-use Rattle.level_laws.specs.Programs.{with_fault}
+use Rattle.plant_types.specs.Values.{Path}
+use Rattle.level_runs.specs.Stores.{with_fault}
 use Rattle.slice_store.specs.Starts.{Begun, Gives}
 use Rattle.level_jobs.specs.Faults.{before, program_of, trap_told, AreResultsOf, faults_told}
 use Rattle.level_jobs.specs.Spotted.{IsOfRun, Tell, spotted, spotted_fault}

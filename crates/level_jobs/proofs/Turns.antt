@@ -2,12 +2,12 @@
 use Rattle.std.proofs.Common.{◌≡◌, ℕ, suc, List, length, refl, ◌∙◌, subst}
 use Rattle.plant_types.specs.declared.values.Trap.{Trap}
 use Rattle.st_tree.specs.Meaning.{Spot}
-use Rattle.logic_cells.specs.Runs.{Path}
+use Rattle.plant_types.specs.Values.{Path}
 use Rattle.acc_vm.specs.Codes.{PlainCode}
 use Rattle.vm_slices.specs.Parts.{PlainPart}
-use Rattle.level_laws.specs.Programs.{in_order}
-use Rattle.level_laws.specs.Levels as order
-use Rattle.level_laws.specs.Levels.{RunsLevels, TakesLevel, IsAsInOrder}
+use Rattle.level_runs.specs.Stores.{in_order}
+use Rattle.level_runs.specs.Levels as order
+use Rattle.level_runs.specs.Levels.{RunsLevels, TakesLevel, IsAsInOrder}
 use Rattle.level_plan.specs.Plans.{last_of}
 use Rattle.level_runs.specs.Accesses.{HaveOwnCells}
 use Rattle.level_runs.specs.Plans.{IsPlanOf}

@@ -4,8 +4,9 @@ use Rattle.plant_types.specs.declared.values.Trap.{Trap}
 use Rattle.st_tree.specs.Meaning.{Spot}
 use Rattle.logic_cells.specs.declared.stop.Stop.{Stop}
 use Rattle.logic_cells.specs.Cells.{PlainCells}
-use Rattle.logic_cells.specs.Runs.{Path, spot_of}
-use Rattle.level_laws.specs.Programs.{with_fault}
+use Rattle.plant_types.specs.Values.{Path}
+use Rattle.logic_cells.specs.Runs.{spot_of}
+use Rattle.level_runs.specs.Stores.{with_fault}
 use Rattle.slice_store.specs.Starts.{Begun, Gives}
 
 -- the number of a job's program: the job's own is 1 more

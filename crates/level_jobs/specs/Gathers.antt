@@ -6,11 +6,11 @@ use Rattle.st_tree.specs.Meaning.{Spot}
 use Rattle.crew.specs.Runs.{IsEachOnce}
 use Rattle.logic_cells.specs.declared.stop.Stop.{Stop}
 use Rattle.logic_cells.specs.Cells.{PlainCells}
-use Rattle.logic_cells.specs.Runs.{Path}
+use Rattle.plant_types.specs.Values.{Path}
 use Rattle.acc_vm.specs.Codes.{PlainCode, IsSound}
 use Rattle.vm_slices.specs.Parts.{PlainPart}
-use Rattle.level_laws.specs.Levels.{Midway}
-use Rattle.level_laws.specs.Programs.{Outcome}
+use Rattle.level_runs.specs.Levels.{Midway}
+use Rattle.level_runs.specs.Stores.{Outcome}
 use Rattle.level_plan.specs.Plans.{last_of}
 use Rattle.slice_store.specs.Starts.{Begun}
 use Rattle.slice_store.specs.Level.{Stored, TakesRuns}

@@ -3,7 +3,8 @@ use Rattle.std.specs.Prelude.{◌≡◌, ◌<◌, ℕ, All, Contains, List, leng
 use Rattle.plant_types.specs.declared.values.Trap.{Trap}
 use Rattle.st_tree.specs.Meaning.{Spot}
 use Rattle.logic_cells.specs.declared.stop.Stop.{Stop}
-use Rattle.logic_cells.specs.Runs.{Path, spot_of}
+use Rattle.plant_types.specs.Values.{Path}
+use Rattle.logic_cells.specs.Runs.{spot_of}
 use Rattle.acc_vm.specs.Codes.{PlainCode}
 use Rattle.level_runs.specs.Programs.{code_at}
 use Rattle.slice_store.specs.Starts.{Begun}

@@ -4,11 +4,11 @@ ghost use Rattle.std.specs.Prelude.{◌≡◌, ◌<◌, ◌^◌, ℕ, List, leng
 ghost use Rattle.plant_types.specs.declared.values.Trap.{Trap};
 ghost use Rattle.st_tree.specs.Meaning.{Spot};
 ghost use Rattle.logic_cells.specs.Cells.{PlainCells};
-ghost use Rattle.logic_cells.specs.Runs.{Path};
+ghost use Rattle.plant_types.specs.Values.{Path};
 ghost use Rattle.acc_vm.specs.Codes.{PlainCode};
 ghost use Rattle.vm_slices.specs.Parts.{PlainPart};
-ghost use Rattle.level_laws.specs.Programs.{in_order};
-ghost use Rattle.level_laws.specs.Levels.{IsAsInOrder, TakesLevel};
+ghost use Rattle.level_runs.specs.Stores.{in_order};
+ghost use Rattle.level_runs.specs.Levels.{IsAsInOrder, TakesLevel};
 ghost use Rattle.level_plan.specs.Plans.{last_of};
 ghost use Rattle.level_runs.specs.Accesses as accesses;
 ghost use Rattle.level_runs.specs.Accesses.{HaveOwnCells};

@@ -3,10 +3,9 @@ use Rattle.std.proofs.Common.{◌≡◌, ℕ, ℤ, pos, true, false, List, [], �
 use Rattle.std.specs.Prelude.{Option, Some, slice_get}
 use Rattle.std.specs.List.{AllByRecursion}
 use Rattle.std.proofs.lemmas.Bool.{both_ways, or_right}
-use Rattle.plant_types.specs.Values.{row_length}
+use Rattle.plant_types.specs.Values.{row_length, Path}
 use Rattle.st_tree.specs.Meaning.{Ran, Done, Trapped}
 use Rattle.logic_cells.specs.Cells.{PlainCells}
-use Rattle.logic_cells.specs.Runs.{Path}
 use Rattle.logic_cells.specs.declared.clock.Clock.{Clock}
 use Rattle.acc_vm.specs.Machine.{Run, Over, Unfinished, Stuck}
 use Rattle.acc_vm.specs.Codes.{PlainCode, SameShape, fuel_of, run_of}
@@ -18,8 +17,8 @@ use Rattle.vm_slices.specs.Renaming.{KeepsRow, StandsFor}
 use Rattle.vm_slices.specs.Alike.{EndAlike, GoAlike, IsKept, Leaves}
 use Rattle.vm_slices.specs.Laws.{BothAfter}
 use Rattle.vm_slices.proofs.Runs.{renamed_runs, keeps}
-use Rattle.level_laws.specs.Programs.{AreKnownBySlots, AreLocal}
-use Rattle.level_laws.proofs.Same.{same_get}
+use Rattle.level_runs.specs.Stores.{AreKnownBySlots, AreLocal}
+use Rattle.level_runs.proofs.Same.{same_get}
 use Rattle.level_runs.specs.Programs.{Slot, Value, Clocked, as_ran, cell_at, some_has, names_slot, writes_slot, code_at, programs_at}
 use Rattle.level_runs.proofs.Named.{value_named, names_value, writes_value, clock_named, names_clock}
 

@@ -5,11 +5,11 @@ use Rattle.std.proofs.lemmas.Bool.{cases_lt}
 use Rattle.st_tree.specs.Meaning.{Spot}
 use Rattle.plant_types.specs.declared.values.Trap.{Trap}
 use Rattle.logic_cells.specs.Cells.{PlainCells}
-use Rattle.logic_cells.specs.Runs.{Path}
+use Rattle.plant_types.specs.Values.{Path}
 use Rattle.acc_vm.specs.Codes.{PlainCode}
-use Rattle.level_laws.specs.Levels.{AreLevels, Midway, RunsLevels, IsAsInOrder}
-use Rattle.level_laws.specs.Programs.{in_order}
-use Rattle.level_laws.proofs.Levels.{levels_are_as_in_order}
+use Rattle.level_runs.specs.Levels.{AreLevels, Midway, RunsLevels, IsAsInOrder}
+use Rattle.level_runs.specs.Stores.{in_order}
+use Rattle.level_runs.proofs.Levels.{levels_are_as_in_order}
 use Rattle.level_plan.specs.Accesses.{PlainAccess}
 use Rattle.level_plan.specs.Plans.{IsPlan, last_of}
 use Rattle.level_plan.proofs.PlanLaws as laws

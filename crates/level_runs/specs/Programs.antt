@@ -5,16 +5,16 @@ use Rattle.std.specs.List.{list_any}
 use Rattle.plant_types.specs.declared.values.Trap.{Trap}
 use Rattle.st_tree.specs.Meaning.{Done, Trapped, Spot}
 use Rattle.logic_cells.specs.Cells.{PlainCells}
-use Rattle.logic_cells.specs.Runs.{Path}
+use Rattle.plant_types.specs.Values.{Path}
 use Rattle.logic_cells.specs.declared.clock.Clock.{Clock}
 use Rattle.acc_vm.specs.Machine.{Run, Over, Unfinished, Stuck}
 use Rattle.acc_vm.specs.Codes.{PlainCode, run_of}
 use Rattle.acc_vm.specs.declared.instr.Instr.{Instr}
 use Rattle.vm_slices.specs.Slots.{slots_read, slots_written, clocks_of}
-use Rattle.level_laws.specs.Programs as programs
+use Rattle.level_runs.specs.Stores as programs
 
 -- what a run leaves, and its trap if it trapped; one that never ends, which sound code has from no cells with all that it names, is no run
-abbrev pub as_ran : PlainCells → Run → programs.Ran PlainCells (Spot × Trap)
+abbrev pub as_ran : PlainCells → Run → programs.RanProgram PlainCells (Spot × Trap)
 as_ran cells (Over (Done after) left) = record { store = after; trap = None }
 as_ran cells (Over (Trapped after spot trap) left) = record { store = after; trap = Some (spot, trap) }
 as_ran cells Unfinished = record { store = cells; trap = None }

@@ -4,10 +4,10 @@ ghost use Rattle.std.specs.Prelude.{◌≡◌, ℕ, ◌≤◌, List, length, sli
 ghost use Rattle.plant_types.specs.declared.values.Trap.{Trap};
 ghost use Rattle.st_tree.specs.Meaning.{Spot};
 ghost use Rattle.logic_cells.specs.Cells.{PlainCells};
-ghost use Rattle.logic_cells.specs.Runs.{Path};
+ghost use Rattle.plant_types.specs.Values.{Path};
 ghost use Rattle.acc_vm.specs.Codes.{PlainCode};
-ghost use Rattle.level_laws.specs.Programs.{AreKnownBySlots, AreLocal, in_order};
-ghost use Rattle.level_laws.specs.Levels.{AreLevels, IsAsInOrder, Midway, RunsLevels};
+ghost use Rattle.level_runs.specs.Stores.{AreKnownBySlots, AreLocal, in_order};
+ghost use Rattle.level_runs.specs.Levels.{AreLevels, IsAsInOrder, Midway, RunsLevels};
 ghost use Rattle.level_plan.specs.Plans.{last_of};
 ghost use Rattle.level_runs.specs.Accesses.{HaveOwnCells};
 ghost use Rattle.level_runs.specs.Conflicts.{AreTightFor, IsLevellingOf, AreAsLowFor, EndBy};

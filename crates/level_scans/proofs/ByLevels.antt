@@ -8,12 +8,12 @@ use Rattle.st_tree.specs.Meaning.{Spot}
 use Rattle.logic_source.specs.Source.{Source, global_cells}
 use Rattle.logic_source.specs.Worlds.{World}
 use Rattle.logic_cells.specs.Cells.{PlainCells}
-use Rattle.logic_cells.specs.Runs.{Path}
+use Rattle.plant_types.specs.Values.{Path}
 use Rattle.logic_frames.specs.Stands.{StandFor}
 use Rattle.acc_vm.specs.Codes.{PlainCode}
 use Rattle.vm_slices.specs.Parts.{PlainPart}
 use Rattle.vm_slices.specs.Slots.{Names, NamesClock}
-use Rattle.level_laws.specs.Programs.{in_order}
+use Rattle.level_runs.specs.Stores.{in_order}
 use Rattle.level_runs.specs.Accesses.{HaveOwnCells}
 use Rattle.level_runs.specs.Plans.{IsPlanOf}
 use Rattle.level_runs.specs.Programs.{no_code, code_at, programs_at}

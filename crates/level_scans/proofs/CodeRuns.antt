@@ -9,8 +9,8 @@ use Rattle.logic_cells.specs.Cells.{PlainCells}
 use Rattle.logic_frames.specs.Stands.{StandFor}
 use Rattle.acc_vm.specs.Machine.{Run, Over}
 use Rattle.acc_vm.specs.Codes.{PlainCode}
-use Rattle.level_laws.specs.Programs as programs
-use Rattle.level_laws.specs.Programs.{Outcome, with_program, in_order}
+use Rattle.level_runs.specs.Stores as programs
+use Rattle.level_runs.specs.Stores.{Outcome, with_program, in_order}
 use Rattle.level_runs.specs.Programs.{as_ran, programs_at}
 use Rattle.vm_logic.specs.Runs.{Agree, paths_in}
 use Rattle.level_scans.specs.Scans.{Scanned, with_flag, after_run, programs_from}
@@ -27,7 +27,7 @@ skipped : (source : Source) (p : ℕ) (order : Outcome PlainCells (Spot × Trap)
 skipped source p order r alike = record { stands = alike.stands; faulted_is = ap (λ (l : List Bool). true ∷ l) alike.faulted_is; faults_are = alike.faults_are }
 
 -- a program's run, before what the others leave
-abbrev run_then : ℕ → programs.Ran PlainCells (Spot × Trap) → (PlainCells → Outcome PlainCells (Spot × Trap)) → Outcome PlainCells (Spot × Trap)
+abbrev run_then : ℕ → programs.RanProgram PlainCells (Spot × Trap) → (PlainCells → Outcome PlainCells (Spot × Trap)) → Outcome PlainCells (Spot × Trap)
 run_then p ran rest = with_program p (is_some ran.trap) ran.trap (rest ran.store)
 
 -- a program ran

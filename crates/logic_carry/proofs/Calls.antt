@@ -5,7 +5,8 @@ use Rattle.std.proofs.lemmas.Bool.{cases_Bool}
 use Rattle.st_names.specs.First.{first_that}
 use Rattle.logic_source.specs.declared.logic.BlockRef.{BlockRef}
 use Rattle.logic_source.specs.Source.{Source}
-use Rattle.logic_source.specs.Worlds.{Path, same_path}
+use Rattle.plant_types.specs.Values.{Path}
+use Rattle.logic_source.specs.Worlds.{same_path}
 use Rattle.logic_source.specs.Layout.{ClockAt, NoneTwice, IsDistinctlyNamed, all_clocks}
 use Rattle.logic_source.specs.Carried.{both_same, same_standard, block_by_path, keeps_calls}
 use Rattle.logic_source.proofs.Paths.{path_is, path_same}

@@ -11,7 +11,7 @@ use Rattle.logic_source.specs.declared.logic.Instance.{Instance}
 use Rattle.logic_source.specs.declared.logic.BlockRef.{BlockRef}
 use Rattle.logic_source.specs.declared.logic.BlockRef.TheVariants.{Ton, Tof, RTrig, Declared}
 use Rattle.logic_source.specs.Source.{PlainRoutine}
-use Rattle.logic_source.specs.Worlds.{Path}
+use Rattle.plant_types.specs.Values.{Path}
 use Rattle.logic_source.specs.Layout.{ClockAt, block_clocks, instance_clocks, clocks_rule}
 use Rattle.logic_source.specs.Ranges.{KindAt, local_kinds, row_kinds, block_kinds, instance_kinds, kinds_rule}
 use Rattle.logic_carry.specs.declared.words.Own.{Own}

@@ -6,7 +6,8 @@ use Rattle.st_blocks.specs.Chains.{Among}
 use Rattle.plant_types.specs.declared.values.Bounds.{Bounds}
 use Rattle.st_tree.specs.Kinds.{same_kind}
 use Rattle.logic_source.specs.Source.{Source}
-use Rattle.logic_source.specs.Worlds.{Path, same_path, index_word}
+use Rattle.plant_types.specs.Values.{Path}
+use Rattle.logic_source.specs.Worlds.{same_path, index_word}
 use Rattle.logic_source.specs.Layout.{IsDistinctlyNamed}
 use Rattle.logic_source.specs.Ranges.{KindAt, all_kinds}
 use Rattle.logic_source.specs.Carried.{both_same, same_array, same_value, value_by_path, keeps_value}

@@ -9,7 +9,8 @@ use Rattle.logic_source.specs.declared.logic.Local.{Local}
 use Rattle.logic_source.specs.declared.logic.Row.{Row}
 use Rattle.logic_source.specs.declared.logic.Instance.{Instance}
 use Rattle.logic_source.specs.Source.{PlainRoutine}
-use Rattle.logic_source.specs.Worlds.{Path, index_word}
+use Rattle.plant_types.specs.Values.{Path}
+use Rattle.logic_source.specs.Worlds.{index_word}
 use Rattle.logic_source.specs.Layout.{ClockAt, elements_from, element_values, block_clocks, instance_clocks, clocks_rule, routine_clocks, program_clocks}
 use Rattle.logic_source.specs.Ranges.{KindAt, kind_at, element_at, local_kinds, row_kinds, block_kinds, instance_kinds, kinds_rule, routine_kinds, program_kinds}
 use Rattle.logic_carry.specs.declared.lists.ValueAt.{ValueAt}

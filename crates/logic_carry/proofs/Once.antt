@@ -1,7 +1,8 @@
 -- No path has two places, and no number of a path stands twice.
 use Rattle.std.proofs.Common.{◌≡◌, ◌∙◌, ap, sym, subst, refl, arith, ℕ, zero, suc, ◌≤◌, false, List, [], ◌∷◌, map, Option, Some, None, slice_get}
 use Rattle.std.proofs.lemmas.Bool.{both_ways}
-use Rattle.logic_source.specs.Worlds.{Path, same_path}
+use Rattle.plant_types.specs.Values.{Path}
+use Rattle.logic_source.specs.Worlds.{same_path}
 use Rattle.logic_source.specs.Source.{Source}
 use Rattle.logic_source.specs.Layout.{ClockAt, Absent, NoneTwice, IsDistinctlyNamed, clock_paths, all_clocks}
 use Rattle.logic_source.specs.Ranges.{all_kinds}

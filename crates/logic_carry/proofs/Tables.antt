@@ -6,7 +6,7 @@ use Rattle.std.specs.Cmp.Lexicographic.{bytes_decides}
 use Rattle.std.proofs.lemmas.List.Quantifiers.{position-Some}
 use Rattle.plant_types.specs.Words.{folded, same_word}
 use Rattle.base_words.specs.Names.{find_name}
-use Rattle.logic_source.specs.Worlds.{Path}
+use Rattle.plant_types.specs.Values.{Path}
 use Rattle.plant_types.specs.declared.values.Bounds.{Bounds}
 use Rattle.logic_carry.specs.Paths.{Grows, Respects, TellsWords, path_key, element_word, AreNumbered, HasWord, IsAt, IsPlace}
 

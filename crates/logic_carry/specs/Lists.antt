@@ -1,7 +1,7 @@
 -- The values and the standard blocks of a source, each with the number of its path.
 use Rattle.std.specs.Prelude.{◌≡◌, ℕ, Option, List, [], ◌∷◌, ◌++◌, nat_eq}
 use Rattle.std.specs.HashMap.{get, hash_map_len}
-use Rattle.logic_source.specs.Worlds.{Path}
+use Rattle.plant_types.specs.Values.{Path}
 use Rattle.logic_source.specs.Layout.{ClockAt}
 use Rattle.logic_source.specs.Ranges.{KindAt}
 use Rattle.logic_carry.specs.declared.lists.ValueAt.{ValueAt}

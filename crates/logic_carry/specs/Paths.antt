@@ -2,7 +2,8 @@
 use Rattle.std.specs.Prelude.{◌≡◌, ◌<◌, ◌≤◌, ◌+◌, ◌*◌, ℕ, ℤ, pos, ◌+ℤ◌, Option, Some, None, List, [], ◌∷◌}
 use Rattle.plant_types.specs.Words.{folded}
 use Rattle.plant_types.specs.declared.values.Bounds.{Bounds}
-use Rattle.logic_source.specs.Worlds.{Path, index_word}
+use Rattle.plant_types.specs.Values.{Path}
+use Rattle.logic_source.specs.Worlds.{index_word}
 
 -- what has a number in a table has the same in a later one
 abbrev pub Grows : {K : Type 0} → (K → Option ℕ) → (K → Option ℕ) → Type 0

@@ -7,7 +7,7 @@ ghost use Rattle.logic_source.specs.declared.logic.Local.{Local};
 ghost use Rattle.logic_source.specs.declared.logic.Row.{Row};
 ghost use Rattle.logic_source.specs.Source.{PlainRoutine, Source};
 ghost use Rattle.logic_source.specs.Blocks.{levels};
-ghost use Rattle.logic_source.specs.Worlds.{Path};
+ghost use Rattle.plant_types.specs.Values.{Path};
 ghost use Rattle.logic_source.specs.Layout.{element_values, block_clocks, clocks_rule, program_clocks, all_clocks};
 ghost use Rattle.logic_source.specs.Ranges.{element_at, local_kinds, row_kinds, block_kinds, kinds_rule, program_kinds, all_kinds};
 ghost use Rattle.logic_carry.specs.Shapes.{AreOwn, AreRows, IsMeasured, IsPart, IsShape, AreTable, ArePrograms, IsSourceShape};

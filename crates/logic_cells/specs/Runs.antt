@@ -1,13 +1,10 @@
 -- How runs over cells end.
-use Rattle.std.specs.Prelude.{ℕ, List, [], Result, Ok, Err, slice_index_or}
+use Rattle.std.specs.Prelude.{List, [], Result, Ok, Err, slice_index_or}
 use Rattle.plant_types.specs.declared.values.Place.{Place}
+use Rattle.plant_types.specs.Values.{Path}
 use Rattle.st_tree.specs.Meaning.{Spot, Ran, Done, Trapped}
 use Rattle.logic_cells.specs.declared.stop.Stop.{Stop}
 use Rattle.logic_cells.specs.Cells.{PlainCells}
-
--- the names of instances as declared, the innermost first
-abbrev pub Path : Type 0
-Path = List (List ℕ)
 
 -- the spot of a place, by the paths for which path numbers stand
 abbrev pub spot_of : List Path → Place → Spot

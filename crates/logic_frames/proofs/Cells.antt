@@ -5,7 +5,8 @@ use Rattle.std.proofs.lemmas.Bool.{cases_Bool, both_ways}
 use Rattle.std.proofs.lemmas.Option.{slice_get-map, get_or_from_slice_get}
 use Rattle.std_blocks.specs.Calls.{Call}
 use Rattle.logic_source.specs.Source.{Source}
-use Rattle.logic_source.specs.Worlds.{Path, World, same_path, assign, with_call}
+use Rattle.plant_types.specs.Values.{Path}
+use Rattle.logic_source.specs.Worlds.{World, same_path, assign, with_call}
 use Rattle.logic_source.specs.Layout.{ClockAt, cell_paths, all_clocks, clock_paths, Stands, Absent, NoneTwice, IsDistinctlyNamed}
 use Rattle.logic_source.proofs.Paths.{path_is, path_same}
 use Rattle.logic_source.proofs.Layouts.{clocks_once}

@@ -10,7 +10,7 @@ use Rattle.logic_source.specs.declared.logic.BlockRef.{BlockRef}
 use Rattle.logic_source.specs.declared.logic.BlockRef.TheVariants.{Ton, Tof, RTrig, Declared}
 use Rattle.logic_source.specs.Source.{PlainRoutine, Source, own_cells}
 use Rattle.logic_source.specs.Blocks.{AreBelow, HasItsTypes, DeclaresThere, Declares, AsksDeclared}
-use Rattle.logic_source.specs.Worlds.{Path}
+use Rattle.plant_types.specs.Values.{Path}
 use Rattle.logic_source.specs.Paths.{is_called, block_paths, instance_paths, paths_rule, type_paths}
 use Rattle.logic_source.specs.Layout.{ClockAt, block_clocks, instance_clocks, clocks_rule, routine_clocks}
 use Rattle.logic_source.specs.Seats.{value_count, clock_count}

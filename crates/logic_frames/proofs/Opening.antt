@@ -3,7 +3,8 @@ use Rattle.std.proofs.Common.{◌≡◌, ◌∙◌, ap, sym, subst, refl, arith,
 use Rattle.std.specs.Prelude.{replicate}
 use Rattle.logic_source.specs.Source.{Source, global_cells}
 use Rattle.logic_source.specs.Blocks.{AreBelow, HasItsTypes, Declares}
-use Rattle.logic_source.specs.Worlds.{Path, routine_begun, begun, globals_routine, zero_world, opening}
+use Rattle.plant_types.specs.Values.{Path}
+use Rattle.logic_source.specs.Worlds.{routine_begun, begun, globals_routine, zero_world, opening}
 use Rattle.logic_source.specs.Layout.{ClockAt, cell_paths, all_clocks, IsDistinctlyNamed}
 use Rattle.logic_source.specs.Seats.{StandsFrom}
 use Rattle.logic_cells.specs.Clocks.{clock_of}

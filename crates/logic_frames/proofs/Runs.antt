@@ -8,7 +8,8 @@ use Rattle.st_tree.proofs.AnyValueLaws.{body_same}
 use Rattle.logic_source.specs.Source.{PlainRoutine, Source, global_cells}
 use Rattle.logic_source.specs.Names.{kinds_named, meant_in}
 use Rattle.logic_source.specs.Blocks.{AreBelow, HasItsTypes, DeclaresThere}
-use Rattle.logic_source.specs.Worlds.{Path, World, routine_space, run_rule, run_routine, run_in, run_program}
+use Rattle.plant_types.specs.Values.{Path}
+use Rattle.logic_source.specs.Worlds.{World, routine_space, run_rule, run_routine, run_in, run_program}
 use Rattle.logic_source.specs.Layout.{values_rule, routine_values, clocks_rule, routine_clocks, IsDistinctlyNamed}
 use Rattle.logic_source.proofs.Levels.{by_its_rule}
 use Rattle.logic_source.proofs.Layouts.{all_at}

@@ -16,7 +16,7 @@ use Rattle.logic_source.specs.declared.logic.BlockRef.TheVariants.{Ton, Tof, RTr
 use Rattle.logic_source.specs.Source.{PlainRoutine, Source, own_cells}
 use Rattle.logic_source.specs.Blocks.{Declares, DeclaresThere, HasItsTypes, AreBelow}
 use Rattle.logic_source.specs.Paths.{is_called, block_paths, instance_paths, paths_rule, type_paths}
-use Rattle.logic_source.specs.Worlds.{Path}
+use Rattle.plant_types.specs.Values.{Path}
 use Rattle.logic_source.specs.Layout.{own_values, block_values, instance_values, values_rule, routine_values, block_clocks, instance_clocks, clocks_rule, routine_clocks}
 use Rattle.logic_source.specs.Seats.{value_count, clock_count}
 use Rattle.logic_source.proofs.Layouts.{all_at}

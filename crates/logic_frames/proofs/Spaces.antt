@@ -4,7 +4,7 @@ use Rattle.std.specs.Prelude.{if◌then◌else◌, is_some, option_and_then, unw
 use Rattle.std.proofs.lemmas.Bool.{and_parts}
 use Rattle.plant_types.specs.Words.{folded, same_word}
 use Rattle.plant_types.specs.declared.values.Bounds.{Bounds}
-use Rattle.plant_types.specs.Values.{truth, is_true, has_index, row_place}
+use Rattle.plant_types.specs.Values.{truth, is_true, has_index, row_place, Path}
 use Rattle.std_blocks.specs.Calls.{call}
 use Rattle.std_blocks.specs.Timers.{ton, tof}
 use Rattle.st_tree.specs.Meaning.{Ran}
@@ -20,7 +20,7 @@ use Rattle.logic_source.proofs.Fitting.{bounds_are}
 use Rattle.logic_source.specs.Blocks.{AreBelow}
 use Rattle.logic_source.specs.Paths.{is_called}
 use Rattle.logic_source.specs.Worlds as worlds
-use Rattle.logic_source.specs.Worlds.{Path, World, words_of, path_in, element_path, assign, with_call, timer_output, timer_call, trigger_call, in_word, pt_word, clk_word, routine_space, called_named}
+use Rattle.logic_source.specs.Worlds.{World, words_of, path_in, element_path, assign, with_call, timer_output, timer_call, trigger_call, in_word, pt_word, clk_word, routine_space, called_named}
 use Rattle.logic_source.specs.Layout.{ClockAt, block_values, values_rule, routine_values, block_clocks, clocks_rule, routine_clocks, cell_paths, all_clocks, IsDistinctlyNamed}
 use Rattle.logic_source.specs.Seats.{StandsFrom, member_number, is_of_standard, value_offset, clock_offset}
 use Rattle.logic_source.proofs.Agreeing.{named_among}

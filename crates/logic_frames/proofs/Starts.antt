@@ -15,7 +15,8 @@ use Rattle.logic_source.specs.Source.{PlainRoutine, Source, own_cells, global_ce
 use Rattle.logic_source.specs.Names.{kinds_named, meant_in}
 use Rattle.logic_source.specs.Blocks.{AreBelow, HasItsTypes, Declares, DeclaresThere}
 use Rattle.logic_source.specs.Worlds as worlds
-use Rattle.logic_source.specs.Worlds.{Path, World, words_of, path_in, routine_space, no_calls, begun, block_begun, instances_begun, begin_rule, routine_begun, programs_begun}
+use Rattle.plant_types.specs.Values.{Path}
+use Rattle.logic_source.specs.Worlds.{World, words_of, path_in, routine_space, no_calls, begun, block_begun, instances_begun, begin_rule, routine_begun, programs_begun}
 use Rattle.logic_source.specs.Layout.{ClockAt, own_values, block_values, instance_values, values_rule, routine_values, block_clocks, instance_clocks, clocks_rule, routine_clocks, cell_paths, all_clocks, IsDistinctlyNamed}
 use Rattle.logic_source.specs.Seats.{StandsFrom, value_count, clock_count}
 use Rattle.logic_source.proofs.Levels.{by_its_rule}

@@ -19,7 +19,7 @@ use Rattle.logic_source.specs.Source.{PlainRoutine, Source, own_cells}
 use Rattle.logic_source.specs.Blocks.{Declares, AreBelow}
 use Rattle.logic_source.specs.Paths.{is_called}
 use Rattle.logic_source.specs.Names.{meant_in}
-use Rattle.logic_source.specs.Worlds.{Path}
+use Rattle.plant_types.specs.Values.{Path}
 use Rattle.logic_source.specs.Layout.{ClockAt, own_values, block_values, instance_values, values_rule, routine_values, block_clocks, instance_clocks, clocks_rule, routine_clocks}
 use Rattle.logic_source.specs.Seats.{value_count, clock_count}
 use Rattle.logic_source.proofs.Agreeing.{among_at}

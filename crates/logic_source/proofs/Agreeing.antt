@@ -10,7 +10,8 @@ use Rattle.logic_source.specs.declared.logic.BlockRef.TheVariants.{Ton, Tof, RTr
 use Rattle.logic_source.specs.Source.{PlainRoutine, Source}
 use Rattle.logic_source.specs.Names.{find_word, instance_words, instance_named, block_named, meant_in}
 use Rattle.logic_source.specs.Blocks.{Declares, AsksDeclared}
-use Rattle.logic_source.specs.Worlds.{Path, World, called, called_named, path_in, element_path, assign, output_at, words_of, routine_space, run_rule, block_begun, instances_begun, begun, begin_rule}
+use Rattle.plant_types.specs.Values.{Path}
+use Rattle.logic_source.specs.Worlds.{World, called, called_named, path_in, element_path, assign, output_at, words_of, routine_space, run_rule, block_begun, instances_begun, begun, begin_rule}
 use Rattle.logic_source.specs.Layout.{ClockAt, block_values, instance_values, own_values, values_rule, block_clocks, instance_clocks, clocks_rule}
 use Rattle.logic_source.specs.Ranges.{KindAt, block_kinds, instance_kinds, own_kinds, kinds_rule}
 

@@ -9,7 +9,7 @@ use Rattle.std.proofs.lemmas.List.Folds.{list_all-append}
 use Rattle.plant_types.specs.Words.{folded}
 use Rattle.plant_types.specs.declared.values.Kind.{Kind}
 use Rattle.plant_types.specs.declared.values.Kind.TheVariants as kind
-use Rattle.plant_types.specs.Values.{is_in_range}
+use Rattle.plant_types.specs.Values.{is_in_range, Path}
 use Rattle.st_blocks.specs.Chains.{Among}
 use Rattle.st_tree.specs.Every.{every}
 use Rattle.st_tree.specs.Fits.{Context, all_fit, fits_option}
@@ -39,7 +39,7 @@ use Rattle.logic_source.specs.Pous.{block_names}
 use Rattle.logic_source.specs.Units.{start_by, start_of, listed, starts_in, routine_of, declared_globals, source_in}
 use Rattle.logic_source.specs.Names.{meant_in}
 use Rattle.logic_source.specs.Blocks.{levels, AreBelow}
-use Rattle.logic_source.specs.Worlds.{Path, World, words_of, routine_space, left_by, no_calls, begun, block_begun, instances_begun, begin_rule, routine_begun, programs_begun, globals_routine, zero_world, opening}
+use Rattle.logic_source.specs.Worlds.{World, words_of, routine_space, left_by, no_calls, begun, block_begun, instances_begun, begin_rule, routine_begun, programs_begun, globals_routine, zero_world, opening}
 use Rattle.logic_source.specs.Ranges.{KindAt, own_kinds, block_kinds, instance_kinds, kinds_rule, routine_kinds, all_kinds, AllInRange}
 use Rattle.logic_source.proofs.Agreeing.{among_at}
 use Rattle.logic_source.proofs.Apart.{none_if, none_or, shared_word, words_apart}

@@ -9,7 +9,8 @@ use Rattle.logic_source.specs.declared.logic.Instance.{Instance}
 use Rattle.logic_source.specs.declared.logic.BlockRef.{BlockRef}
 use Rattle.logic_source.specs.declared.logic.BlockRef.TheVariants.{Ton, Tof}
 use Rattle.logic_source.specs.Source.{Source}
-use Rattle.logic_source.specs.Worlds.{Path, World, index_word, in_word}
+use Rattle.plant_types.specs.Values.{Path}
+use Rattle.logic_source.specs.Worlds.{World, index_word, in_word}
 use Rattle.logic_source.specs.Carried.{carried}
 
 abbrev variable : List ℕ → Kind → Local

@@ -6,13 +6,13 @@ use Rattle.std.proofs.lemmas.Bool.{cases_Bool, and_parts}
 use Rattle.std.proofs.lemmas.List.Elements.{All-from_recursion, recursion_from_All}
 use Rattle.plant_types.specs.declared.values.Kind.{Kind}
 use Rattle.plant_types.specs.declared.values.Kind.TheVariants as kind
-use Rattle.plant_types.specs.Values.{is_in_range}
+use Rattle.plant_types.specs.Values.{is_in_range, Path}
 use Rattle.std_blocks.specs.Calls.{Call}
 use Rattle.st_blocks.specs.Chains.{Among}
 use Rattle.st_tree.specs.Kinds.{same_kind}
 use Rattle.st_names.specs.First.{first_that}
 use Rattle.logic_source.specs.Source.{Source}
-use Rattle.logic_source.specs.Worlds.{Path, World, same_path, opening}
+use Rattle.logic_source.specs.Worlds.{World, same_path, opening}
 use Rattle.logic_source.specs.Layout.{NoneTwice, IsDistinctlyNamed}
 use Rattle.logic_source.specs.Ranges.{KindAt, all_kinds, AllInRange}
 use Rattle.logic_source.specs.Carried.{same_array, same_value, both_same, value_by_path, keeps_value, keeps_calls, carried}

@@ -9,7 +9,7 @@ use Rattle.std.proofs.lemmas.Bool.{both_ways}
 use Rattle.std.proofs.lemmas.List.Elements.{All-head, All-tail}
 use Rattle.std.proofs.lemmas.Option.{slice_get-map}
 use Rattle.plant_types.specs.Words.{folded, same_word}
-use Rattle.plant_types.specs.Values.{truth}
+use Rattle.plant_types.specs.Values.{truth, Path}
 use Rattle.plant_types.specs.declared.values.Kind.{Kind}
 use Rattle.plant_types.specs.declared.values.Kind.TheVariants as kind
 use Rattle.base_words.specs.Names.{find_name}
@@ -41,7 +41,7 @@ use Rattle.logic_source.specs.Pous.{pous_of, block_pous, block_names, pou_word}
 use Rattle.logic_source.specs.Units.{block_ref, routine_of, source_in}
 use Rattle.logic_source.specs.Names.{find_word, instance_named, own_kind, output_kind_of}
 use Rattle.logic_source.specs.Blocks.{AreBelow}
-use Rattle.logic_source.specs.Worlds.{Path, World, in_word, pt_word, clk_word, timer_output, output_at}
+use Rattle.logic_source.specs.Worlds.{World, in_word, pt_word, clk_word, timer_output, output_at}
 use Rattle.logic_source.specs.Ranges.{KindAt, kind_at, own_kinds, block_kinds, instance_kinds, kinds_rule, routine_kinds, all_kinds, AllInRange}
 use Rattle.logic_source.proofs.Agreeing.{among_at}
 use Rattle.logic_source.proofs.Apart.{shared_word, pick_block, blocks_picked}

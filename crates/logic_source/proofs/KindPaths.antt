@@ -10,7 +10,7 @@ use Rattle.std.proofs.lemmas.List.Elements.{All-from_recursion, recursion_from_A
 use Rattle.plant_types.specs.Words.{folded}
 use Rattle.plant_types.specs.declared.values.Bounds.{Bounds}
 use Rattle.plant_types.specs.declared.values.Kind.{Kind}
-use Rattle.plant_types.specs.Values.{is_in_range, has_index}
+use Rattle.plant_types.specs.Values.{is_in_range, has_index, Path}
 use Rattle.st_blocks.specs.Chains.{Among}
 use Rattle.st_tree.proofs.RangeLaws.{InRange}
 use Rattle.logic_source.specs.declared.logic.Variable.{Variable}
@@ -21,7 +21,7 @@ use Rattle.logic_source.specs.declared.logic.BlockRef.{BlockRef}
 use Rattle.logic_source.specs.declared.logic.BlockRef.TheVariants.{Ton, Tof, RTrig, Declared}
 use Rattle.logic_source.specs.Source.{PlainRoutine, Source}
 use Rattle.logic_source.specs.Blocks.{levels, AreBelow}
-use Rattle.logic_source.specs.Worlds.{Path, World, same_path, path_of, index_word}
+use Rattle.logic_source.specs.Worlds.{World, same_path, path_of, index_word}
 use Rattle.logic_source.specs.Worlds as worlds
 use Rattle.logic_source.specs.Layout.{block_values, instance_values, local_values, element_values, row_values, own_values, values_rule, routine_values, variable_values, global_values, program_values, cell_paths, Absent, NoneTwice, IsDistinctlyNamed}
 use Rattle.logic_source.specs.Ranges.{KindAt, element_at, block_kinds, instance_kinds, local_kinds, row_kinds, own_kinds, kinds_rule, routine_kinds, global_kind_at, global_kinds, program_kinds, all_kinds, AllInRange}

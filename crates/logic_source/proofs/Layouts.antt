@@ -17,7 +17,8 @@ use Rattle.logic_source.specs.declared.logic.BlockRef.TheVariants.{Ton, Tof, RTr
 use Rattle.logic_source.specs.Source.{PlainRoutine, Source}
 use Rattle.logic_source.specs.Names.{global_words, own_words, row_words, instance_words}
 use Rattle.logic_source.specs.Blocks.{levels}
-use Rattle.logic_source.specs.Worlds.{Path, in_word, pt_word, clk_word}
+use Rattle.plant_types.specs.Values.{Path}
+use Rattle.logic_source.specs.Worlds.{in_word, pt_word, clk_word}
 use Rattle.logic_source.specs.Layout.{ClockAt, block_values, instance_values, local_values, element_values, row_values, variable_values, values_rule, routine_values, block_clocks, instance_clocks, clocks_rule, routine_clocks, program_values, program_clocks, cell_paths, clock_paths, Absent, NoneTwice, AreNamedApart, IsDistinctlyNamed}
 use Rattle.logic_source.proofs.Paths.{Disjoint, absent_append, once_append, Under, AllUnder, self_under, apart_labels, label_under, absent_under, under_all, all_more, AllInside, inside_under, under_inside, inside_all, absent_alone}
 use Rattle.logic_source.proofs.Rows.{row_under, lacks_parts, disjoint_append, rows_absent, rows_once, rows_inside, rows_alone}

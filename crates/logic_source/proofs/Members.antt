@@ -10,7 +10,8 @@ use Rattle.logic_source.specs.declared.logic.BlockRef.TheVariants.{Ton, Tof, RTr
 use Rattle.logic_source.specs.Source.{PlainRoutine}
 use Rattle.logic_source.specs.Names.{own_words, instance_words, find_word, instance_named}
 use Rattle.logic_source.specs.Blocks.{AreBelow}
-use Rattle.logic_source.specs.Worlds.{Path, in_word, pt_word, clk_word}
+use Rattle.plant_types.specs.Values.{Path}
+use Rattle.logic_source.specs.Worlds.{in_word, pt_word, clk_word}
 use Rattle.logic_source.specs.Layout.{ClockAt, block_values, values_rule, routine_values, block_clocks, routine_clocks}
 use Rattle.logic_source.specs.Seats.{StandsFrom, member_number, is_of_standard}
 use Rattle.logic_source.proofs.Levels.{by_its_rule}

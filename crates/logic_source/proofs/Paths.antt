@@ -6,7 +6,8 @@ use Rattle.std.specs.Cmp.Lexicographic.{bytes_decides}
 use Rattle.std.proofs.Math.ListN.{set}
 use Rattle.std.proofs.lemmas.List.{reverse-append, length-reverse, length-append, get_or-append-add, append_assoc}
 use Rattle.std.proofs.lemmas.Bool.{cases_Bool, and_parts, both_ways}
-use Rattle.logic_source.specs.Worlds.{Path, same_path}
+use Rattle.plant_types.specs.Values.{Path}
+use Rattle.logic_source.specs.Worlds.{same_path}
 use Rattle.logic_source.specs.Layout.{Absent, NoneTwice}
 
 pub path_is : (p q : Path) → same_path p q ≡ true → p ≡ q

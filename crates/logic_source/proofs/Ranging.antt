@@ -9,7 +9,7 @@ use Rattle.plant_types.specs.Words.{folded}
 use Rattle.plant_types.specs.declared.values.Bounds.{Bounds}
 use Rattle.plant_types.specs.declared.values.Kind.{Kind}
 use Rattle.plant_types.specs.declared.values.Kind.TheVariants as kind
-use Rattle.plant_types.specs.Values.{is_in_range, has_index}
+use Rattle.plant_types.specs.Values.{is_in_range, has_index, Path}
 use Rattle.std_blocks.specs.Calls.{Call}
 use Rattle.st_blocks.specs.Chains.{Among}
 use Rattle.st_tree.specs.Every.{every}
@@ -39,7 +39,7 @@ use Rattle.logic_source.specs.Units.{routine_of, source_in}
 use Rattle.logic_source.specs.Names.{instance_named, block_named, same_bounds, bounds_named, kinds_named, output_kind_of, output_kind_named, meant_in}
 use Rattle.logic_source.specs.Blocks.{levels, AreBelow}
 use Rattle.logic_source.specs.Layout.{IsDistinctlyNamed}
-use Rattle.logic_source.specs.Worlds.{Path, World, same_path, words_of, path_in, element_path, pt_word, with_call, timer_call, trigger_call, output_at, called, called_named, routine_space, run_rule, run_routine, run_in, run_program}
+use Rattle.logic_source.specs.Worlds.{World, same_path, words_of, path_in, element_path, pt_word, with_call, timer_call, trigger_call, output_at, called, called_named, routine_space, run_rule, run_routine, run_in, run_program}
 use Rattle.logic_source.specs.Ranges.{KindAt, kind_at, element_at, own_kinds, block_kinds, instance_kinds, kinds_rule, routine_kinds, all_kinds, AllInRange}
 use Rattle.logic_source.proofs.Agreeing.{among_at, named_among}
 use Rattle.logic_source.proofs.Apart.{none_misnamed, shared_word, words_apart}

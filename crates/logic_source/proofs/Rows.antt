@@ -8,13 +8,13 @@ use Rattle.std.proofs.lemmas.List.{length-append}
 use Rattle.std.proofs.lemmas.List.Folds.{list_any-append}
 use Rattle.std.proofs.lemmas.List.Sums.{sum_by-cons}
 use Rattle.plant_types.specs.declared.values.Bounds.{Bounds}
-use Rattle.plant_types.specs.Values.{has_index, row_length}
+use Rattle.plant_types.specs.Values.{has_index, row_length, Path}
 use Rattle.plant_types.specs.Words.{folded}
 use Rattle.st_names.specs.Taken.{is_among, repeats}
 use Rattle.logic_source.specs.declared.logic.Row.{Row}
 use Rattle.logic_source.specs.Source.{row_cells}
 use Rattle.logic_source.specs.Names.{row_words}
-use Rattle.logic_source.specs.Worlds.{Path, index_word}
+use Rattle.logic_source.specs.Worlds.{index_word}
 use Rattle.logic_source.specs.Layout.{elements_from, element_values, row_values, Absent, NoneTwice}
 use Rattle.logic_source.proofs.Paths.{Disjoint, absent_append, once_append, Under, AllUnder, absent_under, AllInside, inside_under, under_inside, inside_all, absent_alone, path_same}
 

@@ -7,7 +7,7 @@ use Rattle.std.specs.Ordering.{int_eq}
 use Rattle.std.specs.Str.{bytes_eq}
 use Rattle.std.specs.Cmp.Lexicographic.{bytes_decides}
 use Rattle.std.proofs.lemmas.Bool.{cases_Bool, and_parts}
-use Rattle.plant_types.specs.Values.{has_index}
+use Rattle.plant_types.specs.Values.{has_index, Path}
 use Rattle.plant_types.specs.Words.{folded, same_word}
 use Rattle.plant_types.specs.declared.values.Bounds.{Bounds}
 use Rattle.plant_types.specs.declared.values.Kind.{Kind}
@@ -36,7 +36,7 @@ use Rattle.logic_source.specs.Seats.{own_or_global, row_first, row_number}
 use Rattle.logic_source.specs.Pous.{pous_of, block_pous, block_names, pou_word}
 use Rattle.logic_source.specs.Units.{local_by, local_of, row_by, own_row_of, block_ref, instance_by, instance_of, routine_of, source_in}
 use Rattle.logic_source.specs.Names.{own_words, row_words, find_word, own_kind, global_kind, kind_named, row_named, array_named, element_kind_named, bounds_named}
-use Rattle.logic_source.specs.Worlds.{Path, words_of, path_of, path_in, index_word, element_path, globals_routine}
+use Rattle.logic_source.specs.Worlds.{words_of, path_of, path_in, index_word, element_path, globals_routine}
 use Rattle.logic_source.specs.Ranges.{kind_at, element_at, local_kinds, row_kinds, own_kinds, all_kinds}
 use Rattle.logic_source.proofs.Apart.{shared_word, pick_block}
 use Rattle.logic_source.proofs.Distinct.{variable_by, array_by, pick_global, globals_picked, pick_global_row, global_rows_picked, global_row_named}

@@ -10,7 +10,7 @@ use Rattle.std.proofs.lemmas.List.Quantifiers.{position-Some}
 use Rattle.std.proofs.lemmas.Option.{slice_get-map, slice_get_within, slice_get-get_or, get_or_from_slice_get}
 use Rattle.std.proofs.Math.ListN.{set}
 use Rattle.plant_types.specs.declared.values.Bounds.{Bounds}
-use Rattle.plant_types.specs.Values.{has_index, row_length, row_place}
+use Rattle.plant_types.specs.Values.{has_index, row_length, row_place, Path}
 use Rattle.plant_types.specs.Words.{folded}
 use Rattle.st_names.specs.Scopes.{or_other}
 use Rattle.std_blocks.specs.Calls.{Call}
@@ -23,7 +23,7 @@ use Rattle.logic_source.specs.declared.logic.BlockRef.TheVariants.{Ton, Tof, RTr
 use Rattle.logic_source.specs.Source.{PlainRoutine, Source, row_cells, own_cells, global_cells}
 use Rattle.logic_source.specs.Names.{global_words, own_words, row_words, find_word, bounds_named}
 use Rattle.logic_source.specs.Blocks.{levels}
-use Rattle.logic_source.specs.Worlds.{Path, World, words_of, path_of, path_in, index_word, element_path, assign, with_call}
+use Rattle.logic_source.specs.Worlds.{World, words_of, path_of, path_in, index_word, element_path, assign, with_call}
 use Rattle.logic_source.specs.Layout.{ClockAt, block_values, instance_values, local_values, element_values, row_values, own_values, variable_values, values_rule, routine_values, block_clocks, instance_clocks, clocks_rule, routine_clocks, global_values, program_values, program_clocks, cell_paths, all_clocks, clock_paths, Stands, IsDistinctlyNamed}
 use Rattle.logic_source.specs.Seats.{StandsFrom, value_count, clock_count, values_before, clocks_before, value_offset, program_values_before, program_clocks_before, program_values_base, program_clocks_base, own_or_global, value_number, row_number}
 use Rattle.logic_source.proofs.Paths.{written}

@@ -7,7 +7,8 @@ use Rattle.logic_source.specs.declared.logic.BlockRef.{BlockRef}
 use Rattle.logic_source.specs.declared.logic.BlockRef.TheVariants.{Ton, Tof, RTrig}
 use Rattle.logic_source.specs.Source.{Source}
 use Rattle.logic_source.specs.Names.{same_bounds}
-use Rattle.logic_source.specs.Worlds.{Path, World, same_path, opening}
+use Rattle.plant_types.specs.Values.{Path}
+use Rattle.logic_source.specs.Worlds.{World, same_path, opening}
 use Rattle.logic_source.specs.Layout.{ClockAt, all_clocks}
 use Rattle.logic_source.specs.Ranges.{KindAt, all_kinds}
 

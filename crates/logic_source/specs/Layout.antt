@@ -1,7 +1,7 @@
 -- The layout of a source: the paths of all values, and of all standard blocks, each list in one order.
 use Rattle.std.specs.Prelude.{◌≡◌, ℕ, zero, suc, ℤ, pos, ◌+ℤ◌, List, [], ◌∷◌, ◌++◌, map, length, false}
 use Rattle.plant_types.specs.Words.{folded}
-use Rattle.plant_types.specs.Values.{row_length}
+use Rattle.plant_types.specs.Values.{row_length, Path}
 use Rattle.plant_types.specs.declared.values.Bounds.{Bounds}
 use Rattle.std_blocks.specs.Calls.{Call}
 use Rattle.st_names.specs.Taken.{repeats}
@@ -15,7 +15,7 @@ use Rattle.logic_source.specs.declared.logic.BlockRef.TheVariants.{Ton, Tof, RTr
 use Rattle.logic_source.specs.Source.{PlainRoutine, Source}
 use Rattle.logic_source.specs.Names.{global_words, own_words, row_words, instance_words}
 use Rattle.logic_source.specs.Blocks.{by_type}
-use Rattle.logic_source.specs.Worlds.{Path, World, same_path, index_word, in_word, pt_word, clk_word}
+use Rattle.logic_source.specs.Worlds.{World, same_path, index_word, in_word, pt_word, clk_word}
 
 -- the standard block at a path
 pub record ClockAt : Type 0 where

@@ -8,7 +8,7 @@ use Rattle.logic_source.specs.declared.logic.BlockRef.{BlockRef}
 use Rattle.logic_source.specs.declared.logic.BlockRef.TheVariants.{Ton, Tof, RTrig, Declared}
 use Rattle.logic_source.specs.Source.{PlainRoutine, Source}
 use Rattle.logic_source.specs.Blocks.{by_type}
-use Rattle.logic_source.specs.Worlds.{Path}
+use Rattle.plant_types.specs.Values.{Path}
 
 abbrev mutual
   -- the instances that a statement calls, in order of text

@@ -5,7 +5,7 @@ use Rattle.plant_types.specs.Words.{folded}
 use Rattle.plant_types.specs.declared.values.Bounds.{Bounds}
 use Rattle.plant_types.specs.declared.values.Kind.{Kind}
 use Rattle.plant_types.specs.declared.values.Kind.TheVariants as kind
-use Rattle.plant_types.specs.Values.{is_in_range}
+use Rattle.plant_types.specs.Values.{is_in_range, Path}
 use Rattle.std_blocks.specs.Calls.{Call}
 use Rattle.logic_source.specs.declared.logic.Variable.{Variable}
 use Rattle.logic_source.specs.declared.logic.Local.{Local}
@@ -15,7 +15,7 @@ use Rattle.logic_source.specs.declared.logic.BlockRef.{BlockRef}
 use Rattle.logic_source.specs.declared.logic.BlockRef.TheVariants.{Ton, Tof, RTrig, Declared}
 use Rattle.logic_source.specs.Source.{PlainRoutine, Source}
 use Rattle.logic_source.specs.Blocks.{by_type}
-use Rattle.logic_source.specs.Worlds.{Path, World, path_of, in_word, pt_word, clk_word}
+use Rattle.logic_source.specs.Worlds.{World, path_of, in_word, pt_word, clk_word}
 use Rattle.logic_source.specs.Layout.{element_values}
 
 -- the path of a value, its kind, and the bounds of the array if it is an element of one

@@ -2,7 +2,7 @@
 use Rattle.std.specs.Prelude.{ℕ, ℤ, pos, negsuc, Bool, true, false, ◌&&◌, if◌then◌else◌, List, [], ◌∷◌, map, is_some, Option, Some, None, slice_get, codes}
 use Rattle.std.specs.Str.{bytes_eq}
 use Rattle.plant_types.specs.Words.{folded, same_word}
-use Rattle.plant_types.specs.Values.{truth, is_true}
+use Rattle.plant_types.specs.Values.{truth, is_true, Path}
 use Rattle.std_blocks.specs.Calls.{Call, call}
 use Rattle.std_blocks.specs.Timers.{ton, tof}
 use Rattle.std_blocks.specs.Edges.{r_trig}
@@ -14,10 +14,6 @@ use Rattle.logic_source.specs.declared.logic.BlockRef.TheVariants.{Ton, Tof, RTr
 use Rattle.logic_source.specs.Source.{PlainRoutine, Source}
 use Rattle.logic_source.specs.Names.{own_words, row_words, find_word, instance_named, block_named, meant_in}
 use Rattle.logic_source.specs.Blocks.{by_type}
-
--- a list of names, the innermost first: as declared for a routine, in small letters for a value or for calls
-abbrev pub Path : Type 0
-Path = List (List ℕ)
 
 -- a path in small letters
 abbrev pub words_of : Path → Path

@@ -1,7 +1,7 @@
 //! Laws of sources. These functions do nothing: each has a law as its contract, for the crates above.
 
 ghost use Rattle.std.specs.Prelude.{◌≡◌, ◌+◌, ◌∷◌, [], ℕ, ℤ, List, map, Some, slice_get, slice_set, true, false};
-ghost use Rattle.plant_types.specs.Values.{is_in_range, has_index, row_place};
+ghost use Rattle.plant_types.specs.Values.{is_in_range, has_index, row_place, Path};
 ghost use Rattle.plant_types.specs.Words.{folded};
 ghost use Rattle.std_blocks.specs.Calls.{Call};
 ghost use Rattle.logic_source.specs.declared.logic.Variable.{Variable};
@@ -18,7 +18,7 @@ ghost use Rattle.st_typing.specs.Faults.{AreTyped};
 ghost use Rattle.logic_source.specs.Source.{PlainRoutine, Source};
 ghost use Rattle.logic_source.specs.Units.{source_in};
 ghost use Rattle.logic_source.specs.Blocks.{by_type, AsksDeclared, AreBelow, HasItsTypes};
-ghost use Rattle.logic_source.specs.Worlds.{Path, World, words_of, path_of, path_in, element_path, assign, with_call, run_rule, run_routine, run_program, begin_rule, routine_begun, opening};
+ghost use Rattle.logic_source.specs.Worlds.{World, words_of, path_of, path_in, element_path, assign, with_call, run_rule, run_routine, run_program, begin_rule, routine_begun, opening};
 ghost use Rattle.logic_source.specs.Layout.{ClockAt, block_values, values_rule, routine_values, block_clocks, clocks_rule, routine_clocks, cell_paths, all_clocks, clock_paths, Stands, NoneTwice, IsDistinctlyNamed};
 ghost use Rattle.logic_source.specs.Seats.{StandsFrom, value_offset, clock_offset, program_values_base, program_clocks_base, value_number, row_number, member_number, is_of_standard};
 ghost use Rattle.logic_source.specs.Ranges.{KindAt, all_kinds, AllInRange};

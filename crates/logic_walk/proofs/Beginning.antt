@@ -6,7 +6,8 @@ use Rattle.st_tree.specs.View.{view_body}
 use Rattle.st_tree.specs.Meaning.{run_all}
 use Rattle.logic_cells.specs.declared.stop.Stop.{Stop}
 use Rattle.logic_cells.specs.Cells.{PlainCells}
-use Rattle.logic_cells.specs.Runs.{Path, ended}
+use Rattle.plant_types.specs.Values.{Path}
+use Rattle.logic_cells.specs.Runs.{ended}
 use Rattle.logic_walk.specs.declared.frame.Seat.{Seat}
 use Rattle.logic_walk.specs.declared.frame.Base.{Base}
 use Rattle.logic_walk.specs.declared.frame.Frame.{Frame}

@@ -2,7 +2,7 @@
 use Rattle.std.proofs.Common.{◌≡◌, ◌∙◌, ap, sym, ℕ, ℤ, ◌+◌, ◌<◌, List, [], ◌∷◌, length, get_or, drop, map, Bool, true, false}
 use Rattle.std.specs.Prelude.{if◌then◌else◌, Ok, Err, Result}
 use Rattle.std.proofs.lemmas.List.{at_drop_more}
-use Rattle.plant_types.specs.Values.{is_true}
+use Rattle.plant_types.specs.Values.{is_true, Path}
 use Rattle.plant_types.specs.declared.values.Place.{Place}
 use Rattle.st_tree.specs.declared.tree.Argument.{Argument}
 use Rattle.st_tree.specs.declared.tree.Argument.TheVariants.{Input}
@@ -18,7 +18,7 @@ use Rattle.st_tree.specs.Meaning.{Space, Ran, Trapped, Chosen, Took, on_test, wi
 use Rattle.st_tree.proofs.Views.{view_branch_is, view_choice_is}
 use Rattle.logic_cells.specs.declared.stop.Stop.{Stop}
 use Rattle.logic_cells.specs.Cells.{PlainCells}
-use Rattle.logic_cells.specs.Runs.{Path, spot_of, ended}
+use Rattle.logic_cells.specs.Runs.{spot_of, ended}
 use Rattle.logic_walk.specs.declared.frame.Base.{Base}
 use Rattle.logic_walk.specs.declared.frame.Seat.{Seat}
 use Rattle.logic_walk.specs.Walks.{frame_space}

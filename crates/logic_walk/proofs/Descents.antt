@@ -6,7 +6,7 @@ use Rattle.std.proofs.lemmas.Bool.Decides.{nat_tests}
 use Rattle.std.proofs.lemmas.Option.{slice_get_within, slice_get_read}
 use Rattle.std.specs.Prelude.{slice_get, nat_le, ◌&&◌, if◌then◌else◌, codes, Ok, Err, Result, IfOk}
 use Rattle.logic_cells.specs.declared.clock.Standard.{Standard}
-use Rattle.logic_cells.specs.Runs.{Path}
+use Rattle.plant_types.specs.Values.{Path}
 use Rattle.logic_walk.specs.declared.frame.Frame.{Frame}
 use Rattle.logic_walk.specs.declared.frame.SeatOf.{SeatOf}
 use Rattle.logic_walk.specs.declared.frame.SeatOf.TheVariants as seat_of

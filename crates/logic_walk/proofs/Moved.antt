@@ -1,7 +1,7 @@
 -- A run whose paths go on from a path is the run with paths of its own, moved there.
 use Rattle.std.proofs.Common.{◌≡◌, ◌∙◌, ap, sym, refl, ℕ, ℤ, zero, suc, Bool, true, false, List, [], ◌∷◌, append_assoc}
 use Rattle.std.specs.Prelude.{slice_get, nat_eq, if◌then◌else◌, Option, Some, None, Ok, Err, Result}
-use Rattle.plant_types.specs.Values.{is_true}
+use Rattle.plant_types.specs.Values.{is_true, Path}
 use Rattle.plant_types.specs.declared.values.Trap.{Trap}
 use Rattle.st_tree.specs.View.{view_body}
 use Rattle.st_tree.specs.Operators.{Outcome}
@@ -9,7 +9,6 @@ use Rattle.st_tree.specs.Controls.{control_values, span_of}
 use Rattle.st_tree.specs.Plain.{PlainArgument, input, output, PlainStmt, empty, assign, store, call, if_else, case_of, for_to, PlainBody, done, next, Branches, no_branch, branch, Choices, no_choice, choice}
 use Rattle.st_tree.specs.Meaning.{Space, Ran, Done, Trapped, then_run, with_value, turns, labels_fit, Chosen, Took, Passed, or_else, on_test, outcome, index_of, step_of, take_inputs, give_outputs, run, run_all, first_true, first_fit, statement_spot}
 use Rattle.logic_cells.specs.Cells.{PlainCells}
-use Rattle.logic_cells.specs.Runs.{Path}
 use Rattle.logic_walk.specs.declared.frame.Base.{Base}
 use Rattle.logic_walk.specs.declared.frame.Frame.{Frame}
 use Rattle.logic_walk.specs.declared.frame.SeatOf.{SeatOf}

@@ -2,7 +2,7 @@
 use Rattle.std.proofs.Common.{◌≡◌, ◌∙◌, ap, sym, subst, arith, ℕ, zero, suc, ◌+◌, ◌^◌, ◌<◌, List, [], ◌∷◌, ◌++◌, Some, length, map, get_or, length-append, true}
 use Rattle.std.proofs.lemmas.List.{length-map, get_or-map, get_or_append_left, get_or-append-add}
 use Rattle.std.specs.Prelude.{slice_get, if◌then◌else◌}
-use Rattle.logic_cells.specs.Runs.{Path}
+use Rattle.plant_types.specs.Values.{Path}
 use Rattle.logic_walk.specs.declared.frame.SeatOf.TheVariants as seat_of
 use Rattle.logic_walk.specs.declared.frame.Seat.{Seat}
 use Rattle.logic_walk.specs.Frames.{paths_of, paths_below, seats_paths, routine_paths, AreNumbered, InTurn}

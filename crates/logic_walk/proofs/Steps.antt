@@ -3,7 +3,7 @@ use Rattle.std.proofs.Common.{◌≡◌, ◌∙◌, ap, sym, subst, refl, ℕ, �
 use Rattle.std.proofs.lemmas.Bool.{ltb-true}
 use Rattle.std.proofs.lemmas.Option.{slice_get_read}
 use Rattle.std.specs.Prelude.{slice_get, nat_lt, slice_index_or, if◌then◌else◌, Option, Some, Ok, Err, Result, IfErr}
-use Rattle.plant_types.specs.Values.{is_true}
+use Rattle.plant_types.specs.Values.{is_true, Path}
 use Rattle.plant_types.specs.declared.values.Trap.{Trap}
 use Rattle.std_blocks.specs.Calls as calls
 use Rattle.st_tree.specs.declared.tree.Stmt.{Stmt}
@@ -15,7 +15,7 @@ use Rattle.st_tree.specs.Meaning.{Space, Ran, Done, Trapped, then_run, with_valu
 use Rattle.logic_cells.specs.declared.clock.Standard.{Standard}
 use Rattle.logic_cells.specs.declared.stop.Stop.{Stop}
 use Rattle.logic_cells.specs.Cells.{PlainCells, value_at, clocked}
-use Rattle.logic_cells.specs.Runs.{Path, ended}
+use Rattle.logic_cells.specs.Runs.{ended}
 use Rattle.logic_walk.specs.declared.frame.Base.{Base}
 use Rattle.logic_walk.specs.declared.frame.Frame.{Frame}
 use Rattle.logic_walk.specs.declared.frame.SeatOf.TheVariants as seat_of

@@ -7,7 +7,8 @@ use Rattle.st_tree.specs.Meaning.{Space, run_all, turns}
 use Rattle.st_tree.specs.Controls.{up, down}
 use Rattle.logic_cells.specs.declared.stop.Stop.{Stop}
 use Rattle.logic_cells.specs.Cells.{PlainCells}
-use Rattle.logic_cells.specs.Runs.{Path, ended}
+use Rattle.plant_types.specs.Values.{Path}
+use Rattle.logic_cells.specs.Runs.{ended}
 
 module _ (s : Space ℕ PlainCells) (paths : List Path) (slot : ℕ) (body : PlainBody ℕ) where
   pub ran_body : (at cast : ℤ) (w w1 w2 : PlainCells) (r q : Result (Unit {0}) Stop) → cast ≡ at → w1 ≡ s.put w slot cast → ended paths r w2 ≡ run_all s body w1 → r ≡ q → run_all s body (s.put w slot at) ≡ ended paths q w2

@@ -1,13 +1,10 @@
 -- Frames in a table, each of which calls those before it alone, and the paths of the instances below a frame.
 use Rattle.std.specs.Prelude.{◌≡◌, ◌≤◌, ◌+◌, ◌^◌, ℕ, zero, suc, nat_eq, if◌then◌else◌, List, [], ◌∷◌, ◌++◌, map, length, Option, Some, None, slice_get}
 use Rattle.logic_walk.specs.declared.frame.SeatOf.{SeatOf}
+use Rattle.plant_types.specs.Values.{Path}
 use Rattle.logic_walk.specs.declared.frame.SeatOf.TheVariants as seat_of
 use Rattle.logic_walk.specs.declared.frame.Seat.{Seat}
 use Rattle.logic_walk.specs.declared.frame.Frame.{Frame}
-
--- the names of instances as declared, the innermost first
-abbrev pub Path : Type 0
-Path = List (List ℕ)
 
 abbrev pub of_frame : {A : Type 0} → A → (Frame → A) → Option Frame → A
 of_frame none rule None = none

@@ -1,6 +1,6 @@
 -- What bodies over numbers do, and what runs over cells give.
 use Rattle.std.specs.Prelude.{◌+◌, ◌-◌, ◌*◌, ◌^◌, ◌<◌, ℕ, ℤ, pos, Bool, true, false, nat_lt, if◌then◌else◌, List, [], ◌∷◌, ◌++◌, Option, Some, None, Result, Ok, Err, slice_get}
-use Rattle.plant_types.specs.Values.{is_true, row_place}
+use Rattle.plant_types.specs.Values.{is_true, row_place, Path}
 use Rattle.std_blocks.specs.Calls.{call}
 use Rattle.st_tree.specs.View.{view_body}
 use Rattle.st_tree.specs.Meaning.{Space, Ran, Done, Trapped, Chosen, Took, Passed, run_all}
@@ -9,7 +9,7 @@ use Rattle.logic_cells.specs.declared.clock.Standard.TheVariants as standard
 use Rattle.logic_cells.specs.declared.stop.Stop.{Stop}
 use Rattle.logic_cells.specs.Cells.{PlainCells, value_at, assigned, clocked}
 use Rattle.logic_cells.specs.Clocks.{shown_by}
-use Rattle.logic_cells.specs.Runs.{Path, ended}
+use Rattle.logic_cells.specs.Runs.{ended}
 use Rattle.logic_walk.specs.declared.frame.SeatOf.{SeatOf}
 use Rattle.logic_walk.specs.declared.frame.SeatOf.TheVariants as seat_of
 use Rattle.logic_walk.specs.declared.frame.Seat.{Seat}

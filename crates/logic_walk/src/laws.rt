@@ -4,7 +4,7 @@ ghost use Rattle.std.specs.Prelude.{◌≡◌, ◌<◌, ℕ, ℤ, List, Some, sl
 ghost use Rattle.st_tree.specs.View.{view_body};
 ghost use Rattle.st_tree.specs.Meaning.{run_all};
 ghost use Rattle.logic_cells.specs.Cells.{PlainCells, value_at, assigned};
-ghost use Rattle.logic_cells.specs.Runs.{Path};
+ghost use Rattle.plant_types.specs.Values.{Path};
 ghost use Rattle.logic_walk.specs.declared.frame.Base.{Base};
 ghost use Rattle.logic_walk.specs.declared.frame.Frame.{Frame};
 ghost use Rattle.logic_walk.specs.declared.frame.Seat.{Seat};

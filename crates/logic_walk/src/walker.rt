@@ -5,7 +5,8 @@ ghost use Rattle.st_tree.specs.Plain.{call};
 ghost use Rattle.st_tree.specs.View.{view_body, view_stmt, view_branches, view_choices, view_argument};
 ghost use Rattle.st_tree.specs.Meaning.{run, run_all, turns, first_true, first_fit};
 ghost use Rattle.st_tree.specs.Controls.{up, down, control_values};
-ghost use Rattle.logic_cells.specs.Runs.{Path, ended};
+ghost use Rattle.plant_types.specs.Values.{Path};
+ghost use Rattle.logic_cells.specs.Runs.{ended};
 ghost use Rattle.logic_walk.specs.Frames.{AreInTurn, InTurn, frame_paths};
 ghost use Rattle.logic_walk.specs.Walks.{HasRoom, called, placed, under, run_frame, run_within, space_within, paths_within, chosen};
 

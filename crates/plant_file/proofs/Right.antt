@@ -11,8 +11,10 @@ use Rattle.std.specs.Prelude.{nat_eq, nat_lt}
 use Rattle.std.specs.List.{list_all, list_any, position, position_or_len}
 use Rattle.std.specs.Str.{bytes_eq}
 use Rattle.toml.specs.Data.{Items, no_items, item, Members, as_table}
-use Rattle.plant_file.specs.Lists.{◌>>=◌, passing, repeats}
-use Rattle.plant_file.specs.PlantFiles.{PlainPlantFile, IsPlantFile, IsConsole, is_sized, is_tag, list_at, text_at, texts, texts_at, number_in, integer_at, has_key, has_only, name_in, areas_in, sources_in, alarms_in, numbers_of, console_number, console_of, consoles_of, consoles_in, numbers_clash}
+use Rattle.plant_types.specs.Options.{◌>>=◌}
+use Rattle.plant_file.specs.Lists.{passing, repeats}
+use Rattle.plant_types.specs.Words.{is_tag, is_sized}
+use Rattle.plant_file.specs.PlantFiles.{PlainPlantFile, IsPlantFile, IsConsole, list_at, text_at, texts, texts_at, number_in, integer_at, has_key, has_only, name_in, areas_in, sources_in, alarms_in, numbers_of, console_number, console_of, consoles_of, consoles_in, numbers_clash}
 use Rattle.plant_file.specs.declared.console.ListedConsole.{ListedConsole}
 
 -- where something came of a value, there was one

@@ -1,10 +1,11 @@
 -- What the document of a plant file says (this profile): the keys that it has, and the rule of each. Lengths are in bytes, and texts compare exactly.
-use Rattle.std.specs.Prelude.{◌≡◌, ℕ, ◌<◌, ◌≤◌, ◌==◌, ℤ, pos, negsuc, nat_le, nat_eq, Bool, true, false, not, ◌&&◌, ◌||◌, List, [], ◌∷◌, length, map, position, Option, Some, None, is_some, if◌then◌else◌, codes, All}
+use Rattle.std.specs.Prelude.{◌≡◌, ℕ, ◌<◌, ◌≤◌, ℤ, pos, negsuc, nat_le, nat_eq, Bool, true, false, not, ◌&&◌, List, [], ◌∷◌, length, map, position, Option, Some, None, is_some, if◌then◌else◌, codes, All}
 use Rattle.std.specs.List.{list_any, list_all}
 use Rattle.std.specs.Str.{bytes_eq}
-use Rattle.std.specs.Char.{is_ascii_alphanumeric}
+use Rattle.plant_types.specs.Words.{is_tag, is_sized}
 use Rattle.toml.specs.Data.{Items, no_items, item, Members, no_members, member, get_member, as_str, as_integer, as_array, as_table}
-use Rattle.plant_file.specs.Lists.{◌>>=◌, passing, repeats}
+use Rattle.plant_types.specs.Options.{◌>>=◌}
+use Rattle.plant_file.specs.Lists.{passing, repeats}
 use Rattle.plant_file.specs.declared.console.ListedConsole.{ListedConsole}
 
 -- a plant file: the plant's name, the text of its epoch, its areas, the files of its sources and of its alarms, and its consoles, whose areas are numbers in `areas`, from 0
@@ -15,18 +16,6 @@ pub record PlainPlantFile : Type 0 where
   pub sources : List (List ℕ)
   pub alarms : List ℕ
   pub consoles : List ListedConsole
-
--- a text of so many bytes
-abbrev pub is_sized : ℕ → ℕ → List ℕ → Bool
-is_sized low high text = nat_le low (length text) && nat_le (length text) high
-
--- an ASCII letter, digit, `_`, `-` or `.`
-abbrev pub is_tag_byte : ℕ → Bool
-is_tag_byte b = is_ascii_alphanumeric b || ((b == 95) || ((b == 45) || (b == 46)))
-
--- a text has the form of a tag: 1 to 32 of these bytes
-abbrev pub is_tag : List ℕ → Bool
-is_tag text = is_sized 1 32 text && list_all is_tag_byte text
 
 -- a table has no other keys than these
 abbrev pub has_only : List (List ℕ) → Members → Bool

@@ -5,7 +5,7 @@ use Rattle.toml.specs.Data.{Members}
 use Rattle.toml.specs.Parse.{parse_document}
 use Rattle.plant_file.specs.declared.fault.PlantFileFault.{PlantFileFault}
 use Rattle.plant_file.specs.declared.fault.PlantFileFault.TheVariants as fault
-use Rattle.plant_file.specs.Lists.{◌>>=◌}
+use Rattle.plant_types.specs.Options.{◌>>=◌}
 use Rattle.plant_file.specs.PlantFiles.{PlainPlantFile, plant_file}
 
 -- the document of bytes, by TOML 1.1 as the crate `toml` defines it: they are UTF-8, and a byte order mark at their start is skipped

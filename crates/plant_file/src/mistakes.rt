@@ -3,10 +3,11 @@
 ghost use Rattle.std.specs.Prelude.{⊤};
 
 use crate::console::console_number;
-use crate::reading::{areas_in, is_tag};
+use crate::reading::areas_in;
 use crate::table::{is_among, is_sized};
 use crate::texts::TextSet;
 use indexmap::IndexSet;
+use plant_types::is_tag;
 use std::alloc::{AllocError, Global};
 use std::marker::Model;
 use toml::{Table, Value};
@@ -173,7 +174,7 @@ fn judge_text(
 /// What is wrong with a text of a list by itself.
 fn fault_of(text: &str, form: Form<'_>) -> Option<Why> {
     match form {
-        Form::Areas if !is_tag(text) => Some(Why::NoAreaName),
+        Form::Areas if !is_tag(text.as_bytes()) => Some(Why::NoAreaName),
         Form::Files if !is_sized(1, 255, text) => Some(Why::Length {
             bytes: text.len(),
             most: 255,

@@ -3,7 +3,8 @@
 ghost use Rattle.std.specs.Prelude.{◌≡◌, IfOk, IfErr, map, option_map, Some, string_bytes};
 ghost use Rattle.std.specs.List.{list_all};
 ghost use Rattle.toml.specs.View.{table_view};
-ghost use Rattle.plant_file.specs.PlantFiles.{IsPlantFile, alarms_in, areas_in, is_sized, is_tag, name_in, plant_file, sources_in};
+ghost use Rattle.plant_types.specs.Words.{is_tag, is_sized};
+ghost use Rattle.plant_file.specs.PlantFiles.{IsPlantFile, alarms_in, areas_in, name_in, plant_file, sources_in};
 ghost use Rattle.plant_file.specs.Read.{IsRefused, document_in, plant_file_in};
 
 use crate::console::{ListedConsole, consoles_in};
@@ -13,7 +14,7 @@ use crate::mistakes::mistakes_in;
 use crate::table::{has_only, is_sized, text_at, texts_at};
 use crate::texts::{TextSet, copied};
 use crate::unread::Unread;
-use plant_types::{Items, Text};
+use plant_types::{Items, Text, is_tag};
 use std::alloc::{AllocError, Global};
 use std::str;
 use toml::Table;
@@ -33,27 +34,11 @@ fn document(alloc: Global, bytes: &[u8]) -> Result<Table, PlantFileFault>
     }
 }
 
-/// Whether a text has the form of a tag: 1 to 32 ASCII letters, digits, `_`, `-` and `.`.
-pub fn is_tag(text: &str) -> bool
-    ensures { result ≡ is_tag text.now }
-{
-    if !is_sized(1, 32, text) {
-        return false;
-    }
-    for byte in text.as_bytes() {
-        let byte = *byte;
-        if !(byte.is_ascii_alphanumeric() || byte == b'_' || byte == b'-' || byte == b'.') {
-            return false;
-        }
-    }
-    true
-}
-
 fn are_tags(texts: &[String]) -> bool
     ensures { result ≡ list_all is_tag (map string_bytes texts.now) }
 {
     for text in texts {
-        if !is_tag(text.as_str()) {
+        if !is_tag(text.as_bytes()) {
             return false;
         }
     }

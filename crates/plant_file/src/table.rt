@@ -4,7 +4,8 @@ ghost use Rattle.std.specs.Prelude.{◌≡◌, IfOk, map, option_map};
 ghost use Rattle.std.specs.List.{list_any};
 ghost use Rattle.std.specs.Str.{bytes_eq};
 ghost use Rattle.toml.specs.View.{array_view, table_view};
-ghost use Rattle.plant_file.specs.PlantFiles.{has_key, has_only, integer_at, is_sized, list_at, text_at, texts_at};
+ghost use Rattle.plant_types.specs.Words.{is_sized};
+ghost use Rattle.plant_file.specs.PlantFiles.{has_key, has_only, integer_at, list_at, text_at, texts_at};
 
 use crate::texts::{TextSet, distinct, texts};
 use std::alloc::{AllocError, Global};

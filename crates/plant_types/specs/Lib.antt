@@ -1,3 +1,4 @@
+pub mod Options
 pub mod Pairs
 pub mod Values
 pub mod Words

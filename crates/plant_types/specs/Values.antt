@@ -11,6 +11,10 @@ use Rattle.plant_types.specs.declared.values.Trap.TheVariants as trap
 use Rattle.plant_types.specs.declared.values.Value.{Value}
 use Rattle.plant_types.specs.declared.values.Value.TheVariants as value
 
+-- a path: the names of instances, the innermost first
+abbrev pub Path : Type 0
+Path = List (List ℕ)
+
 -- the kind of a value
 abbrev pub kind_of : Value → Kind
 kind_of (value.Bool b) = kind.Bool

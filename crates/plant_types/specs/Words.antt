@@ -1,8 +1,8 @@
--- Names and keywords, in which letter case has no meaning.
-use Rattle.std.specs.Prelude.{◌==◌, ◌||◌, ◌&&◌, ◌∷◌, [], List, ℕ, Bool, false, map}
+-- Names and keywords, in which letter case has no meaning; and tags.
+use Rattle.std.specs.Prelude.{◌==◌, ◌||◌, ◌&&◌, ◌∷◌, [], List, ℕ, nat_le, Bool, false, length, map}
 use Rattle.std.specs.List.{list_all}
 use Rattle.std.specs.Str.{bytes_eq}
-use Rattle.std.specs.Char.{is_ascii_digit, is_ascii_alphabetic, to_ascii_lowercase}
+use Rattle.std.specs.Char.{is_ascii_digit, is_ascii_alphabetic, is_ascii_alphanumeric, to_ascii_lowercase}
 
 -- a word in lower case
 abbrev pub folded : List ℕ → List ℕ
@@ -24,3 +24,15 @@ is_name_byte b = is_letter b || is_ascii_digit b
 abbrev pub is_name : List ℕ → Bool
 is_name [] = false
 is_name (b ∷ bs) = is_letter b && list_all is_name_byte bs
+
+-- a text of so many bytes
+abbrev pub is_sized : (low high : ℕ) → List ℕ → Bool
+is_sized low high text = nat_le low (length text) && nat_le (length text) high
+
+-- whether a tag may have a byte: an ASCII letter, digit, `_`, `-` or `.`
+abbrev pub is_tag_byte : ℕ → Bool
+is_tag_byte b = is_ascii_alphanumeric b || (b == 95) || (b == 45) || (b == 46)
+
+-- whether a text has the form of a tag, or of the name of an area: 1 to 32 such bytes
+abbrev pub is_tag : List ℕ → Bool
+is_tag text = is_sized 1 32 text && list_all is_tag_byte text

@@ -15,4 +15,4 @@ pub use items::Items;
 pub use pair::Pair;
 pub use text::Text;
 pub use values::{Bounds, Given, Kind, Place, Region, Trap, Value, fitted};
-pub use words::{is_name, is_name_byte, same_word};
+pub use words::{is_name, is_name_byte, is_tag, same_word};

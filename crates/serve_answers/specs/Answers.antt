@@ -22,7 +22,7 @@ use Rattle.engine_system.specs.Reports.{PlainReport}
 use Rattle.alarm_orders.specs.declared.order.Order.{Order as OrderMade}
 use Rattle.engine_system.specs.declared.event.Reply.{Reply}
 use Rattle.engine_system.specs.declared.event.Reply.TheVariants as reply
-use Rattle.engine_system.specs.Orders.{is_restart}
+use Rattle.alarm_machine.specs.Orders.{is_restart}
 use Rattle.engine_system.specs.System.{System, system, after_event, scan_event, order_event, reply_to, faults_of, changes_of, outs_of}
 use Rattle.engine.specs.Engines.{PlainEngine}
 use Rattle.serve_lines.specs.Commands.{PlainCommand, Nothing, Unknown, Scan, Order, Listing, Journal, command_of}

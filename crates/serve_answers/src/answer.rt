@@ -7,7 +7,7 @@ ghost use Rattle.plant_config.specs.Plants.{PlainPlant};
 ghost use Rattle.plant_config.specs.Names.{tag_of, globals_of, global_of, body_paths};
 ghost use Rattle.logic_source.specs.Paths.{path_text};
 ghost use Rattle.vm_logic.specs.Runs.{place_spot};
-ghost use Rattle.engine_system.specs.Orders.{is_restart};
+ghost use Rattle.alarm_machine.specs.Orders.{is_restart};
 ghost use Rattle.engine_system.specs.System.{system, scan_event};
 ghost use Rattle.serve_answers.specs.Answers.{spots_of, named_by, target_of, tag_for, order_for, order_answer, fault_lines, alarm_lines, out_lines, report_lines, order_text, scan_answer, named_order, HasAdded, MayHaveAdded, history_after, line_answer};
 ghost use Rattle.serve_faults.specs.Faults.{is_read, is_write, crew_faults};

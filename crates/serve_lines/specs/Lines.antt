@@ -1,5 +1,5 @@
 -- The lines of answers.
-use Rattle.std.specs.Prelude.{ℕ, List, [], ◌∷◌, ◌++◌, if◌then◌else◌, Option, None, Some, codes}
+use Rattle.std.specs.Prelude.{ℕ, List, [], ◌∷◌, ◌++◌, if◌then◌else◌, Option, codes}
 use Rattle.std.specs.Fmt.{decimal, signed_decimal}
 use Rattle.std.specs.List.{flat_map}
 use Rattle.plant_types.specs.declared.values.Value.{Value}
@@ -8,7 +8,7 @@ use Rattle.plant_types.specs.declared.values.Trap.{Trap}
 use Rattle.plant_types.specs.Values.{trap_text}
 use Rattle.alarm_machine.specs.Codes.{PlainChange, code_text}
 use Rattle.alarm_machine.specs.declared.states.Code.{Code}
-use Rattle.alarm_machine.specs.Orders.{order_fault_text}
+use Rattle.alarm_machine.specs.Orders.{reply_text}
 use Rattle.alarm_machine.specs.declared.states.OrderFault.{OrderFault}
 
 -- a line: its name, each field after one space, LF
@@ -44,11 +44,6 @@ out_line moment name value = line_of (codes "OUT") (decimal moment ∷ name ∷ 
 -- the line at the end of a scan's answer, with the number of lines before it
 unfoldable pub done_line : ℕ → ℕ → List ℕ
 done_line moment lines = line_of (codes "DONE") (decimal moment ∷ decimal lines ∷ [])
-
--- the reply to an order: OK, or the number of its refusal
-abbrev pub reply_text : Option OrderFault → List ℕ
-reply_text None = codes "OK"
-reply_text (Some fault) = order_fault_text fault
 
 -- the line with the reply to an order
 unfoldable pub reply_line : Option OrderFault → List ℕ

@@ -2,7 +2,7 @@
 use Rattle.std.proofs.Common.{◌≡◌, ℕ, List, Bool, ap, sym, ◌∙◌, inr}
 use Rattle.std.specs.Prelude.{Result}
 use Rattle.logic_cells.specs.Cells.{PlainCells}
-use Rattle.logic_cells.specs.Runs.{Path}
+use Rattle.plant_types.specs.Values.{Path}
 use Rattle.logic_cells.specs.declared.stop.Stop.{Stop}
 use Rattle.acc_vm.specs.Codes.{PlainCode, run_of}
 use Rattle.vm_slices.specs.Slots.{Names}

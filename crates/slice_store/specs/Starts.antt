@@ -2,7 +2,8 @@
 use Rattle.std.specs.Prelude.{◌≡◌, ◌<◌, ◌≤◌, ◌-◌, ℕ, List, [], length, slice_index_or, Result, IfErr}
 use Rattle.logic_cells.specs.declared.stop.Stop.{Stop}
 use Rattle.logic_cells.specs.Cells.{PlainCells}
-use Rattle.logic_cells.specs.Runs.{Path, ended}
+use Rattle.plant_types.specs.Values.{Path}
+use Rattle.logic_cells.specs.Runs.{ended}
 use Rattle.acc_vm.specs.Machine.{Over}
 use Rattle.acc_vm.specs.Codes.{SameShape, run_of}
 use Rattle.vm_slices.specs.Parts.{PlainPart, IsPart}

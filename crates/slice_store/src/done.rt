@@ -2,7 +2,8 @@
 
 ghost use Rattle.std.specs.Prelude.{◌≡◌, ◌+◌, ◌*◌, ◌-◌, ◌<◌, ◌≤◌, List, length, IfErr};
 ghost use Rattle.std.specs.Arc.{arc_value};
-ghost use Rattle.logic_cells.specs.Runs.{Path, ended};
+ghost use Rattle.plant_types.specs.Values.{Path};
+ghost use Rattle.logic_cells.specs.Runs.{ended};
 ghost use Rattle.acc_vm.specs.Machine.{Over};
 ghost use Rattle.acc_vm.specs.Codes.{SameShape, run_of};
 ghost use Rattle.slice_store.specs.Ready.{IsReadyJob};

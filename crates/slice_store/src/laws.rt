@@ -2,7 +2,7 @@
 
 ghost use Rattle.std.specs.Prelude.{◌≡◌, ◌<◌, ◌^◌, ℕ, List, Bool, Result, length};
 ghost use Rattle.logic_cells.specs.Cells.{PlainCells};
-ghost use Rattle.logic_cells.specs.Runs.{Path};
+ghost use Rattle.plant_types.specs.Values.{Path};
 ghost use Rattle.logic_cells.specs.declared.stop.Stop.{Stop};
 ghost use Rattle.acc_vm.specs.Codes.{PlainCode};
 ghost use Rattle.vm_slices.specs.Parts.{PlainPart, IsPartOf, HasPart, loaded};

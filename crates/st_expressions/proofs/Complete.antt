@@ -12,7 +12,8 @@ use Rattle.st_tree.specs.declared.tree.Binary.TheVariants as b
 use Rattle.st_tree.specs.Plain.{PlainExpr, literal, read, output_of, element, unary}
 use Rattle.st_expressions.specs.Lexemes.{Lexeme, word, keyword, integer, symbol}
 use Rattle.st_expressions.specs.Grammar.{literal_of, prefix_of, operator_of, level_of, top, begins_negative, in_parentheses, unknown_bounds, constant, negative, variable, output, indexed, parens, before_operand, between_operands, SpellsExpr, IsExpression}
-use Rattle.st_expressions.specs.Reading.{Answer, ◌>>=◌, operator_at, if_allowed, is_symbol, minus_at, constant_at, operand, prefixed, chain, climb, tree_of, expression_at}
+use Rattle.plant_types.specs.Options.{◌>>=◌}
+use Rattle.st_expressions.specs.Reading.{Answer, operator_at, if_allowed, is_symbol, minus_at, constant_at, operand, prefixed, chain, climb, tree_of, expression_at}
 use Rattle.st_expressions.proofs.Chain.{stops, goes}
 use Rattle.st_expressions.proofs.Steps.{both_ways, same_some}
 

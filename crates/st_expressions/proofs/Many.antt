@@ -9,7 +9,8 @@ use Rattle.st_lexer.specs.declared.token.Symbol.{Symbol}
 use Rattle.st_lexer.specs.declared.token.Symbol.TheVariants as s
 use Rattle.st_expressions.specs.Lexemes.{Lexeme, keyword, symbol}
 use Rattle.st_expressions.specs.Phrases.{Each, Perhaps, absent, present, After, after, Listed, listed}
-use Rattle.st_expressions.specs.Reading.{◌>>=◌, is_symbol, is_keyword, symbol_at, keyword_at, ahead, with_first, many, all_at, perhaps_at, after_symbol, after_keyword, others_at, listed_at}
+use Rattle.plant_types.specs.Options.{◌>>=◌}
+use Rattle.st_expressions.specs.Reading.{is_symbol, is_keyword, symbol_at, keyword_at, ahead, with_first, many, all_at, perhaps_at, after_symbol, after_keyword, others_at, listed_at}
 use Rattle.st_expressions.proofs.Steps.{true_or_false, bind_some, same_some, symbol_found, keyword_found}
 
 -- a phrase at the front

@@ -3,7 +3,8 @@ use Rattle.std.proofs.Common.{◌≡◌, ℕ, zero, suc, ◌+◌, Bool, true, fa
 use Rattle.std.specs.Prelude.{option_map}
 use Rattle.st_expressions.specs.Lexemes.{Lexeme}
 use Rattle.st_expressions.specs.Outcome.{Fails}
-use Rattle.st_expressions.specs.Reading.{◌>>=◌, with_first, many, perhaps_at}
+use Rattle.plant_types.specs.Options.{◌>>=◌}
+use Rattle.st_expressions.specs.Reading.{with_first, many, perhaps_at}
 use Rattle.st_expressions.specs.declared.stop.ParseStop.{ParseStop}
 use Rattle.st_expressions.specs.declared.stop.ParseStop.TheVariants as stop
 use Rattle.st_expressions.proofs.Steps.{same_some}

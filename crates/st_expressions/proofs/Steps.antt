@@ -9,7 +9,8 @@ use Rattle.st_lexer.specs.declared.token.Symbol.{Symbol}
 use Rattle.st_lexer.specs.declared.token.TokenKind.{TokenKind}
 use Rattle.st_lexer.specs.declared.token.TokenKind.TheVariants as kind
 use Rattle.st_expressions.specs.Lexemes.{Lexeme, word, keyword, symbol, lexeme_of, first_name}
-use Rattle.st_expressions.specs.Reading.{Answer, tree_of, ◌>>=◌, word_at, is_symbol, is_keyword, symbol_at, keyword_at}
+use Rattle.plant_types.specs.Options.{◌>>=◌}
+use Rattle.st_expressions.specs.Reading.{Answer, tree_of, word_at, is_symbol, is_keyword, symbol_at, keyword_at}
 use Rattle.st_expressions.specs.Outcome.{Fails}
 use Rattle.st_expressions.specs.declared.stop.ParseStop.{ParseStop}
 use Rattle.st_expressions.specs.declared.stop.ParseStop.TheVariants as stop

@@ -2,6 +2,7 @@
 use Rattle.std.specs.Prelude.{ℕ, zero, suc, ◌+◌, max, nat_le, pos, Bool, true, false, List, [], ◌∷◌, ◌++◌, drop, length, Option, Some, None, if◌then◌else◌}
 use Rattle.std.proofs.Common.{neg_ℤ}
 use denote.Enum.Bare.{sameb}
+use Rattle.plant_types.specs.Options.{◌>>=◌}
 use Rattle.plant_types.specs.declared.values.Value.TheVariants as value
 use Rattle.st_lexer.specs.contracts.token.Keyword.{the_type as keyword_type}
 use Rattle.st_lexer.specs.contracts.token.Symbol.{the_type as symbol_type}
@@ -16,11 +17,6 @@ use Rattle.st_tree.specs.declared.tree.Unary.TheVariants as u
 use Rattle.st_tree.specs.Plain.{PlainExpr, literal, read, output_of, element, unary, binary}
 use Rattle.st_expressions.specs.Lexemes.{Lexeme, word, keyword, integer, symbol}
 use Rattle.st_expressions.specs.Grammar.{literal_of, operator_of, level_of, top, in_parentheses, unknown_bounds}
-
-infixl 10 ◌>>=◌
-abbrev pub ◌>>=◌ : {A B : Type 0} → Option A → (A → Option B) → Option B
-(Some x) >>= f = f x
-None >>= f = None
 
 -- ---- single lexemes
 abbrev pub word_at : List Lexeme → Option (List ℕ × List Lexeme)

@@ -11,7 +11,8 @@ use Rattle.plant_types.specs.declared.values.Region.{Region}
 use Rattle.plant_types.specs.declared.values.Region.TheVariants as r
 use Rattle.st_lexer.specs.Bytes.{begins_by, is_linked, is_grouped}
 use Rattle.st_lexer.specs.Addresses.{same_letter, letter_of, is_size, is_place, is_address}
-use Rattle.st_lexer.specs.ReadingLiterals.{linked_len, ◌>>=◌}
+use Rattle.plant_types.specs.Options.{◌>>=◌}
+use Rattle.st_lexer.specs.ReadingLiterals.{linked_len}
 use Rattle.st_lexer.specs.Reading.{place_len, region_of, placed, parse_address}
 use Rattle.st_lexer.proofs.WordLaws.{one_and}
 

@@ -8,7 +8,8 @@ use Rattle.std.proofs.lemmas.Int.Digits.{digits_value-lt}
 use Rattle.std.proofs.lemmas.Option.{same_Some, none-some}
 use Rattle.st_lexer.specs.Bytes.{begins_by, is_linked}
 use Rattle.st_lexer.specs.Durations.{decimal_places}
-use Rattle.st_lexer.specs.ReadingLiterals.{decimal_step, decimals_after, ◌>>=◌}
+use Rattle.plant_types.specs.Options.{◌>>=◌}
+use Rattle.st_lexer.specs.ReadingLiterals.{decimal_step, decimals_after}
 use Rattle.st_lexer.proofs.Classes.{no_truth}
 use Rattle.st_lexer.proofs.NumberLaws.{without_underscores}
 

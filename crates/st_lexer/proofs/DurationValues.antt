@@ -13,7 +13,8 @@ use Rattle.st_lexer.specs.Bytes.{begins_by, is_linked}
 use Rattle.st_lexer.specs.Numbers.{is_number, number_value}
 use Rattle.st_lexer.specs.Literals.{signed}
 use Rattle.st_lexer.specs.Durations.{unit_spelling, milliseconds_in, units, decimal_places, without, last, pointed, followed, Lasts, IsTimed, forward, backward}
-use Rattle.st_lexer.specs.ReadingLiterals.{parse_number, linked_len, signed_within, digits_len, parse_decimals, letters_len, whole_number, pointed_number, parse_fraction, leading_number, parse_part, part_added, after_underscore, parts_after, parse_parts, parse_time, ◌>>=◌}
+use Rattle.plant_types.specs.Options.{◌>>=◌}
+use Rattle.st_lexer.specs.ReadingLiterals.{parse_number, linked_len, signed_within, digits_len, parse_decimals, letters_len, whole_number, pointed_number, parse_fraction, leading_number, parse_part, part_added, after_underscore, parts_after, parse_parts, parse_time}
 use Rattle.st_lexer.proofs.Classes.{no_truth}
 use Rattle.st_lexer.proofs.NumberLaws.{number_sound, number_complete}
 use Rattle.st_lexer.proofs.AddressLaws.{begins_more, begins_less, linked_begins, linked_is}

@@ -12,7 +12,8 @@ use Rattle.plant_types.specs.Words.{is_letter, is_name_byte, is_name, folded, sa
 use Rattle.st_lexer.specs.Bytes.{is_tied, begins_by, stands_apart}
 use Rattle.st_lexer.specs.Numbers.{IsInteger}
 use Rattle.st_lexer.specs.Literals.{begins_word, signed, IsSigned, unsigned, plus, minus, IsDint, is_truth}
-use Rattle.st_lexer.specs.ReadingLiterals.{parse_integer, signed_within, parse_dint, parse_truth, tied_len, signed_len, pointed_len, timed_len, lettered_len, ◌>>=◌}
+use Rattle.plant_types.specs.Options.{◌>>=◌}
+use Rattle.st_lexer.specs.ReadingLiterals.{parse_integer, signed_within, parse_dint, parse_truth, tied_len, signed_len, pointed_len, timed_len, lettered_len}
 use Rattle.st_lexer.proofs.Classes.{same_folded, name_byte_folded, first_lower, truth_first, no_truth}
 use Rattle.st_lexer.proofs.WordLaws.{tied_over, apart_none, tied_apart, name_tied}
 use Rattle.st_lexer.proofs.NumberLaws.{integer_tied, integer_some, integer_sound, integer_complete}

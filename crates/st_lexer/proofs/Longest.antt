@@ -23,7 +23,8 @@ use Rattle.st_lexer.specs.Comments.{is_closed, is_one_line, is_comment, begins_c
 use Rattle.st_lexer.specs.Durations.{IsDuration, short, long}
 use Rattle.st_lexer.specs.Spellings.{SpellsToken}
 use Rattle.st_lexer.specs.Pieces.{is_one_blank, IsPiece, token_may_precede, may_precede, IsNext, IsOver}
-use Rattle.st_lexer.specs.ReadingLiterals.{parse_integer, tied_len, lettered_len, ◌>>=◌}
+use Rattle.plant_types.specs.Options.{◌>>=◌}
+use Rattle.st_lexer.specs.ReadingLiterals.{parse_integer, tied_len, lettered_len}
 use Rattle.st_lexer.specs.Reading.{word_or_literal, integer_token, parse_address, next_address, closing_len, line_len, single_symbol, double_symbol, symbol_piece, as_symbol, as_comment, first_some, next_mark, front_token, next_by_class, next_piece}
 use Rattle.st_lexer.proofs.Classes.{class_of, class_of_token, opens, comment_cases, keyword_is_name, no_truth, map_some}
 use Rattle.st_lexer.proofs.WordLaws.{tied_over, apart_none, tied_apart}

@@ -12,7 +12,8 @@ use Rattle.std.proofs.lemmas.Slice.Eq.{starts_is}
 use Rattle.plant_types.specs.Words.{is_name_byte}
 use Rattle.st_lexer.specs.Bytes.{is_tied, begins_by, is_linked}
 use Rattle.st_lexer.specs.Numbers.{is_number, number_value, base_of, digits_of, IsInteger}
-use Rattle.st_lexer.specs.ReadingLiterals.{number_step, number_after, parse_number, parse_integer, ◌>>=◌}
+use Rattle.plant_types.specs.Options.{◌>>=◌}
+use Rattle.st_lexer.specs.ReadingLiterals.{number_step, number_after, parse_number, parse_integer}
 use Rattle.st_lexer.proofs.Classes.{binary, octal, hexadecimal, decimal, based}
 
 -- the digits, with the underscores left out

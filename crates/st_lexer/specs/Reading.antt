@@ -17,7 +17,8 @@ use Rattle.st_lexer.specs.declared.piece.Piece.TheVariants as p
 use Rattle.st_lexer.specs.declared.tables.TheConstants.{KEYWORDS}
 use Rattle.st_lexer.specs.Bytes.{begins_by, stands_apart, first_of}
 use Rattle.st_lexer.specs.Tables.{spelling}
-use Rattle.st_lexer.specs.ReadingLiterals.{linked_len, parse_integer, tied_len, lettered_len, parse_literal, ◌>>=◌}
+use Rattle.plant_types.specs.Options.{◌>>=◌}
+use Rattle.st_lexer.specs.ReadingLiterals.{linked_len, parse_integer, tied_len, lettered_len, parse_literal}
 use Rattle.st_lexer.specs.Addresses.{same_letter, is_size}
 
 -- ---- words

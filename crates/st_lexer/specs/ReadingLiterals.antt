@@ -1,7 +1,8 @@
 -- How the code parses literals: functions that find what the definitions describe.
-use Rattle.std.specs.Prelude.{ℕ, ◌+◌, ◌*◌, ◌/◌, ◌%◌, ◌^◌, ◌==◌, ℤ, nat_le, nat_lt, Bool, true, false, ◌&&◌, ◌||◌, if◌then◌else◌, List, [], ◌∷◌, length, take, drop, codes, Option, Some, None, option_map, option_and_then}
+use Rattle.std.specs.Prelude.{ℕ, ◌+◌, ◌*◌, ◌/◌, ◌%◌, ◌^◌, ◌==◌, ℤ, nat_le, nat_lt, Bool, true, false, ◌&&◌, ◌||◌, if◌then◌else◌, List, [], ◌∷◌, length, take, drop, codes, Option, Some, None, option_map}
 use Rattle.std.specs.List.{prefix_len}
 use Rattle.std.specs.Char.{is_digit, is_ascii_alphabetic, digit_value}
+use Rattle.plant_types.specs.Options.{◌>>=◌}
 use Rattle.plant_types.specs.Words.{same_word}
 use Rattle.st_lexer.specs.declared.durations.TimeUnit.{TimeUnit}
 use Rattle.st_lexer.specs.declared.durations.Number.{Number}
@@ -11,11 +12,6 @@ use Rattle.st_lexer.specs.Bytes.{begins_by, is_tied}
 use Rattle.st_lexer.specs.Numbers.{base_of, digits_of}
 use Rattle.st_lexer.specs.Literals.{begins_word, signed}
 use Rattle.st_lexer.specs.Durations.{unit_spelling, milliseconds_in, units}
-
--- what a function makes of a value, if there is one
-infixl 10 ◌>>=◌
-abbrev pub ◌>>=◌ : {A B : Type 0} → Option A → (A → Option B) → Option B
-o >>= f = option_and_then f o
 
 -- ---- numbers
 -- the number with one digit more, if it stays below 2 ^ 64, or the same number at an underscore that a digit follows

@@ -8,7 +8,8 @@ use Rattle.st_tree.specs.Plain.{PlainExpr, PlainArgument, input, output, PlainSt
 use Rattle.st_tree.specs.View.{body_of, branches_of, choices_of}
 use Rattle.st_expressions.specs.Grammar.{unknown_bounds}
 use Rattle.st_expressions.specs.Lexemes.{Lexeme, word, keyword, integer, symbol}
-use Rattle.st_expressions.specs.Reading.{◌>>=◌, word_at, is_symbol, is_keyword, symbol_at, keyword_at, with_first, all_at, perhaps_at, after_symbol, after_keyword, listed_at, expression_at}
+use Rattle.plant_types.specs.Options.{◌>>=◌}
+use Rattle.st_expressions.specs.Reading.{word_at, is_symbol, is_keyword, symbol_at, keyword_at, with_first, all_at, perhaps_at, after_symbol, after_keyword, listed_at, expression_at}
 
 -- ---- calls
 -- after an output's name and its arrow

@@ -6,7 +6,8 @@ use Rattle.plant_types.specs.declared.values.Region.{Region}
 use Rattle.st_lexer.specs.declared.token.Symbol.TheVariants as s
 use Rattle.st_expressions.specs.Lexemes.{Lexeme, keyword, address}
 use Rattle.st_parser.specs.Declarations.{kind_of_word, sort_of, section_of, closing_keyword}
-use Rattle.st_expressions.specs.Reading.{◌>>=◌, word_at, is_symbol, is_keyword, is_word, symbol_at, keyword_at, with_first, all_at, perhaps_at, after_symbol, others_at, table_next, table_at, expression_at}
+use Rattle.plant_types.specs.Options.{◌>>=◌}
+use Rattle.st_expressions.specs.Reading.{word_at, is_symbol, is_keyword, is_word, symbol_at, keyword_at, with_first, all_at, perhaps_at, after_symbol, others_at, table_next, table_at, expression_at}
 use Rattle.st_parser.specs.ReadingStatements.{number_at, body_at}
 use Rattle.st_parser.specs.Units.{PlainDeclaration, PlainSection, PlainPou, PlainUnit}
 use Rattle.st_parser.specs.declared.unit.PouKind.{PouKind}

@@ -14,7 +14,7 @@ use Rattle.console_boards.specs.declared.entry.AnsweredOrder.{AnsweredOrder}
 use Rattle.console_boards.specs.Counts.{answers_of as answers_shown}
 use Rattle.console_boards.proofs.Counting.{counted, answers_begin}
 use Rattle.console_boards.proofs.Prefixes.{prefix_of_both}
-use Rattle.console_entries.specs.Entries.{entries_from, entries_of}
+use Rattle.console_archive.specs.Entries.{entries_from, entries_of}
 use Rattle.console_operator.specs.Sights.{BoardStory, HasOrders}
 use Rattle.console_orders.specs.Parts.{answer_to, answers_from, answers_of}
 use Rattle.station.specs.Stations.{board_answer, HasAnswers}

@@ -15,9 +15,9 @@ use Rattle.console_boards.specs.declared.writer.BoardWriter.{BoardWriter}
 use Rattle.console_boards.specs.Stories.{Begins}
 use Rattle.console_boards.specs.Readers.{published, laid}
 use Rattle.console_boards.proofs.Prefixes.{prefix_of_both}
-use Rattle.console_entries.specs.Entries.{entries_of, history_story}
-use Rattle.console_entries.specs.Showing.{HasHistory}
-use Rattle.console_entries.proofs.Steps.{length_of, no_entries}
+use Rattle.console_archive.specs.Entries.{entries_of, history_story}
+use Rattle.console_archive.specs.Showing.{HasHistory}
+use Rattle.console_archive.proofs.Steps.{length_of, no_entries}
 use Rattle.console_operator.specs.declared.console.Finished.{Finished as Ended}
 use Rattle.console_operator.specs.Sights.{BoardStory}
 use Rattle.station.specs.Lanes.{IsEndIn, IsLinkEndIn, links_in, finished_of, ended_of, has_seen_within}

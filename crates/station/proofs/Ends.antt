@@ -20,7 +20,7 @@ use Rattle.console_orders.specs.Parts.{answers_of, orders_in}
 use Rattle.console_orders.specs.Turns.{TookParts}
 use Rattle.console_boards.specs.Stories.{is_seen_lawful, seen_events, seen_list}
 use Rattle.console_boards.specs.Replies.{after, allows}
-use Rattle.console_entries.specs.Entries.{history_story}
+use Rattle.console_archive.specs.Entries.{history_story}
 use Rattle.console_operator.specs.declared.console.Console.{Console}
 use Rattle.console_operator.specs.declared.console.Finished.{Finished as Ended}
 use Rattle.console_operator.specs.Sights.{BoardStory}

@@ -7,7 +7,7 @@ use Rattle.console_link.specs.Seats.{orders_taken, answers_given, submitted, tak
 use Rattle.alarm_orders.specs.declared.order.Order.{Order}
 use Rattle.plant_config.specs.Plants.{PlainPlant, IsPlant}
 use Rattle.engine_system.specs.System.{opening_system}
-use Rattle.console_entries.specs.Entries.{picture_of}
+use Rattle.console_archive.specs.Entries.{picture_of}
 use Rattle.console_boards.specs.Stories.{is_lawful}
 use Rattle.console_boards.specs.Replies.{after, allows}
 use Rattle.logbook.specs.Pages.{Book}
@@ -88,6 +88,10 @@ pub record KeepsConsoles (before after : List (Lane Order Reply)) : Type 0 where
 -- the ends of the consoles' rings
 abbrev pub links_of : List (Console Order Reply) → List (Link Order Reply)
 links_of consoles = map (λ (c : Console Order Reply). c.link) consoles
+
+-- each of the consoles is one of the station with these lanes
+abbrev pub AreConsolesIn : List (Lane Order Reply) → List (Console Order Reply) → Type 0
+AreConsolesIn lanes consoles = All (IsConsoleIn lanes) (links_of consoles)
 
 -- a console that has seen nothing of the board, and was told what it shows
 pub record HasNotLooked (story : BoardStory) (c : Console Order Reply) : Type 0 where

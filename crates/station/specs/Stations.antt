@@ -24,7 +24,7 @@ use Rattle.console_archive.specs.Records.{TakesReload}
 use Rattle.console_boards.specs.declared.entry.AnsweredOrder.{AnsweredOrder}
 use Rattle.console_boards.specs.declared.entry.BoardEntry.{BoardEntry}
 use Rattle.console_boards.specs.Counts.{answers_of as answers_shown}
-use Rattle.console_entries.specs.Entries.{board_reply, entries_of, history_story}
+use Rattle.console_archive.specs.Entries.{board_reply, entries_of, history_story}
 use Rattle.console_orders.specs.Parts.{answers_of, orders_in}
 use Rattle.console_orders.specs.Turns.{TookParts}
 use Rattle.console_operator.specs.declared.console.Console.{Console}

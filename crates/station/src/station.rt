@@ -3,9 +3,9 @@
 ghost use Rattle.std.specs.Prelude.{◌≡◌, ◌≢◌, ◌<◌, ◌↔◌, IsTrue, [], length, map, All, IfOk, IfErr, OnErr};
 ghost use Rattle.engine_system.specs.Faults.{faults_by};
 ghost use Rattle.console_archive.specs.Records.{IsReloadDue, IsScanDue};
-ghost use Rattle.station.specs.Lanes.{numbers_of, numbers_in, links_of, IsConsoleIn, IsEndIn, IsFresh, HasNotLooked, KeepsConsoles};
+ghost use Rattle.station.specs.Lanes.{numbers_of, numbers_in, links_of, AreConsolesIn, IsEndIn, IsFresh, HasNotLooked, KeepsConsoles};
 ghost use Rattle.station.specs.Stations.{IsReload, IsTurn, IsWhole, SameButRoom, AreBeginnings, AreClosed, TellWithin, SawBeginnings};
-ghost use Rattle.console_entries.specs.Entries.{entries_of, history_story};
+ghost use Rattle.console_archive.specs.Entries.{entries_of, history_story};
 
 use crate::closing::{Closing, end_lanes};
 use crate::opening::StationFault;
@@ -88,7 +88,7 @@ impl<L: Ledger, C: Drop> Station<L, C> {
         ensures listed { IfOk result (λ r. map (λ c. c.number) (links_of r.1.items)
             ≡ numbers_of plant.consoles) }
         ensures lanes { IfOk result (λ r. numbers_in r.0.lanes ≡ numbers_of plant.consoles) }
-        ensures consoles { IfOk result (λ r. All (IsConsoleIn r.0.lanes) (links_of r.1.items)) }
+        ensures consoles { IfOk result (λ r. AreConsolesIn r.0.lanes r.1.items) }
         ensures fresh { IfOk result (λ r. All IsFresh (links_of r.1.items)) }
         ensures looks { IfOk result (λ r. All (HasNotLooked (history_story plant [])) r.1.items) }
     {

@@ -9,10 +9,10 @@ use Rattle.console_operator.specs.declared.console.Console.{Console}
 use Rattle.console_operator.specs.Consoles.{EndsAs}
 use Rattle.console_operator.specs.declared.console.Finished.{Finished}
 use Rattle.engine_system.specs.declared.event.Reply.{Reply}
-use Rattle.station.specs.Lanes.{links_of, IsConsoleIn, IsEndIn, KeepsConsoles}
+use Rattle.station.specs.Lanes.{links_of, IsConsoleIn, IsEndIn, KeepsConsoles, AreConsolesIn}
 use Rattle.station.proofs.Ends.{console_goes_on, console_has_ended}
 use Rattle.try_desks.specs.Ends.{EndsFrom}
-use Rattle.try_desks.specs.Seated.{Thread, AreOf, AreSeated}
+use Rattle.try_desks.specs.Seated.{Thread, AreSeated}
 
 abbrev C : Type 0
 C = Console Order Reply
@@ -75,17 +75,17 @@ all_last P [] x h = All-head P x [] h
 all_last P (y ∷ xs) x h = all_last P xs x (All-tail P y (xs ++ x ∷ []) h)
 
 -- the same of consoles, each seen by its link
-pub of_fewer : (lanes : Lanes) (whole cs : List C) (c : C) → whole ≡ cs ++ c ∷ [] → AreOf lanes whole → AreOf lanes cs
-of_fewer lanes whole cs c is h = go cs (subst (λ (xs : List C). AreOf lanes xs) is h)
+pub of_fewer : (lanes : Lanes) (whole cs : List C) (c : C) → whole ≡ cs ++ c ∷ [] → AreConsolesIn lanes whole → AreConsolesIn lanes cs
+of_fewer lanes whole cs c is h = go cs (subst (λ (xs : List C). AreConsolesIn lanes xs) is h)
   where
-    go : (ds : List C) → AreOf lanes (ds ++ c ∷ []) → AreOf lanes ds
+    go : (ds : List C) → AreConsolesIn lanes (ds ++ c ∷ []) → AreConsolesIn lanes ds
     go [] h = All-nil (IsConsoleIn lanes)
     go (d ∷ ds) h =
         All-cons (IsConsoleIn lanes) d.link (links_of ds) (All-head (IsConsoleIn lanes) d.link (links_of (ds ++ c ∷ [])) h) (go ds (All-tail (IsConsoleIn lanes) d.link (links_of (ds ++ c ∷ [])) h))
 
-pub of_last : (lanes : Lanes) (whole cs : List C) (c : C) → whole ≡ cs ++ c ∷ [] → AreOf lanes whole → IsConsoleIn lanes c.link
-of_last lanes whole cs c is h = go cs (subst (λ (xs : List C). AreOf lanes xs) is h)
+pub of_last : (lanes : Lanes) (whole cs : List C) (c : C) → whole ≡ cs ++ c ∷ [] → AreConsolesIn lanes whole → IsConsoleIn lanes c.link
+of_last lanes whole cs c is h = go cs (subst (λ (xs : List C). AreConsolesIn lanes xs) is h)
   where
-    go : (ds : List C) → AreOf lanes (ds ++ c ∷ []) → IsConsoleIn lanes c.link
+    go : (ds : List C) → AreConsolesIn lanes (ds ++ c ∷ []) → IsConsoleIn lanes c.link
     go [] h = All-head (IsConsoleIn lanes) c.link [] h
     go (d ∷ ds) h = go ds (All-tail (IsConsoleIn lanes) d.link (links_of (ds ++ c ∷ [])) h)

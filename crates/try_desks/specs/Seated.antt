@@ -6,16 +6,12 @@ use Rattle.console_operator.specs.declared.console.Console.{Console}
 use Rattle.console_operator.specs.declared.console.Finished.{Finished}
 use Rattle.engine_system.specs.declared.event.Reply.{Reply}
 use Rattle.core.specs.declared.thread.PromisedHandle.{PromisedHandle}
-use Rattle.station.specs.Lanes.{links_of, IsConsoleIn, IsEndIn}
+use Rattle.station.specs.Lanes.{AreConsolesIn, IsConsoleIn, IsEndIn}
 use Rattle.try_desks.specs.declared.stand.Stint.{Stint}
 use Rattle.try_desks.specs.declared.starts.Seat.{Seat}
 
 abbrev pub Thread : Type 0
 Thread = PromisedHandle Stint Seat
-
--- each of the consoles is one of the station with these lanes
-abbrev pub AreOf : List (Lane Order Reply) → List (Console Order Reply) → Type 0
-AreOf lanes consoles = All (IsConsoleIn lanes) (links_of consoles)
 
 -- each of the threads has a console of that station
 abbrev pub AreSeated : List (Lane Order Reply) → List Thread → Type 0
@@ -23,7 +19,7 @@ AreSeated lanes threads = All (λ (t : Thread). IsConsoleIn lanes t.promise.0.va
 
 -- the threads have consoles of each station of which these are consoles
 abbrev pub SeatsAll : List (Console Order Reply) → List Thread → Type 0
-SeatsAll consoles threads = (lanes : List (Lane Order Reply)) → AreOf lanes consoles → AreSeated lanes threads
+SeatsAll consoles threads = (lanes : List (Lane Order Reply)) → AreConsolesIn lanes consoles → AreSeated lanes threads
 
 -- what came back are ended consoles of each station of which the threads had consoles
 abbrev pub EndsAll : List Thread → List (Finished Order Reply) → Type 0

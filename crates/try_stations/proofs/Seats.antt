@@ -8,9 +8,9 @@ use Rattle.alarm_orders.specs.declared.order.Order.{Order}
 use Rattle.console_operator.specs.declared.console.Console.{Console}
 use Rattle.console_operator.specs.declared.console.Finished.{Finished}
 use Rattle.engine_system.specs.declared.event.Reply.{Reply}
-use Rattle.station.specs.Lanes.{links_of, IsConsoleIn, IsEndIn, KeepsConsoles}
+use Rattle.station.specs.Lanes.{links_of, IsConsoleIn, IsEndIn, KeepsConsoles, AreConsolesIn}
 use Rattle.station.proofs.Ends.{console_goes_on, console_has_ended}
-use Rattle.try_stations.specs.Seated.{AreOf, AreSame}
+use Rattle.try_stations.specs.Seated.{AreSame}
 
 abbrev C : Type 0
 C = Console Order Reply
@@ -64,7 +64,7 @@ pub same_later : (whole : List C) (c : C) (cs ds : List C) → whole ≡ c ∷ c
 same_later whole c cs ds is h = subst (λ (xs : List C). AreSame xs (c ∷ ds)) (sym is) (same_console c.link, h)
 
 -- consoles of a station stay its consoles
-pub stay : (lanes : Lanes) (cs ds : List C) → AreSame cs ds → AreOf lanes cs → AreOf lanes ds
+pub stay : (lanes : Lanes) (cs ds : List C) → AreSame cs ds → AreConsolesIn lanes cs → AreConsolesIn lanes ds
 stay lanes [] [] h k = k
 stay lanes [] (d ∷ ds) h k = absurd h
 stay lanes (c ∷ cs) [] h k = absurd h
@@ -73,22 +73,22 @@ stay lanes (c ∷ cs) (d ∷ ds) h k =
     (stay lanes cs ds h.1 (All-tail (IsConsoleIn lanes) c.link (links_of cs) k))
 
 -- and where the station goes on
-pub keep : (before after : Lanes) (cs : List C) → KeepsConsoles before after → AreOf before cs → AreOf after cs
+pub keep : (before after : Lanes) (cs : List C) → KeepsConsoles before after → AreConsolesIn before cs → AreConsolesIn after cs
 keep before after cs h k = All-weaker (IsConsoleIn before) (IsConsoleIn after) (λ (c : K). h.consoles c) (links_of cs) k
 
-front_of : (lanes : Lanes) (cs ds : List C) → AreOf lanes (cs ++ ds) → AreOf lanes cs
+front_of : (lanes : Lanes) (cs ds : List C) → AreConsolesIn lanes (cs ++ ds) → AreConsolesIn lanes cs
 front_of lanes [] ds h = All-nil (IsConsoleIn lanes)
 front_of lanes (c ∷ cs) ds h =
     All-cons (IsConsoleIn lanes) c.link (links_of cs) (All-head (IsConsoleIn lanes) c.link (links_of (cs ++ ds)) h) (front_of lanes cs ds (All-tail (IsConsoleIn lanes) c.link (links_of (cs ++ ds)) h))
 
-last_of : (lanes : Lanes) (cs : List C) (c : C) → AreOf lanes (cs ++ c ∷ []) → IsConsoleIn lanes c.link
+last_of : (lanes : Lanes) (cs : List C) (c : C) → AreConsolesIn lanes (cs ++ c ∷ []) → IsConsoleIn lanes c.link
 last_of lanes [] c h = All-head (IsConsoleIn lanes) c.link [] h
 last_of lanes (d ∷ cs) c h = last_of lanes cs c (All-tail (IsConsoleIn lanes) d.link (links_of (cs ++ c ∷ [])) h)
 
 -- one console less, the last
-pub without_last : (lanes : Lanes) (whole cs : List C) (c : C) → whole ≡ cs ++ c ∷ [] → AreOf lanes whole → AreOf lanes cs
-without_last lanes whole cs c is h = front_of lanes cs (c ∷ []) (subst (λ (xs : List C). AreOf lanes xs) is h)
+pub without_last : (lanes : Lanes) (whole cs : List C) (c : C) → whole ≡ cs ++ c ∷ [] → AreConsolesIn lanes whole → AreConsolesIn lanes cs
+without_last lanes whole cs c is h = front_of lanes cs (c ∷ []) (subst (λ (xs : List C). AreConsolesIn lanes xs) is h)
 
 -- which has ended
-pub last_ended : (lanes : Lanes) (whole cs : List C) (c : C) (f : F) → whole ≡ cs ++ c ∷ [] → AreOf lanes whole → Ends c.link f.link → IsEndIn lanes f
-last_ended lanes whole cs c f is h e = console_has_ended lanes c.link f.link (last_of lanes cs c (subst (λ (xs : List C). AreOf lanes xs) is h)) e
+pub last_ended : (lanes : Lanes) (whole cs : List C) (c : C) (f : F) → whole ≡ cs ++ c ∷ [] → AreConsolesIn lanes whole → Ends c.link f.link → IsEndIn lanes f
+last_ended lanes whole cs c f is h e = console_has_ended lanes c.link f.link (last_of lanes cs c (subst (λ (xs : List C). AreConsolesIn lanes xs) is h)) e

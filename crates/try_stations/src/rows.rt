@@ -1,6 +1,6 @@
 //! The rows of a station.
 
-ghost use Rattle.try_stations.specs.Seated.{AreOf};
+ghost use Rattle.station.specs.Lanes.{AreConsolesIn};
 
 use crate::looking::push_asked;
 use crate::pages::{push_compared, push_page};
@@ -38,8 +38,8 @@ fn push_row<L: Ledger, R: Threads + Wait + Sync>(
     files: &str,
     line: &str,
 )
-    requires { AreOf station.old.lanes consoles.old }
-    ensures { AreOf station.new.lanes consoles.new }
+    requires { AreConsolesIn station.old.lanes consoles.old }
+    ensures { AreConsolesIn station.new.lanes consoles.new }
 {
     let (word, words) = cut(line);
     match word {
@@ -63,8 +63,8 @@ pub fn push_rows<L: Ledger, R: Threads + Wait + Sync>(
     files: &str,
     rows: &str,
 )
-    requires { AreOf station.old.lanes consoles.old }
-    ensures { AreOf station.new.lanes consoles.new }
+    requires { AreConsolesIn station.old.lanes consoles.old }
+    ensures { AreConsolesIn station.new.lanes consoles.new }
 {
     for line in rows.lines() {
         if line.is_empty() {

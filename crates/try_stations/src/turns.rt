@@ -1,6 +1,6 @@
 //! The turns of the table.
 
-ghost use Rattle.try_stations.specs.Seated.{AreOf};
+ghost use Rattle.station.specs.Lanes.{AreConsolesIn};
 
 use crate::counts::{count, is_kept};
 use crate::workers::Workers;
@@ -136,8 +136,8 @@ fn take<L: Ledger, R: Wait>(
     consoles: &mut [Console],
     scan: Scan<'_>,
 ) -> Taken
-    requires { AreOf station.old.lanes consoles.old }
-    ensures { AreOf station.new.lanes consoles.new }
+    requires { AreConsolesIn station.old.lanes consoles.old }
+    ensures { AreConsolesIn station.new.lanes consoles.new }
 {
     let before = count(rt, &*station, consoles);
     let answer = station.turn(rt, alloc, scan.pairs, scan.moment);
@@ -159,8 +159,8 @@ fn take_again<L: Ledger, R: Wait>(
     consoles: &mut [Console],
     scan: Scan<'_>,
 ) -> Taken
-    requires { AreOf station.old.lanes consoles.old }
-    ensures { AreOf station.new.lanes consoles.new }
+    requires { AreConsolesIn station.old.lanes consoles.old }
+    ensures { AreConsolesIn station.new.lanes consoles.new }
 {
     let first = take(rt, alloc, station, consoles, scan);
     let is_refused = matches!(&first.answer, Err(EngineFault::Memory));
@@ -179,8 +179,8 @@ fn push_scan<L: Ledger, R: Wait>(
     page: &mut Page,
     scan: Scan<'_>,
 )
-    requires { AreOf station.old.lanes consoles.old }
-    ensures { AreOf station.new.lanes consoles.new }
+    requires { AreConsolesIn station.old.lanes consoles.old }
+    ensures { AreConsolesIn station.new.lanes consoles.new }
 {
     let taken = take_again(rt, alloc, station, consoles, scan);
     push_taken(alloc, page, station.engine(), &taken, scan.once);
@@ -195,8 +195,8 @@ pub fn push_turn_of<L: Ledger, R: Wait>(
     page: &mut Page,
     line: &str,
 )
-    requires { AreOf station.old.lanes consoles.old }
-    ensures { AreOf station.new.lanes consoles.new }
+    requires { AreConsolesIn station.old.lanes consoles.old }
+    ensures { AreConsolesIn station.new.lanes consoles.new }
 {
     let mut pool = Pool::new(alloc);
     let once = line.starts_with("once ");

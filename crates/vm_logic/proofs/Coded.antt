@@ -7,7 +7,8 @@ use Rattle.logic_source.specs.Source.{Source}
 use Rattle.logic_source.specs.Blocks.{AreBelow}
 use Rattle.logic_cells.specs.declared.stop.Stop.{Stop}
 use Rattle.logic_cells.specs.Cells.{PlainCells}
-use Rattle.logic_cells.specs.Runs.{Path, ended}
+use Rattle.plant_types.specs.Values.{Path}
+use Rattle.logic_cells.specs.Runs.{ended}
 use Rattle.logic_walk.specs.declared.frame.Base.{Base}
 use Rattle.logic_walk.specs.declared.frame.Frame.{Frame}
 use Rattle.logic_walk.specs.Frames.{frame_paths}

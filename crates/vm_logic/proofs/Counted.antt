@@ -15,7 +15,7 @@ use Rattle.logic_source.specs.declared.logic.BlockRef.{BlockRef}
 use Rattle.logic_source.specs.declared.logic.BlockRef.TheVariants.{Ton, Tof, RTrig, Declared}
 use Rattle.logic_source.specs.Source.{PlainRoutine, view_routine, own_cells}
 use Rattle.logic_source.specs.Blocks.{Declares, AreBelow}
-use Rattle.logic_source.specs.Worlds.{Path}
+use Rattle.plant_types.specs.Values.{Path}
 use Rattle.logic_source.specs.Layout.{own_values, block_values, instance_values, values_rule, routine_values, cells_per_type}
 use Rattle.logic_source.proofs.Levels.{behind, by_its_rule}
 use Rattle.logic_source.proofs.Agreeing.{values_ask}

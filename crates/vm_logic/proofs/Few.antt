@@ -10,7 +10,7 @@ use Rattle.logic_source.specs.declared.logic.BlockRef.{BlockRef}
 use Rattle.logic_source.specs.declared.logic.BlockRef.TheVariants.{Ton, Tof, RTrig, Declared}
 use Rattle.logic_source.specs.Source.{PlainRoutine, Source, global_cells}
 use Rattle.logic_source.specs.Blocks.{levels}
-use Rattle.logic_source.specs.Worlds.{Path}
+use Rattle.plant_types.specs.Values.{Path}
 use Rattle.logic_source.specs.Layout.{ClockAt, block_values, instance_values, own_values, values_rule, routine_values, block_clocks, instance_clocks, clocks_rule, routine_clocks, program_clocks, cell_paths, all_clocks}
 use Rattle.logic_source.specs.Seats.{program_values_before, program_values_base}
 use Rattle.logic_source.proofs.Seats.{own_count}

@@ -21,7 +21,7 @@ use Rattle.logic_source.specs.declared.logic.BlockRef.TheVariants.{Ton, Tof, RTr
 use Rattle.logic_source.specs.Source.{PlainRoutine, Source}
 use Rattle.logic_source.specs.Names.{own_words, row_words, instance_words, find_word, block_named}
 use Rattle.logic_source.specs.Blocks.{levels}
-use Rattle.logic_source.specs.Worlds.{Path}
+use Rattle.plant_types.specs.Values.{Path}
 use Rattle.logic_source.specs.Layout.{AreNamedApart}
 use Rattle.logic_source.specs.Paths.{called_in_stmt, called_in, called_in_branches, called_in_choices, is_called, block_paths, instance_paths, paths_rule, type_paths}
 use Rattle.logic_source.proofs.Layouts.{all_at}

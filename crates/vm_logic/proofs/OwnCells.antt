@@ -12,7 +12,7 @@ use Rattle.logic_source.specs.declared.logic.BlockRef.TheVariants.{Declared}
 use Rattle.logic_source.specs.Source.{PlainRoutine, Source, global_cells}
 use Rattle.logic_source.specs.Names.{global_words}
 use Rattle.logic_source.specs.Blocks.{AreBelow, HasItsTypes}
-use Rattle.logic_source.specs.Worlds.{Path}
+use Rattle.plant_types.specs.Values.{Path}
 use Rattle.logic_source.specs.Layout.{ClockAt, values_rule, routine_values, clocks_rule, routine_clocks, global_values, program_values, cell_paths, all_clocks}
 use Rattle.logic_source.specs.Seats.{StandsFrom, program_values_before, program_clocks_before, program_values_base, program_clocks_base, is_of_standard}
 use Rattle.logic_source.proofs.Seats.{global_count, values_length, routine_length, clocks_length, routine_clocks_length, program_stands, program_clocks_stand}

@@ -5,7 +5,7 @@ use Rattle.logic_source.specs.Source.{PlainRoutine, Source, global_cells}
 use Rattle.logic_source.specs.Worlds.{World, run_program}
 use Rattle.logic_source.specs.Paths.{paths_rule, type_paths}
 use Rattle.logic_cells.specs.Cells.{PlainCells}
-use Rattle.logic_cells.specs.Runs.{Path}
+use Rattle.plant_types.specs.Values.{Path}
 use Rattle.logic_walk.specs.declared.frame.Frame.{Frame}
 use Rattle.logic_walk.specs.Frames.{frame_paths}
 use Rattle.logic_walk.specs.Walks.{run_frame}

@@ -7,7 +7,8 @@ use Rattle.st_tree.specs.Meaning.{Ran, Done, Trapped}
 use Rattle.st_tree.specs.Alike as alike
 use Rattle.plant_types.specs.Words.{folded}
 use Rattle.logic_source.specs.Source.{PlainRoutine, Source}
-use Rattle.logic_source.specs.Worlds.{Path, World}
+use Rattle.plant_types.specs.Values.{Path}
+use Rattle.logic_source.specs.Worlds.{World}
 use Rattle.logic_source.specs.Layout.{ClockAt, clocks_rule, routine_clocks, program_clocks}
 use Rattle.logic_source.specs.Paths.{paths_rule, type_paths, program_paths, paths_of, path_text}
 use Rattle.logic_cells.specs.declared.clock.Standard.{Standard}

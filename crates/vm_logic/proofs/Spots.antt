@@ -3,7 +3,7 @@ use Rattle.std.proofs.Common.{◌≡◌, ◌∙◌, ap, sym, refl, ℕ, ◌+◌,
 use Rattle.std.proofs.lemmas.List.{length-map, get_or-map}
 use Rattle.plant_types.specs.declared.values.Place.{Place}
 use Rattle.logic_source.specs.Source.{PlainRoutine, Source}
-use Rattle.logic_source.specs.Worlds.{Path}
+use Rattle.plant_types.specs.Values.{Path}
 use Rattle.logic_source.specs.Paths.{instance_paths, paths_rule, type_paths, paths_of}
 use Rattle.logic_cells.specs.Runs.{spot_of}
 use Rattle.vm_logic.specs.Bases.{program_paths_base}

@@ -5,7 +5,8 @@ use Rattle.std.proofs.lemmas.Option.{slice_get-get_or}
 use Rattle.st_tree.specs.Meaning.{Ran}
 use Rattle.st_tree.specs.Alike as alike
 use Rattle.logic_source.specs.Source.{PlainRoutine, Source, global_cells}
-use Rattle.logic_source.specs.Worlds.{Path, World, globals_routine}
+use Rattle.plant_types.specs.Values.{Path}
+use Rattle.logic_source.specs.Worlds.{World, globals_routine}
 use Rattle.logic_source.specs.Paths.{paths_rule, type_paths, paths_of, path_text}
 use Rattle.logic_source.specs.Seats.{program_values_base, program_clocks_base}
 use Rattle.logic_cells.specs.declared.stop.Stop.{Stop}

@@ -10,7 +10,7 @@ use Rattle.std.proofs.lemmas.List.{length-map}
 use Rattle.std.proofs.lemmas.List.Quantifiers.{position-Some}
 use Rattle.std.proofs.lemmas.Option.{slice_get_within}
 use Rattle.plant_types.specs.declared.values.Bounds.{Bounds}
-use Rattle.plant_types.specs.Values.{row_length}
+use Rattle.plant_types.specs.Values.{row_length, Path}
 use Rattle.plant_types.specs.Words.{folded}
 use Rattle.st_names.specs.Scopes.{or_other}
 use Rattle.st_tree.specs.Plain.{PlainBody, done}
@@ -25,7 +25,7 @@ use Rattle.logic_source.specs.declared.logic.BlockRef.TheVariants.{Ton, Tof, RTr
 use Rattle.logic_source.specs.Source.{PlainRoutine, Source, row_cells, own_cells, global_cells}
 use Rattle.logic_source.specs.Names.{find_word, own_words, row_words, global_words, instance_words, bounds_named, kinds_named, meant_in}
 use Rattle.logic_source.specs.Blocks.{AreBelow, HasItsTypes, DeclaresThere}
-use Rattle.logic_source.specs.Worlds.{Path, index_word, in_word, pt_word, clk_word}
+use Rattle.logic_source.specs.Worlds.{index_word, in_word, pt_word, clk_word}
 use Rattle.logic_source.specs.Layout.{ClockAt, own_values, block_values, instance_values, values_rule, routine_values, block_clocks, instance_clocks, clocks_rule, routine_clocks}
 use Rattle.logic_source.specs.Seats.{StandsFrom, value_count, clock_count, own_or_global, member_number, is_of_standard}
 use Rattle.logic_source.proofs.Agreeing.{among_at, values_ask, clocks_ask}

@@ -9,7 +9,8 @@ use Rattle.logic_source.specs.Paths.{paths_rule, type_paths, paths_of}
 use Rattle.logic_limits.specs.Counts.{program_costs}
 use Rattle.logic_cells.specs.declared.stop.Stop.{Stop}
 use Rattle.logic_cells.specs.Cells.{PlainCells}
-use Rattle.logic_cells.specs.Runs.{Path, spot_of}
+use Rattle.plant_types.specs.Values.{Path}
+use Rattle.logic_cells.specs.Runs.{spot_of}
 use Rattle.logic_walk.specs.declared.frame.Frame.{Frame}
 use Rattle.logic_frames.specs.Frames.{IsFrames, program_base}
 use Rattle.logic_frames.specs.Stands.{StandFor}

@@ -1,7 +1,7 @@
 -- The counts of a table with one frame more.
 use Rattle.std.proofs.Common.{◌≡◌, ◌∙◌, ap, sym, subst, refl, ◌+◌, ◌<◌, List, [], ◌∷◌, ◌++◌, length, Some, arith, length-append}
 use Rattle.std.specs.Prelude.{slice_get}
-use Rattle.logic_cells.specs.Runs.{Path}
+use Rattle.plant_types.specs.Values.{Path}
 use Rattle.logic_walk.specs.declared.frame.Frame.{Frame}
 use Rattle.logic_walk.specs.Frames.{routine_paths, frame_paths}
 use Rattle.logic_walk.proofs.Growing.{first_more}

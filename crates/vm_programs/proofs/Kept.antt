@@ -5,7 +5,7 @@ use Rattle.st_tree.specs.Costs.{body_cost, body_size}
 use Rattle.st_tree.specs.Mapping.{Known, body_known}
 use Rattle.st_tree.specs.Meaning.{Space, Done, run_all}
 use Rattle.logic_cells.specs.Cells.{PlainCells}
-use Rattle.logic_cells.specs.Runs.{Path}
+use Rattle.plant_types.specs.Values.{Path}
 use Rattle.logic_walk.specs.declared.frame.Base.{Base}
 use Rattle.logic_walk.specs.declared.frame.Frame.{Frame}
 use Rattle.logic_walk.specs.declared.frame.Seat.{Seat}

@@ -7,7 +7,7 @@ use Rattle.st_tree.specs.Costs.{body_cost, body_size}
 use Rattle.st_tree.specs.Mapping.{body_known}
 use Rattle.st_tree.specs.Meaning.{Ran, Done, run_all}
 use Rattle.logic_cells.specs.Cells.{PlainCells}
-use Rattle.logic_cells.specs.Runs.{Path}
+use Rattle.plant_types.specs.Values.{Path}
 use Rattle.logic_walk.specs.declared.frame.SeatOf.{SeatOf}
 use Rattle.logic_walk.specs.declared.frame.SeatOf.TheVariants as seat_of
 use Rattle.logic_walk.specs.declared.frame.Base.{Base}

@@ -1,7 +1,8 @@
 //! Runs codes, with one memory for the stack of all runs.
 
 ghost use Rattle.std.specs.Prelude.{◌≡◌, ◌≤◌, ◌<◌, ◌+◌, ◌*◌, ◌-◌, List, length, IfOk, IfErr};
-ghost use Rattle.logic_cells.specs.Runs.{Path, ended};
+ghost use Rattle.plant_types.specs.Values.{Path};
+ghost use Rattle.logic_cells.specs.Runs.{ended};
 ghost use Rattle.acc_vm.specs.Machine.{Over};
 ghost use Rattle.acc_vm.specs.Codes.{SameShape, run_of};
 

@@ -1,7 +1,7 @@
 -- What a table of counts tells of each frame.
 use Rattle.std.specs.Prelude.{◌≡◌, ◌<◌, ◌^◌, ℕ, min, List, length, slice_get}
 use Rattle.std.specs.Option.{option_map_or}
-use Rattle.logic_cells.specs.Runs.{Path}
+use Rattle.plant_types.specs.Values.{Path}
 use Rattle.logic_walk.specs.declared.frame.Frame.{Frame}
 use Rattle.logic_walk.specs.Frames.{routine_paths, frame_paths}
 use Rattle.vm_sizes.specs.declared.counts.Count.{Count}

@@ -1,7 +1,7 @@
 //! Counts the paths below a routine.
 
 ghost use Rattle.std.specs.Prelude.{◌≡◌, ℕ, length, List, [], ◌++◌, ◌∷◌};
-ghost use Rattle.logic_cells.specs.Runs.{Path};
+ghost use Rattle.plant_types.specs.Values.{Path};
 ghost use Rattle.logic_walk.specs.Frames.{routine_paths, paths_below};
 ghost use Rattle.vm_sizes.specs.Counts.{capped, paths_at};
 

@@ -5,7 +5,7 @@ use Rattle.std.proofs.lemmas.Option.{slice_get-map, slice_get-get_or, same_Some}
 use Rattle.logic_cells.specs.declared.clock.Standard.TheVariants as standard
 use Rattle.logic_cells.specs.Clocks.{clock_of}
 use Rattle.logic_cells.specs.Cells.{PlainCells}
-use Rattle.logic_cells.specs.Runs.{Path}
+use Rattle.plant_types.specs.Values.{Path}
 use Rattle.acc_vm.specs.declared.instr.Instr.{Instr}
 use Rattle.acc_vm.specs.Codes.{PlainCode, fuel_of, run_of}
 use Rattle.vm_slices.specs.Slots.{Names, Writes, NamesClock}

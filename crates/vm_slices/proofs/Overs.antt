@@ -3,7 +3,8 @@ use Rattle.std.proofs.Common.{◌≡◌, ℕ, List, refl, subst, Ok, Err, Result
 use Rattle.st_tree.specs.Meaning.{Ran, Done, Trapped}
 use Rattle.logic_cells.specs.declared.stop.Stop.{Stop}
 use Rattle.logic_cells.specs.Cells.{PlainCells}
-use Rattle.logic_cells.specs.Runs.{Path, ended}
+use Rattle.plant_types.specs.Values.{Path}
+use Rattle.logic_cells.specs.Runs.{ended}
 use Rattle.acc_vm.specs.Machine.{Run, Over, Unfinished, Stuck}
 use Rattle.acc_vm.specs.Codes.{PlainCode, run_of}
 use Rattle.vm_slices.specs.Alike.{EndAlike, GoAlike}

@@ -2,7 +2,7 @@
 use Rattle.std.proofs.Common.{ℕ, ℤ, List, refl}
 use Rattle.st_tree.specs.Meaning.{Ran, Done, Trapped}
 use Rattle.logic_cells.specs.Cells.{PlainCells}
-use Rattle.logic_cells.specs.Runs.{Path}
+use Rattle.plant_types.specs.Values.{Path}
 use Rattle.acc_vm.specs.declared.instr.Instr.{Instr}
 use Rattle.plant_types.specs.declared.values.Place.{Place}
 use Rattle.acc_vm.specs.Machine.{Run, Over, Unfinished, Stuck, exec}

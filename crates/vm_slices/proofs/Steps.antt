@@ -4,7 +4,7 @@ use Rattle.std.specs.Prelude.{slice_get, option_map, nat_abs, nat_lt, Ok, Err}
 use Rattle.std.specs.List.{AllByRecursion, range_with_len}
 use Rattle.std.proofs.lemmas.Int.{ints}
 use Rattle.std.proofs.lemmas.Option.{slice_get-map}
-use Rattle.plant_types.specs.Values.{is_true, has_index, indexed, row_length, row_place}
+use Rattle.plant_types.specs.Values.{is_true, has_index, indexed, row_length, row_place, Path}
 use Rattle.plant_types.specs.declared.values.Bounds.{Bounds}
 use Rattle.plant_types.specs.declared.values.Trap.{Trap}
 use Rattle.plant_types.specs.declared.values.Trap.TheVariants.{Index}
@@ -14,7 +14,6 @@ use Rattle.st_tree.specs.declared.tree.Unary.{Unary}
 use Rattle.st_tree.specs.Operators.{Outcome, eval_unary, eval_binary}
 use Rattle.st_tree.specs.Meaning.{Spot, Done, Trapped}
 use Rattle.logic_cells.specs.Cells.{PlainCells, value_at, assigned, clocked}
-use Rattle.logic_cells.specs.Runs.{Path}
 use Rattle.logic_cells.specs.Clocks.{shown_by}
 use Rattle.acc_vm.specs.declared.instr.Instr.{Instr}
 use Rattle.acc_vm.specs.declared.instr.Instr.TheVariants as instr

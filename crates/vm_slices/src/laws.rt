@@ -2,7 +2,8 @@
 
 ghost use Rattle.std.specs.Prelude.{◌≡◌, ◌<◌, ◌+◌, ℕ, ℤ, List, Result, map, slice_get};
 ghost use Rattle.logic_cells.specs.Cells.{PlainCells};
-ghost use Rattle.logic_cells.specs.Runs.{Path, ended};
+ghost use Rattle.plant_types.specs.Values.{Path};
+ghost use Rattle.logic_cells.specs.Runs.{ended};
 ghost use Rattle.logic_cells.specs.declared.stop.Stop.{Stop};
 ghost use Rattle.acc_vm.specs.declared.instr.Instr.{Instr};
 ghost use Rattle.plant_types.specs.declared.values.Place.{Place};

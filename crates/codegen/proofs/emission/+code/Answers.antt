@@ -12,7 +12,7 @@ use Rattle.st_tree.specs.Controls.{control_values}
 use Rattle.st_tree.specs.View.{view_expr, view_argument, view_stmt, view_body, view_branch, view_branches, view_choice, view_choices}
 use Rattle.st_tree.proofs.Depth.{size-If, size-Case, size-For}
 use Rattle.st_tree.proofs.Views.{view_stmt-Store, view_stmt-Call, view_stmt-If, view_stmt-Case, view_stmt-For, view_branch_is, view_choice_is}
-use Rattle.logic_cells.specs.Runs.{Path}
+use Rattle.plant_types.specs.Values.{Path}
 use Rattle.logic_walk.specs.declared.frame.Base.{Base}
 use Rattle.logic_walk.specs.Frames.{InTurn, frame_paths, routine_paths}
 use Rattle.logic_walk.proofs.Firsts.{paths_is}

@@ -2,7 +2,7 @@ use Rattle.std.proofs.Common.{◌≡◌, ◌+◌, ◌++◌, ℕ, suc, [], List, 
 use Rattle.std.specs.Prelude.{All}
 use Rattle.std.specs.Arc.{arc_value}
 use Rattle.std.proofs.lemmas.List.Elements.{All-append, All-nil}
-use Rattle.logic_cells.specs.Runs.{Path}
+use Rattle.plant_types.specs.Values.{Path}
 use Rattle.level_jobs.specs.Gathers.{GathersLevel, GathersLevels, no_level, next_level}
 use Rattle.level_jobs.specs.Spotted.{HasItsPath, spotted}
 use Rattle.level_jobs.specs.declared.fault.ProgramFault.{ProgramFault}

@@ -1,7 +1,7 @@
 use Rattle.std.proofs.Common.{◌≡◌, ℕ, [], List}
 use Rattle.std.specs.Prelude.{All}
 use Rattle.std.specs.Arc.{arc_value}
-use Rattle.logic_cells.specs.Runs.{Path}
+use Rattle.plant_types.specs.Values.{Path}
 use Rattle.acc_vm.specs.Codes.{PlainCode}
 use Rattle.slice_store.specs.Splits.{ArePartsOf}
 use Rattle.level_jobs.specs.Gathers.{GathersLevels}

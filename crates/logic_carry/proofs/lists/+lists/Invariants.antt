@@ -1,7 +1,7 @@
 use Rattle.std.proofs.Common.{◌+◌, ◌*◌, ◌++◌, ℕ, List, [], Option, take}
 use Rattle.logic_source.specs.Source.{PlainRoutine}
 use Rattle.logic_source.specs.Blocks.{levels}
-use Rattle.logic_source.specs.Worlds.{Path}
+use Rattle.plant_types.specs.Values.{Path}
 use Rattle.logic_source.specs.Layout.{instance_clocks, clocks_rule}
 use Rattle.logic_source.specs.Ranges.{own_kinds, instance_kinds, kinds_rule}
 use Rattle.logic_carry.specs.Shapes.{AreTable, IsShape}

@@ -1,5 +1,5 @@
 use Rattle.std.proofs.Common.{ℕ, List, [], Option, map}
-use Rattle.logic_source.specs.Worlds.{Path}
+use Rattle.plant_types.specs.Values.{Path}
 use Rattle.logic_source.specs.Layout.{elements_from}
 use Rattle.logic_source.specs.Ranges.{element_at}
 use Rattle.logic_carry.specs.Shapes.{IsMeasured}

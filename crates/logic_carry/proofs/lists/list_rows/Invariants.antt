@@ -1,6 +1,6 @@
 use Rattle.std.proofs.Common.{ℕ, List, [], Option, take}
 use Rattle.logic_source.specs.declared.logic.Row.{Row}
-use Rattle.logic_source.specs.Worlds.{Path}
+use Rattle.plant_types.specs.Values.{Path}
 use Rattle.logic_source.specs.Ranges.{row_kinds}
 use Rattle.logic_carry.specs.Shapes.{AreRows}
 use Rattle.logic_carry.specs.Lists.{IsListing, HasPath, Adds}

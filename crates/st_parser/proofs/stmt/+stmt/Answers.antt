@@ -2,7 +2,8 @@
 use Rattle.std.proofs.Common.{◌≡◌, ◌+◌, ◌-◌, ◌∙◌, ap, sym, arith, rules, length, map, true, false, ◌∷◌, [], ◌++◌, Some}
 use Rattle.st_lexer.specs.declared.token.Keyword.TheVariants as k
 use Rattle.st_tree.specs.View.{view_stmt, view_branch, view_choice}
-use Rattle.st_expressions.specs.Reading.{◌>>=◌, with_first, all_at, is_keyword, after_keyword}
+use Rattle.plant_types.specs.Options.{◌>>=◌}
+use Rattle.st_expressions.specs.Reading.{with_first, all_at, is_keyword, after_keyword}
 use Rattle.st_parser.specs.ReadingStatements.{as_body, is_statement, item_at, is_label, branch_at, choice_at, sequence_at}
 use Rattle.st_expressions.proofs.Many.{many_goes, many_ends}
 use Rattle.st_parser.proofs.stmt.+stmt.Goals as goal

@@ -1,5 +1,5 @@
 use Rattle.std.proofs.Common.{◌≡◌, ◌+◌, ◌≤◌, ℕ, List, length, drop}
-use Rattle.logic_cells.specs.Runs.{Path}
+use Rattle.plant_types.specs.Values.{Path}
 use Rattle.logic_walk.specs.Frames.{seats_paths}
 use Rattle.vm_sizes.specs.Counts.{capped, paths_at}
 use Rattle.vm_sizes.proofs.paths.routine_paths.Given as goal

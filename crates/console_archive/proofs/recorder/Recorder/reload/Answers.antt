@@ -3,7 +3,7 @@ use Rattle.engine_history.specs.declared.event.Event.TheVariants as event
 use Rattle.plant_config.specs.Plants.{PlainPlant}
 use Rattle.engine.specs.Engines.{state_of}
 use Rattle.engine.specs.Lawful.{IsTaken}
-use Rattle.console_entries.specs.Showing.{HasHistory}
+use Rattle.console_archive.specs.Showing.{HasHistory}
 use Rattle.console_archive.proofs.Shown.{has_same, shows_all}
 use Rattle.console_archive.proofs.recorder.Recorder.reload.Goals as goal
 

@@ -6,7 +6,7 @@ use Rattle.engine_system.specs.declared.event.Reply.{Reply}
 use mathlib.Core.List.{IsPrefix}
 use Rattle.logbook.specs.Pages.{Book}
 use Rattle.console_boards.specs.declared.entry.BoardEntry.{BoardEntry}
-use Rattle.console_entries.specs.Entries.{entries_of}
+use Rattle.console_archive.specs.Entries.{entries_of}
 use Rattle.console_operator.specs.Sights.{BoardStory}
 use Rattle.console_operator.specs.declared.console.Finished.{Finished as Ended}
 use Rattle.station.specs.Lanes.{IsEndIn, IsOfLog, HasNoTwin, numbers_in, links_in, ended_of, is_within}

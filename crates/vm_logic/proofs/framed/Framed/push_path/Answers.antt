@@ -5,7 +5,8 @@ use Rattle.std.proofs.lemmas.Grind.{common_steps}
 use Rattle.vm_logic.specs.declared.headings.Heading.{Heading}
 use Rattle.vm_logic.proofs.Headed.{as_many, name_headed}
 use Rattle.logic_source.specs.Source.{Source, source_of}
-use Rattle.logic_source.specs.Worlds.{Path, globals_routine}
+use Rattle.plant_types.specs.Values.{Path}
+use Rattle.logic_source.specs.Worlds.{globals_routine}
 use Rattle.logic_source.specs.Paths.{paths_of, path_text}
 use Rattle.logic_walk.specs.Frames.{frame_paths}
 use Rattle.logic_walk.specs.Paths.{path_suffix}

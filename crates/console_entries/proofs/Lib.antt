@@ -1,5 +1,0 @@
-pub mod Laid
-pub mod Orders
-pub mod Reloads
-pub mod Scans
-pub mod Steps
