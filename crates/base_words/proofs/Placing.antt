@@ -3,29 +3,29 @@ use Rattle.std.proofs.Common.{◌≡◌, ℕ, ◌+◌, ◌<◌, inl, inr, List, 
 use Rattle.std.proofs.lemmas.Bool.{cases_lt, cases_eq}
 use Rattle.std.proofs.lemmas.List.{get_or-set_same, get_or-set_other, length-set, length-append}
 use Rattle.base_words.specs.declared.chains.Link.{Link}
-use Rattle.base_words.specs.declared.texts.Span.{Span}
+use Rattle.base_words.specs.declared.texts.ByteRange.{ByteRange}
 use Rattle.base_words.specs.Texts.{place_at}
 use Rattle.base_words.specs.Chains.{link_at, Knows, Know}
 use Rattle.base_words.proofs.Linking.{no_link, at_front, at_end}
 
-abbrev no_place : Span
+abbrev no_place : ByteRange
 no_place = record { start = 0; end = 0 }
 
 -- with the place of one more number a link still knows
-knows_more : (places : List Span) (place : Span) (link : Link) → Knows places link → Knows (places ++ place ∷ []) link
+knows_more : (places : List ByteRange) (place : ByteRange) (link : Link) → Knows places link → Knows (places ++ place ∷ []) link
 knows_more places place link knows k is =
     let within = (knows k is).0 in
     let long = length-append places (place ∷ []) in
     (omega (arith, within, long), at_front places place no_place k within ∙ (knows k is).1)
 
 -- the link to that number knows
-knows_last : (places : List Span) (link : Link) → link.count ≡ length places + 1 → Knows (places ++ link.place ∷ []) link
+knows_last : (places : List ByteRange) (link : Link) → link.count ≡ length places + 1 → Knows (places ++ link.place ∷ []) link
 knows_last places link count k is =
     let at : k ≡ length places = omega (arith, is, count) in
     let long = length-append places (link.place ∷ []) in
     (omega (arith, at, long), ap (place_at (places ++ link.place ∷ [])) at ∙ at_end places link.place no_place)
 
-pub know_tops : (places : List Span) (tops : List Link) (which : ℕ) (link : Link) → link.count ≡ length places + 1 → Know places (length tops) tops
+pub know_tops : (places : List ByteRange) (tops : List Link) (which : ℕ) (link : Link) → link.count ≡ length places + 1 → Know places (length tops) tops
     → Know (places ++ link.place ∷ []) (length (slice_set tops which link)) (slice_set tops which link)
 know_tops places tops which link count know i less =
     let wide = length-set tops which link in
@@ -37,7 +37,7 @@ know_tops places tops which link count know i less =
           rw at (knows_more places link.place (link_at tops i) (know i within)))
     ]
 
-pub know_links : (places : List Span) (place : Span) (links : List Link) (link : Link) → Knows places link → Know places (length links) links
+pub know_links : (places : List ByteRange) (place : ByteRange) (links : List Link) (link : Link) → Knows places link → Know places (length links) links
     → Know (places ++ place ∷ []) (length (links ++ link ∷ [])) (links ++ link ∷ [])
 know_links places place links link knows know i less =
     let long = length-append links (link ∷ []) in

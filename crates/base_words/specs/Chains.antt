@@ -1,14 +1,14 @@
 -- Numbers in chains by hash: each leads to the one before it in its chain.
 use Rattle.std.specs.Prelude.{◌≡◌, ℕ, ◌+◌, ◌-◌, ◌<◌, ◌≤◌, List, Option, Some, None, length, slice_index, slice_index_or, bit_and}
 use Rattle.base_words.specs.declared.chains.Link.{Link}
-use Rattle.base_words.specs.declared.texts.Span.{Span}
+use Rattle.base_words.specs.declared.texts.ByteRange.{ByteRange}
 use Rattle.base_words.specs.declared.texts.Placed.{Placed}
 use Rattle.base_words.specs.Texts.{place_at}
 
 -- the hashes of numbers, their places, and how many numbers there is room for
 pub record PlainChains : Type 0 where
   pub hashes : List ℕ
-  pub places : List Span
+  pub places : List ByteRange
   pub room : ℕ
 
 -- the chain of a hash, where there are this many, a power of two
@@ -57,13 +57,13 @@ pub record AreChains (hashes : List ℕ) (tops links : List Link) : Type 0 where
   pub back : GoBack hashes (length tops) (length hashes) links
 
 -- a link knows the place of the number that it leads to
-abbrev pub Knows : List Span → Link → Type 0
+abbrev pub Knows : List ByteRange → Link → Type 0
 Knows places link = (k : ℕ) → link.count ≡ k + 1 → (k < length places) × (place_at places k ≡ link.place)
 
 -- each of some first links knows it
-abbrev pub Know : List Span → ℕ → List Link → Type 0
+abbrev pub Know : List ByteRange → ℕ → List Link → Type 0
 Know places end links = (i : ℕ) → i < end → Knows places (link_at links i)
 
 -- chains of all numbers, each link of which knows its number's place
-abbrev pub ArePlaced : List ℕ → List Span → List Link → List Link → Type 0
+abbrev pub ArePlaced : List ℕ → List ByteRange → List Link → List Link → Type 0
 ArePlaced hashes places tops links = AreChains hashes tops links × ((length places ≡ length hashes) × (Know places (length tops) tops × Know places (length links) links))

@@ -1,7 +1,7 @@
 -- Texts that lie one behind another in one.
 use Rattle.std.specs.Prelude.{◌≡◌, ◌∷◌, [], ◌+◌, ◌-◌, ◌≤◌, ℕ, zero, suc, List, length, take, drop, slice_index_or}
 use Rattle.std.specs.Str.{IsCharBoundary}
-use Rattle.base_words.specs.declared.texts.Span.{Span}
+use Rattle.base_words.specs.declared.texts.ByteRange.{ByteRange}
 
 -- the texts that lie in one from a place on, by the places at which they end
 abbrev pub texts_in : ℕ → List ℕ → List ℕ → List (List ℕ)
@@ -20,10 +20,10 @@ AreEnds start [] text = start ≡ length text
 AreEnds start (end ∷ ends) text = (start ≤ end) × (IsCharBoundary text end × AreEnds end ends text)
 
 -- the place of a number
-abbrev pub place_at : List Span → ℕ → Span
+abbrev pub place_at : List ByteRange → ℕ → ByteRange
 place_at places number = slice_index_or places number (record { start = 0; end = 0 })
 
 -- the places of texts that lie one behind another from a place on
-abbrev pub places_of : ℕ → List (List ℕ) → List Span
+abbrev pub places_of : ℕ → List (List ℕ) → List ByteRange
 places_of start [] = []
 places_of start (text ∷ texts) = record { start = start; end = start + length text } ∷ places_of (start + length text) texts

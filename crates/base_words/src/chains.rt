@@ -3,9 +3,9 @@
 ghost use Rattle.std.specs.Prelude.{◌≡◌, ℕ, ◌++◌, ◌∷◌, [], ◌+◌, ◌-◌, ◌<◌, ◌≤◌, ◌^◌, List, length, slice_index, slice_set, OnOk, IfOk, IfSome, OnErr};
 ghost use Rattle.base_words.specs.Chains.{chain_of, link_at, number_in, IsLast, IsLink, GoBack, BeginAtTops, AreChains, Knows, Know};
 ghost use Rattle.base_words.specs.Texts.{place_at};
-ghost use Rattle.base_words.specs.declared.texts.Span.{Span};
+ghost use Rattle.base_words.specs.declared.texts.ByteRange.{ByteRange};
 
-use crate::texts::{Placed, Span};
+use crate::texts::{ByteRange, Placed};
 use std::alloc::{AllocError, Global};
 use std::marker::Model;
 use std::mem::replace;
@@ -18,7 +18,7 @@ pub(crate) struct Link {
     /// The number's hash.
     pub(crate) hash: u32,
     /// Where the number's text lies, so that it is found without a look elsewhere.
-    pub(crate) place: Span,
+    pub(crate) place: ByteRange,
 }
 
 /// The fewest chains, a power of two.
@@ -28,14 +28,14 @@ const FEWEST: usize = 8;
 const NO_LINK: Link = Link {
     count: 0,
     hash: 0,
-    place: Span { start: 0, end: 0 },
+    place: ByteRange { start: 0, end: 0 },
 };
 
 /// Numbers from 0 on, each with a hash and a place, of which the last with a given hash is found without a look at each. Contracts see the lists of
 /// hashes and of places, and how many numbers there is room for.
 pub(crate) struct Chains {
     hashes: Vec<u32>,
-    places: Vec<Span>,
+    places: Vec<ByteRange>,
     /// For each chain its last number.
     tops: Vec<Link>,
     /// For each number the one before it in its chain.
@@ -79,7 +79,7 @@ fn chain_of(hash: u32, chains: usize) -> usize
 fn tops_of(
     alloc: Global,
     hashes: &[u32],
-    places: &[Span],
+    places: &[ByteRange],
     links: &mut [Link],
     chains: usize,
 ) -> Result<Vec<Link>, AllocError>
@@ -112,7 +112,7 @@ fn tops_of(
 fn widen(
     alloc: Global,
     hashes: &[u32],
-    places: &[Span],
+    places: &[ByteRange],
     tops: &mut Vec<Link>,
     links: &mut Vec<Link>,
 ) -> Result<(), AllocError>
@@ -153,7 +153,7 @@ fn follow(links: &[Link], from: Link, hash: u32) -> Option<Placed>
     ensures last { (hashes : List ℕ) (chains end : ℕ) → GoBack hashes chains end links.now
         → IsLink hashes chains end (chain_of hash chains) from
         → IsLast hashes end hash (number_in result) }
-    ensures place { (places : List Span) → Know places (length links.now) links.now → Knows places from
+    ensures place { (places : List ByteRange) → Know places (length links.now) links.now → Knows places from
         → IfSome result (λ found. place_at places found.number ≡ found.place) }
 {
     let mut link = from;
@@ -234,7 +234,7 @@ impl Chains {
     }
 
     /// Adds a number with its hash and its place, where there is room.
-    pub(crate) fn push_reserved(&mut self, hash: u32, place: Span)
+    pub(crate) fn push_reserved(&mut self, hash: u32, place: ByteRange)
         requires { length self.old.hashes < self.old.room }
         ensures hashes { self.new.hashes ≡ self.old.hashes ++ hash ∷ [] }
         ensures places { self.new.places ≡ self.old.places ++ place ∷ [] }

@@ -8,7 +8,7 @@ use std::marker::Model;
 
 /// Where a text lies.
 #[derive(Clone, Copy, Drop)]
-pub(crate) struct Span {
+pub(crate) struct ByteRange {
     pub(crate) start: u32,
     pub(crate) end: u32,
 }
@@ -17,7 +17,7 @@ pub(crate) struct Span {
 #[derive(Clone, Copy, Drop)]
 pub(crate) struct Placed {
     pub(crate) number: usize,
-    pub(crate) place: Span,
+    pub(crate) place: ByteRange,
 }
 
 /// Texts in a list, without a piece of memory for each. Contracts see their bytes.
@@ -119,7 +119,7 @@ impl Texts {
     }
 
     /// Adds a text, and returns its place. Fails if memory is refused, or if the texts have more than 4,294,967,295 bytes together.
-    pub(crate) fn push(&mut self, text: &str) -> Result<Span, AllocError>
+    pub(crate) fn push(&mut self, text: &str) -> Result<ByteRange, AllocError>
         ensures ok { OnOk result (self.new ≡ self.old ++ text.now ∷ []) }
         ensures place { IfOk result (λ place. places_of 0 self.new
             ≡ places_of 0 self.old ++ place ∷ []) }
@@ -130,7 +130,7 @@ impl Texts {
         self.ends.reserve(1)?;
         self.text.push_str(text)?;
         self.ends.push_reserved(end);
-        Ok(Span {
+        Ok(ByteRange {
             start: start as u32,
             end,
         })
