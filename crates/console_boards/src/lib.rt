@@ -10,7 +10,7 @@
 //! The writer has a log of all entries that were laid by, and each board that is shown has a mark of its list in that log. So of whatever two readers
 //! saw, and of what the writer laid by, each list is a beginning of one list.
 //!
-//! A reply is the one of an alarm bank (`Reply`), so that the crate stands below the engine, whose replies say the same.
+//! What an order is answered is the outcome of an alarm bank (`OrderOutcome`), so that the crate stands below the engine, whose replies say the same.
 //!
 //! Layer console_: it must not know the bytes of commands.
 #![tactic(auto)]

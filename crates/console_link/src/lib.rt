@@ -1,6 +1,6 @@
 //! What ties a console to the owner of the engine: a ring for its orders and a ring for their answers.
 //!
-//! A console's ends are its `Console`, which goes to a thread of its own; the owner keeps a `Lane` for each. Neither end waits, and none of
+//! A console's ends are its `Link`, which goes to a thread of its own; the owner keeps a `Lane` for each. Neither end waits, and none of
 //! their calls takes memory. The two lists of a ring, what was put in and what was taken out, are joined where both ends have come to one
 //! thread again, in `Lane::end`; before that each end knows its own list alone.
 //!

@@ -1,6 +1,6 @@
 //! All that is wrong in the spelling and the grammar of a source (C4, C5), in one go.
 //!
-//! What begins no token is told by what stands beside it. Of a token with which no source can go on, the tokens before it tell where it stands (`Place`), and
+//! What begins no token is told by what stands beside it. Of a token with which no source can go on, the tokens before it tell where it stands (`TokenPlace`), and
 //! tables say what is wrong there (`rules`, `words`). Then its unit is read on behind it: the statement or the declaration is left out, or what is missing is
 //! put in, and the unit is read anew. So each further cause stands behind the one before it, in tokens that are those of the source. Where it isn't certain how
 //! to go on, the rest of the unit isn't read. What a byte that begins no token leads to isn't told again.
