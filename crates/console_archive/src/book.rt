@@ -126,8 +126,7 @@ impl<L: Ledger> Book<L> {
     {
         let Book { engine, tally } = self;
         tally.add(share, 1);
-        let report = engine.commit(prepared);
-        engine.reuse(report);
+        engine.commit_told(prepared);
     }
 
     /// Makes an order of the console of a number ready, as `Engine::prepare_order`.

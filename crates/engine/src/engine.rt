@@ -426,15 +426,6 @@ impl Engine {
         Ok(reloaded)
     }
 
-    /// Gives a report back, so that the next scan's lists take its memory and none of their own. The report is lost; the engine stays as it is.
-    pub fn reuse(&mut self, report: Report)
-        ensures { self.new ≡ self.old }
-    {
-        if let Some(scan) = &mut self.room.spare {
-            scan.report = report;
-        }
-    }
-
     /// Makes an order of the console of a number ready. It changes neither plant nor history.
     ///
     /// The refusals: `HistoryFull` (E6) at 1,000,000 events, and `Memory` if memory is refused.

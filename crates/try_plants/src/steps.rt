@@ -50,9 +50,8 @@ fn push_ready_scan<H, C: Crew<Job, Start, Done, H>>(
     match engine.prepare(rt, alloc, crew, pairs, moment) {
         Ok(prepared) => {
             push_seen(page, engine);
-            let report = engine.commit(prepared);
-            push_report(page, &report);
-            engine.reuse(report);
+            push_report(page, &prepared.scan.report);
+            engine.commit_told(prepared);
         }
         Err(fault) => push_refused(page, fault),
     }
