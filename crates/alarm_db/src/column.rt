@@ -28,7 +28,6 @@ pub enum Version {
 }
 
 impl Version {
-    /// All versions, in their order.
     pub(crate) fn all() -> [Version; 2]
         ensures { result ≡ versions }
     {

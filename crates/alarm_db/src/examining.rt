@@ -57,7 +57,6 @@ struct Counts {
     again: usize,
 }
 
-/// The byte at which a record begins.
 fn start_of(row: &ByteRecord) -> usize {
     match row.position() {
         Some(position) => position.byte() as usize,

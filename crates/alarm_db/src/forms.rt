@@ -65,7 +65,6 @@ fn are_text_bytes(field: &[u8]) -> bool
     all
 }
 
-/// Whether bytes are UTF-8.
 fn is_utf8(field: &[u8]) -> bool
     ensures { result ≡ is_utf8 field.now }
 {
@@ -79,7 +78,6 @@ fn is_text(field: &[u8]) -> bool
     field.len() <= 200 && are_text_bytes(field) && is_utf8(field)
 }
 
-/// Whether a field has its column's form.
 pub(crate) fn has_form(column: Column, field: &[u8]) -> bool
     ensures { result ≡ has_form column field.now }
 {

@@ -62,7 +62,6 @@ fn add_row(
     Ok(())
 }
 
-/// The rows that were gathered, or the fault.
 fn finished(gathered: Gathered) -> Result<Vec<DatabaseRow>, DbFault>
     ensures { (v : Version) (rows : List (List (List ℕ))) → HasGathered v rows gathered
         → MatchResult result (λ found. (forms_fault v rows ≡ None) × (found.items ≡ map (row_of v) rows))

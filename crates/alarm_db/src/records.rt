@@ -46,7 +46,6 @@ pub(crate) fn version_of(header: &ByteRecord) -> Option<Version>
         .find(|version| is_header(header, *version))
 }
 
-/// A reader of the records of a text.
 pub(crate) fn reader_of(alloc: Global, text: &[u8]) -> Reader<&[u8]>
     ensures { HasRead text.now [] result }
 {

@@ -80,7 +80,6 @@ fn word(alloc: Global, field: &[u8]) -> Result<Option<Text>, AllocError>
     Ok(Some(text(alloc, field)?))
 }
 
-/// The number in a field of 1 to 10 digits.
 fn digits(field: &[u8]) -> u64
     requires { has_digits 10 field.now ≡ true }
     ensures { result ≡ digits_value 10 field.now }
@@ -91,7 +90,6 @@ fn digits(field: &[u8]) -> u64
     }
 }
 
-/// The delay in a field: 0 in an empty one.
 fn delay(field: &[u8]) -> u32
     requires { (is_empty field.now || is_delay field.now) ≡ true }
     ensures { result ≡ digits_value 10 field.now }

@@ -31,7 +31,6 @@ impl Model for Tags {
 }
 
 impl Tags {
-    /// No tags.
     pub(crate) fn new(alloc: Global) -> Tags
         ensures { result ≡ [] }
     {

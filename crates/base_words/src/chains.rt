@@ -171,7 +171,6 @@ fn follow(links: &[Link], from: Link, hash: u32) -> Option<Placed>
 }
 
 impl Chains {
-    /// No numbers.
     pub(crate) fn new(alloc: Global) -> Chains
         ensures hashes { result.hashes ≡ [] }
         ensures places { result.places ≡ [] }

@@ -48,7 +48,6 @@ impl Model for Table {
     ghost invariant = { λ t. (t.chains.hashes ≡ map hash_of t.texts) × (AreApart t.letters t.texts × (t.chains.places ≡ places_of 0 t.texts)) };
 }
 
-/// A name's hash.
 #[inline(always)]
 #[tactic(auto, unfolding(crate::specs::Tables::hash_of))]
 fn hash_of(name: &[u8]) -> u32

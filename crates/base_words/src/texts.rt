@@ -67,7 +67,6 @@ fn end_of(start: usize, length: usize) -> Result<u32, AllocError>
 }
 
 impl Texts {
-    /// No texts.
     pub(crate) fn new(alloc: Global) -> Texts
         ensures { result ≡ [] }
     {
@@ -86,7 +85,6 @@ impl Texts {
         self.ends.len()
     }
 
-    /// The text of a number that is there.
     #[inline(always)]
     pub(crate) fn at(&self, number: usize) -> &str
         requires { number < length self.now }

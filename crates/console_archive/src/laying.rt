@@ -25,7 +25,6 @@ use plant_config::{AlarmRow, Plant};
 use plant_types::Items;
 use std::alloc::{AllocError, Global};
 
-/// Whether an alarm's condition is met, by cells.
 fn is_met(cells: &Cells, row: &AlarmRow) -> bool
     ensures { result ≡ is_true (value_at cells.now row.now.condition) }
 {
@@ -43,7 +42,6 @@ fn conditions(alloc: Global, rows: &[AlarmRow], cells: &Cells) -> Result<Vec<boo
     Ok(flags)
 }
 
-/// Whether an alarm is suppressed, by cells.
 fn is_suppressed(cells: &Cells, row: &AlarmRow) -> bool
     ensures { result ≡ suppression (value_at cells.now) row.now.suppress }
 {
@@ -88,7 +86,6 @@ fn given(
     })
 }
 
-/// A reply, as a board has it.
 fn board_reply(reply: Reply) -> OrderOutcome
     ensures { result ≡ board_reply reply }
 {

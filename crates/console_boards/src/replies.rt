@@ -7,7 +7,6 @@ use crate::entry::{AnsweredOrder, BoardEntry, OrderOutcome};
 use alarm_bank::{Annunciator, BankEvent};
 use alarm_machine::{Change, OrderFault, Verb};
 
-/// The number of a refusal.
 fn fault_number(fault: OrderFault) -> u8
     ensures { result ≡ fault_number fault }
 {
@@ -62,7 +61,6 @@ fn is_outside(reply: OrderOutcome) -> bool
     }
 }
 
-/// Whether an event is a scan.
 fn is_scan(event: &BankEvent) -> bool
     ensures { result ≡ is_scan event.now }
 {

@@ -38,7 +38,6 @@ fn count(tallies: &mut [Tally], console: u32)
     }
 }
 
-/// Counts one more entry.
 #[tactic(auto, using(crate::proofs::Takes::none_more, crate::proofs::Takes::none_by_reload))]
 pub(crate) fn count_entry(tallies: &mut Vec<Tally>, entry: &BoardEntry)
     requires { All (λ t. t.orders + 1 < 2 ^ 64) tallies.old.items }
@@ -50,7 +49,6 @@ pub(crate) fn count_entry(tallies: &mut Vec<Tally>, entry: &BoardEntry)
     }
 }
 
-/// 1 for a reload, else 0.
 pub(crate) fn reloads_as(entry: &BoardEntry) -> u64
     ensures { result ≡ reloads_as entry.now }
 {

@@ -43,7 +43,6 @@ impl Sight {
         (sight, ())
     }
 
-    /// Ends the look, if there is one.
     pub(crate) fn end(&mut self)
         ensures knows { KnowsAs self.old self.new }
         ensures over { looked_at self.new ≡ None }

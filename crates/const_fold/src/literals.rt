@@ -34,7 +34,6 @@ fn literal_of(kind: Option<Kind>, outcome: Result<i64, Trap>) -> Option<Literal>
     }
 }
 
-/// The literal for an operator on a literal.
 fn unary_literal(op: Unary, a: Literal) -> Option<Literal>
     ensures { result ≡ unary_literal op a }
 {

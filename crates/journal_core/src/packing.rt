@@ -79,7 +79,6 @@ pub(crate) fn apart_word(place: usize) -> u64
     FIRST_APART + place as u64
 }
 
-/// What a word stands for.
 pub(crate) fn unpacked(word: u64) -> KeptRow
     ensures { result ≡ unpacked word }
 {

@@ -24,7 +24,6 @@ use slice_store::{Done, Job, Parts, Start, Store};
 use std::alloc::{AllocError, Global};
 use std::sync::Arc;
 
-/// Has a crew run jobs, each once.
 fn run_jobs<C: Crew<Job, Start, Done, H>, H>(
     rt: &H,
     alloc: Global,

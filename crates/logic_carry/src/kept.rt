@@ -10,7 +10,6 @@ use logic_source::BlockRef;
 use plant_types::{Bounds, Kind};
 use std::alloc::{AllocError, Global};
 
-/// Whether two kinds are one.
 fn same_kind(a: Kind, b: Kind) -> bool
     ensures { result ≡ same_kind a b }
 {

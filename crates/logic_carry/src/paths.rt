@@ -7,7 +7,6 @@ ghost use Rattle.logic_carry.specs.Paths.{AreNumbered, Grows, path_key};
 use std::alloc::AllocError;
 use std::collections::HashMap;
 
-/// The key of a path in a table.
 fn path_key(parent: usize, word: usize) -> u128
     ensures { result ≡ path_key parent word }
 {

@@ -69,7 +69,6 @@ fn resolve_kinded(
     }
 }
 
-/// Resolves an expression.
 fn resolve_expr(
     alloc: Global,
     scope: &RoutineNames<'_>,
@@ -81,7 +80,6 @@ fn resolve_expr(
     Ok(expr)
 }
 
-/// Resolves an expression, if there is one.
 fn resolve_option(
     alloc: Global,
     scope: &RoutineNames<'_>,
@@ -112,7 +110,6 @@ fn resolve_range(
     Ok((from, to, resolve_option(alloc, scope, by)?))
 }
 
-/// Resolves an argument of a call of an instance.
 fn resolve_argument(
     alloc: Global,
     scope: &RoutineNames<'_>,
@@ -251,7 +248,6 @@ fn resolve_stmt(
     }
 }
 
-/// Resolves the branches of an IF, in their order.
 #[cycle(resolve)]
 fn resolve_branches(
     alloc: Global,

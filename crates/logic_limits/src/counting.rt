@@ -13,7 +13,6 @@ use crate::weighing::{Scale, weigh_body};
 use logic_source::{BlockRef, Logic, Routine, Row};
 use std::alloc::{AllocError, Global};
 
-/// The slots of an instance of a block.
 fn slots_of(table: &[Counts], block: BlockRef) -> u64
     ensures { result ≡ instance_slots (slots_at table.now) block }
 {

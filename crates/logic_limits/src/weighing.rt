@@ -48,7 +48,6 @@ fn weigh_called(scale: &Scale<'_>, name: &Text) -> u64
     }
 }
 
-/// What an expression weighs.
 fn weigh_expr(last: u64, expr: &Expr<Text>) -> u64
     ensures { result ≡ min (expr_cost (view_expr expr.now)) last }
 {
@@ -64,7 +63,6 @@ fn weigh_expr(last: u64, expr: &Expr<Text>) -> u64
     }
 }
 
-/// What the arguments of a call weigh.
 fn weigh_arguments(last: u64, arguments: &[Argument<Text>]) -> u64
     ensures { result ≡ min (arguments_cost (map view_argument arguments.now)) last }
 {
@@ -79,7 +77,6 @@ fn weigh_arguments(last: u64, arguments: &[Argument<Text>]) -> u64
     total
 }
 
-/// What the tests of an IF weigh.
 fn weigh_tests(last: u64, branches: &[Branch<Text>]) -> u64
     ensures { result ≡ min (tests_cost (view_branches branches.now)) last }
 {
@@ -132,7 +129,6 @@ pub fn weigh_body(scale: &Scale<'_>, body: &[Stmt<Text>]) -> u64
     total
 }
 
-/// What a statement weighs.
 #[cycle(weigh)]
 #[tactic(auto, using(crate::proofs::Capping::repeated, crate::proofs::Capping::joined_on))]
 fn weigh_stmt(scale: &Scale<'_>, stmt: &Stmt<Text>) -> u64

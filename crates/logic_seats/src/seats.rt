@@ -40,7 +40,6 @@ fn plus(a: Extent, b: Extent) -> Extent
     }
 }
 
-/// What an instance of a block has.
 fn extent_by(table: &[Callee], block: BlockRef) -> Extent
     ensures { result ≡ extent_by table.now block }
 {

@@ -51,14 +51,12 @@ pub fn area_number(areas: &TextSet, name: &str) -> Option<usize>
     areas.number(name)
 }
 
-/// Whether a kind is BOOL.
 fn is_bool(kind: Kind) -> bool
     ensures { result ≡ is_bool kind }
 {
     matches!(kind, Kind::Bool)
 }
 
-/// Whether the global of a number is BOOL.
 fn is_bool_at(globals: &[Variable], number: usize) -> bool
     ensures { result ≡ is_bool_at globals.now number }
 {

@@ -42,7 +42,6 @@ fn are_longer(sources: &[(&str, &[u8])], most: usize) -> bool
     false
 }
 
-/// Whether the texts are too long.
 fn is_too_long(handed: &Handed<'_>) -> bool
     ensures { result ≡ is_too_long handed.now }
 {

@@ -14,7 +14,6 @@ use plant_file::{ListedConsole, PlantFile};
 use plant_types::Items;
 use std::alloc::{AllocError, Global};
 
-/// Whether an area is among these.
 fn is_among(areas: &[usize], area: usize) -> bool
     ensures { result ≡ list_any (λ a. a == area) areas.now }
 {

@@ -78,7 +78,6 @@ impl Model for Plant {
     ghost invariant = { λ p. IsPlant (record { source = p.logic; areas = p.file.areas; consoles = p.file.consoles; alarms = p.alarms.items; epoch = p.epoch }) × (p.tags ≡ tags_of p.alarms.items) × SayWho p.file.consoles p.orderers.items };
 }
 
-/// A plant of its parts.
 fn assembled(
     file: PlantFile,
     epoch: Epoch,

@@ -39,7 +39,6 @@ impl RowMistakes {
         self.list.as_slice()
     }
 
-    /// Adds a mistake, unless there are 20.
     fn add(&mut self, mistake: RowMistake) -> Result<(), AllocError> {
         if self.list.len() < MOST_MISTAKES {
             self.list.push(mistake)?;
@@ -72,7 +71,6 @@ fn stage_of(fault: RowFault) -> u32 {
     }
 }
 
-/// Adds the mistakes of a stage.
 fn add_stage(
     found: &mut RowMistakes,
     mistakes: &[RowMistake],

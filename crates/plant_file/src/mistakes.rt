@@ -132,7 +132,6 @@ enum Form<'a> {
     Among(Option<&'a TextSet>),
 }
 
-/// Judges the names of keys.
 fn judge_keys(
     alloc: Global,
     table: &Table,

@@ -12,7 +12,6 @@ const VERSION: &str = "0.1.0";
 /// The greatest number of workers.
 pub const MOST_WORKERS: u32 = 64;
 
-/// The argument PLANT.
 fn plant<'a>(alloc: Global) -> Arg<'a>
     ensures rule { rule_of result ≡ plant }
     ensures local { result.global ≡ false }

@@ -82,7 +82,6 @@ fn given(word: &[u8]) -> Option<Given>
     Some(Given::Whole(n))
 }
 
-/// The bytes of a name as a text.
 fn name_text(name: &[u8]) -> &str
     requires { is_name name.now ≡ true }
     ensures { result.now ≡ name.now }

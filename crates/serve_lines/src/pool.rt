@@ -53,7 +53,6 @@ fn fill(pair: &mut Pair, name: &str, given: Given) -> Result<(), AllocError>
     Ok(())
 }
 
-/// Whether a pair has a name.
 fn has_name(pair: &Pair, name: &[u8]) -> bool
     ensures { result ≡ true → pair.now.name ≡ name.now }
 {

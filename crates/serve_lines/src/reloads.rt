@@ -41,7 +41,6 @@ impl Model for SourceSizes {
 }
 
 impl SourceSizes {
-    /// No sizes.
     fn new() -> SourceSizes
         ensures { result ≡ [] }
     {
@@ -76,7 +75,6 @@ impl SourceSizes {
         self.total += size as usize;
     }
 
-    /// The sizes as a slice.
     fn as_slice(&self) -> &[u32]
         ensures { result.now ≡ self.now }
     {

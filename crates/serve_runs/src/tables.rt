@@ -19,7 +19,6 @@ const LEVELS: usize = 5;
 /// How wide the column of the longest delays is.
 const DELAYS: usize = 10;
 
-/// The level of a program.
 fn level_of(plant: &Plant, levelled: &Levelled, program: u32) -> u32
     requires levels { AreLevelsOf plant.now.source levelled.now }
     requires there { program < length (programs_of plant.now) }

@@ -4,7 +4,6 @@
 
 use std::alloc::{AllocError, Global};
 
-/// An entry of a list; 0 where there is none.
 fn entry(list: &[usize], i: usize) -> usize {
     list.get(i).copied().unwrap_or(0)
 }

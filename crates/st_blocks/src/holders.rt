@@ -35,7 +35,6 @@ fn any_above(components: &[usize], own: usize, row: &[usize]) -> bool
     false
 }
 
-/// Whether a row has a number of this component.
 fn any_within(components: &[usize], own: usize, row: &[usize]) -> bool
     ensures { result ≡ list_any (λ w. nat_eq (get_or components.now w 0) own) row.now }
 {

@@ -8,7 +8,6 @@ ghost use Rattle.st_blocks.specs.Ranks.{ranked};
 
 use std::alloc::{AllocError, Global};
 
-/// Whether a row has a marked number.
 fn any_marked(marks: &[bool], row: &[usize]) -> bool
     ensures { result ≡ list_any (λ w. get_or marks.now w false) row.now }
 {

@@ -64,7 +64,6 @@ fn is_first<'a>(names: &IndexMap<Word<'a>, usize>, blocks: &[Block<'a>], a: usiz
     }
 }
 
-/// The numbers of words.
 fn numbers_of<'a>(
     alloc: Global,
     names: &IndexMap<Word<'a>, usize>,

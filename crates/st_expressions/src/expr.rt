@@ -236,7 +236,6 @@ fn indexed(
     Ok((element_of(alloc, word, index)?, depth + 1))
 }
 
-/// The element of an array by its index.
 fn element_of(alloc: Global, name: Text, index: Expr<Text>) -> Result<Expr<Text>, AllocError>
     ensures { IfOk result (λ e. view_expr e ≡ element name unknown_bounds (view_expr index)) }
 {

@@ -60,14 +60,12 @@ fn is_external(section: SectionKind) -> bool
     matches!(section, SectionKind::External)
 }
 
-/// Whether a region is that of inputs.
 fn is_input(region: Option<Region>) -> bool
     ensures { result ≡ is_input region }
 {
     matches!(region, Some(Region::Input))
 }
 
-/// Whether what is declared may control a FOR.
 fn can_control(declared: Option<&Declared<'_>>) -> bool
     ensures { result ≡ can_control (option_copied declared.entry) }
 {

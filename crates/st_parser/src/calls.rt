@@ -11,7 +11,6 @@ use st_lexer::Symbol;
 use st_tree::Argument;
 use std::alloc::Global;
 
-/// Parses an argument.
 #[tactic(auto, unfolding(crate::specs::ReadingStatements::argument_at, crate::specs::ReadingStatements::argued_at))]
 fn argument(alloc: Global, reader: &mut Reader) -> Result<Argument<Text>, ParseStop>
     ensures { Returns (λ a. (view_argument a, reader.new)) result (argument_at reader.old) }

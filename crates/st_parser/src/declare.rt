@@ -28,7 +28,6 @@ fn next_kind(reader: &Reader) -> Option<Kind>
     }
 }
 
-/// Parses a kind.
 fn kind(reader: &mut Reader) -> Result<Kind, ParseStop>
     ensures { Returns (λ kind. (kind, reader.new)) result (table_at kind_of_word reader.old) }
 {
@@ -103,7 +102,6 @@ fn simple_sort(alloc: Global, reader: &mut Reader) -> Result<Sort, ParseStop>
     }
 }
 
-/// Parses an address.
 fn address(reader: &mut Reader) -> Result<Region, ParseStop>
     ensures { Returns (λ region. (region, reader.new)) result (address_at reader.old) }
 {
@@ -221,7 +219,6 @@ fn declaration(alloc: Global, reader: &mut Reader) -> Result<Declaration, ParseS
     declared(alloc, name, reader)
 }
 
-/// Parses a declaration of globals.
 #[tactic(auto, unfolding(crate::specs::ReadingUnits::global_at))]
 fn global(alloc: Global, reader: &mut Reader) -> Result<Declaration, ParseStop>
     ensures { Returns (λ d. (view_declaration d, reader.new)) result (global_at reader.old) }

@@ -66,7 +66,6 @@ fn range_end(reader: &mut Reader) -> Result<Option<i64>, ParseStop>
     }
 }
 
-/// Parses a label.
 #[tactic(auto, unfolding(crate::specs::ReadingStatements::label_at))]
 fn label(reader: &mut Reader) -> Result<Label, ParseStop>
     ensures { Returns (λ label. (label, reader.new)) result (label_at reader.old) }

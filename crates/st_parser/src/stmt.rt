@@ -215,7 +215,6 @@ fn if_statement(alloc: Global, deeper: u32, reader: &mut Reader) -> Result<Stmt<
     Ok(Stmt::If(0, branches, last))
 }
 
-/// Parses the branches of an `IF`.
 #[cycle(stmt)]
 #[tactic(auto, unfolding(crate::specs::ReadingStatements::branches_at))]
 fn branches(alloc: Global, deeper: u32, reader: &mut Reader) -> Result<Vec<Branch<Text>>, ParseStop>

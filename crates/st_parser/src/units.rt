@@ -148,7 +148,6 @@ impl Phrase for AnyPou {
     }
 }
 
-/// Parses a unit.
 #[tactic(auto, unfolding(crate::specs::ReadingUnits::unit_at))]
 fn unit(alloc: Global, reader: &mut Reader) -> Result<Unit, ParseStop>
     ensures { Returns (λ unit. (view_unit unit, reader.new)) result (unit_at reader.old) }

@@ -92,7 +92,6 @@ fn mapped_bounds<V, W: Drop, P: Pass<V, W>>(
     }
 }
 
-/// The FOR of these parts.
 fn for_of<W>(number: u32, variable: W, bounds: Bounds<W>, body: Vec<Stmt<W>>) -> Stmt<W>
     ensures { view_stmt result
         ≡ for_to number variable (view_expr bounds.0) (view_expr bounds.1) (view_option bounds.2)

@@ -68,7 +68,6 @@ fn is_kind(kind: Kind, found: Option<Kind>) -> bool
     }
 }
 
-/// Whether an expression is of a kind.
 fn is_of<S: Scope>(scope: &S, kind: Kind, expr: &Expr<Text>) -> bool
     ensures { result
         ≡ is_of (context_of (S.units scope.now) (S.own scope.now)) kind (view_expr expr.now) }
@@ -117,7 +116,6 @@ fn argument_fits<S: Scope>(scope: &S, instance: &Text, argument: &Argument<Text>
     }
 }
 
-/// Whether each argument of a call fits.
 fn arguments_fit<S: Scope>(scope: &S, instance: &Text, arguments: &[Argument<Text>]) -> bool
     ensures { result
         ≡ list_all (argument_fits (context_of (S.units scope.now) (S.own scope.now)) instance.now)
@@ -131,7 +129,6 @@ fn arguments_fit<S: Scope>(scope: &S, instance: &Text, arguments: &[Argument<Tex
     true
 }
 
-/// Whether each test of an IF is BOOL.
 fn tests_fit<S: Scope>(scope: &S, branches: &[Branch<Text>]) -> bool
     ensures { result
         ≡ list_all (is_of (context_of (S.units scope.now) (S.own scope.now)) Kind.Bool)
@@ -262,7 +259,6 @@ fn name_fits<S: Scope>(
     }
 }
 
-/// Whether each name of a declaration fits.
 fn declaration_fits<S: Scope>(scope: &S, section: SectionKind, declaration: &Declaration) -> bool
     ensures { result
         ≡ list_all (declared_fits (S.units scope.now) (S.own scope.now))
@@ -278,7 +274,6 @@ fn declaration_fits<S: Scope>(scope: &S, section: SectionKind, declaration: &Dec
     true
 }
 
-/// Whether each declaration of a section fits.
 fn section_fits<S: Scope>(scope: &S, section: &Section) -> bool
     ensures { result
         ≡ list_all (declared_fits (S.units scope.now) (S.own scope.now))
@@ -292,7 +287,6 @@ fn section_fits<S: Scope>(scope: &S, section: &Section) -> bool
     true
 }
 
-/// Whether each declaration of sections fits.
 fn sections_fit<S: Scope>(scope: &S, sections: &[Section]) -> bool
     ensures { result
         ≡ list_all (declared_fits (S.units scope.now) (S.own scope.now))
@@ -306,7 +300,6 @@ fn sections_fit<S: Scope>(scope: &S, sections: &[Section]) -> bool
     true
 }
 
-/// Whether each section is a VAR_GLOBAL.
 fn are_global(sections: &[Section]) -> bool
     ensures { result ≡ list_all is_global (map view_section sections.now) }
 {

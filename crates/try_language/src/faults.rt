@@ -12,7 +12,6 @@ fn cut(words: &str) -> (&str, &str) {
     }
 }
 
-/// A number; 0 for what is none.
 fn number(word: &str) -> usize {
     word.parse::<usize>().unwrap_or(0)
 }
@@ -49,7 +48,6 @@ fn at_place(alloc: Global, words: &str, is_spelling: bool) -> Result<ConfigFault
     Ok(ConfigFault::Grammar { file, line, column })
 }
 
-/// A fault in a unit.
 fn in_unit(alloc: Global, rule: &str, words: &str) -> Result<ConfigFault, AllocError> {
     let (file, unit) = cut(words);
     let file = Text::from_str(alloc, file)?;

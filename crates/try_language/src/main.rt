@@ -51,7 +51,6 @@ use std::io;
 use std::io::Write;
 use std::thread::Threads;
 
-/// What a table is answered.
 fn answered<H: Threads + Sync>(rt: &H, alloc: Global, table: &str) -> Result<Vec<u8>, AllocError> {
     let (sources, plants) = table.split_once("\n== plants\n").unwrap_or((table, ""));
     let mut text = answers_to(rt, alloc, sources, false)?;

@@ -118,7 +118,6 @@ impl<'a> Rows<'a> {
         self.is_open = true;
     }
 
-    /// Begins a file.
     fn begin_file(&mut self, alloc: Global, name: &str) {
         match File::new(alloc, name) {
             Ok(file) => {
@@ -198,7 +197,6 @@ impl<'a> Rows<'a> {
         }
     }
 
-    /// Takes a line.
     fn take<H: Threads + Sync>(&mut self, rt: &H, alloc: Global, line: &'a str) {
         match (self.is_open, self.is_told) {
             (true, true) => self.plant_line(alloc, line),

@@ -72,7 +72,6 @@ fn push_tree(alloc: Global, page: &mut Page, wanted: Wanted, text: &[u8], tokens
     }
 }
 
-/// Adds what is wanted of a text's tokens.
 fn push_lexed(alloc: Global, page: &mut Page, wanted: Wanted, text: &[u8], tokens: &[Token]) {
     match wanted {
         Wanted::Tokens => push_tokens(alloc, page, tokens),
@@ -84,7 +83,6 @@ fn push_lexed(alloc: Global, page: &mut Page, wanted: Wanted, text: &[u8], token
     }
 }
 
-/// Adds what is wanted of a text.
 fn push_text(alloc: Global, page: &mut Page, wanted: Wanted, text: &[u8]) {
     match lex(alloc, text) {
         Ok(tokens) => push_lexed(alloc, page, wanted, text, tokens.as_slice()),

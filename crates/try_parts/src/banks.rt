@@ -69,7 +69,6 @@ fn reload_of(alloc: Global, word: &str) -> Result<BankEvent, AllocError> {
     Ok(BankEvent::Reload(Items::from_vec(news)))
 }
 
-/// The event of a word.
 fn event_of(alloc: Global, word: &str) -> Result<BankEvent, AllocError> {
     if let Some(reload) = word.strip_prefix("reload/") {
         return reload_of(alloc, reload);

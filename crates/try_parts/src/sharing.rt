@@ -47,7 +47,6 @@ fn scan_of(
     })
 }
 
-/// The code of each alarm.
 fn codes_of(alloc: Global, bank: &Bank) -> Result<Vec<Code>, AllocError> {
     let mut codes = Vec::new(alloc);
     for alarm in bank.alarms() {
@@ -79,7 +78,6 @@ fn are_listed(before: &[Code], bank: &Bank, listed: &[(u32, Change)]) -> bool {
     rest.is_empty()
 }
 
-/// Whether two alarms are the same.
 fn same_alarm(one: &Alarm, other: &Alarm) -> bool {
     one.state().code().text() == other.state().code().text()
         && one.end().unwrap_or(0) == other.end().unwrap_or(0)

@@ -90,7 +90,6 @@ pub fn push_truths(page: &mut Page) {
     push_value(page, Value::of_kind(Kind::Bool, 0));
 }
 
-/// A text's copy.
 fn copied(alloc: Global, word: &str) -> Result<Text, AllocError> {
     Text::from_str(alloc, word)?.copy(alloc)
 }

@@ -102,7 +102,6 @@ fn push_row<R: Files + Threads + Wait + Sync, C: Crew<Job, Start, Done, R>>(
     }
 }
 
-/// The answer to a line.
 fn row<R: Files + Threads + Wait + Sync, C: Crew<Job, Start, Done, R>>(
     rt: &R,
     alloc: Global,

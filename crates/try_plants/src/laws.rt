@@ -33,7 +33,6 @@ use vm_logic::{
     written_cell,
 };
 
-/// Calls the laws of alarms.
 fn laws_of_alarms() {
     code_changes_are_reported();
     codes_print_differently();
@@ -42,7 +41,6 @@ fn laws_of_alarms() {
     repeated_scan_changes_nothing();
 }
 
-/// Calls the laws of sources.
 fn laws_of_sources() {
     one_answer();
     one_cut();
@@ -54,7 +52,6 @@ fn laws_of_sources() {
     control_values_count_to_bound();
 }
 
-/// Calls the laws of plants.
 fn laws_of_plants() {
     spelled_or_stopped();
     st_sources::one_answer();
@@ -69,7 +66,6 @@ fn laws_of_plants() {
     out_text_is_one();
 }
 
-/// Calls the laws of runs.
 fn laws_of_runs() {
     as_many_cells();
     cell_of_global();
@@ -83,7 +79,6 @@ fn laws_of_runs() {
     global_is_in_range();
 }
 
-/// Calls the laws of logic.
 fn laws_of_logic() {
     answered_by_rule::<usize>();
     order_is_of_source();
@@ -114,7 +109,6 @@ fn laws_of_logic() {
     logic_source::global_is_in_range();
 }
 
-/// Calls the laws of frames.
 fn laws_of_frames() {
     block_type_counts();
     called_clock();

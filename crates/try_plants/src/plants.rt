@@ -63,7 +63,6 @@ impl Plan<'_> {
     }
 }
 
-/// The file of some lines.
 fn file_of(alloc: Global, name: &str, lines: &str) -> Result<File, AllocError> {
     let mut file = File::new(alloc, name)?;
     for line in lines.lines() {

@@ -18,7 +18,6 @@ use std::thread::Threads;
 use try_text::{Page, push_line};
 use try_twins::Walker;
 
-/// Adds a line to commands.
 fn add_command(page: &mut Page, commands: &mut Vec<u8>, line: &str) {
     if push_line(commands, line).is_err() {
         page.refuse();
@@ -95,7 +94,6 @@ fn is_own(line: &str) -> bool {
     )
 }
 
-/// Takes a line of the table's own.
 fn take_own<H: Threads + Wait + Sync, C: Crew<Job, Start, Done, H>>(
     rt: &H,
     alloc: Global,
@@ -118,7 +116,6 @@ fn take_own<H: Threads + Wait + Sync, C: Crew<Job, Start, Done, H>>(
     }
 }
 
-/// Takes a line of a run.
 fn take<H: Threads + Wait + Sync, C: Crew<Job, Start, Done, H>>(
     rt: &H,
     alloc: Global,
@@ -152,7 +149,6 @@ fn take<H: Threads + Wait + Sync, C: Crew<Job, Start, Done, H>>(
     take_own(rt, alloc, engine, crew, beside, page, line);
 }
 
-/// Takes the lines of a run.
 fn take_all<H: Threads + Wait + Sync, C: Crew<Job, Start, Done, H>>(
     rt: &H,
     alloc: Global,
@@ -243,7 +239,6 @@ fn push_read<H: Threads + Wait + Sync, C: Crew<Job, Start, Done, H>>(
     }
 }
 
-/// Adds what a plan asks for.
 fn push_plan<H: Threads + Wait + Sync, C: Crew<Job, Start, Done, H>>(
     rt: &H,
     alloc: Global,
@@ -263,7 +258,6 @@ fn push_plan<H: Threads + Wait + Sync, C: Crew<Job, Start, Done, H>>(
     }
 }
 
-/// What a plan asks for.
 fn page_of<H: Threads + Wait + Sync, C: Crew<Job, Start, Done, H>>(
     rt: &H,
     alloc: Global,

@@ -135,7 +135,6 @@ fn served<H: Threads + Wait + Sync, C: Crew<Job, Start, Done, H>>(
     })
 }
 
-/// An engine of a plant's copy.
 fn engine_of(alloc: Global, plant: &Plant) -> Result<Engine, AllocError> {
     Engine::new(alloc, plant.copy(alloc)?)
 }

@@ -82,7 +82,6 @@ impl<'a> Rows<'a> {
         self.script = Page::new(alloc);
     }
 
-    /// Begins a plant.
     fn plant(&mut self, alloc: Global, line: &str) {
         if !put_first(alloc, &mut self.files) {
             self.page.refuse();
@@ -136,7 +135,6 @@ impl<'a> Rows<'a> {
         }
     }
 
-    /// Takes a line.
     fn take<H: Threads + Wait + Sync>(
         &mut self,
         rt: &H,

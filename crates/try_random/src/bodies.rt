@@ -105,7 +105,6 @@ fn targets(kind: Kind) -> &'static [&'static str] {
     }
 }
 
-/// The arrays, by kind.
 fn rows(kind: Kind) -> &'static [Row] {
     match kind {
         Kind::Bool => BOOL_ROWS,
@@ -148,7 +147,6 @@ impl Writer<'_> {
         }
     }
 
-    /// A kind.
     fn kind(&mut self) -> Kind {
         self.dice.pick(
             &[Kind::Bool, Kind::Dint, Kind::Dint, Kind::Time],
@@ -339,7 +337,6 @@ impl Writer<'_> {
         self.text.add("(");
     }
 
-    /// Writes a call.
     fn call(&mut self) {
         let called = self.routine.called;
         match called.first() {
@@ -437,7 +434,6 @@ impl Writer<'_> {
         }
     }
 
-    /// Writes the next piece.
     fn write(&mut self, piece: Piece) {
         match piece {
             Piece::Words(words) => self.text.add(words),
@@ -450,7 +446,6 @@ impl Writer<'_> {
         }
     }
 
-    /// Writes all that waits.
     fn write_all(&mut self) {
         for _ in 0..MOST {
             match self.pieces.pop() {
@@ -488,7 +483,6 @@ fn groups_of_blocks(dice: &mut Dice) -> Groups {
     }
 }
 
-/// The groups of a program.
 fn groups_of_program(dice: &mut Dice) -> Groups {
     Groups {
         read: dice.pick(GROUPS, ""),

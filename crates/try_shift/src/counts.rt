@@ -34,7 +34,6 @@ pub(crate) fn rank(verb: Verb) -> u8
     }
 }
 
-/// Whether an order is among those that are counted.
 fn is_among(orders: Orders, console: u32, verb: Verb, refused: Option<OrderFault>) -> bool
     ensures { result ≡ is_among orders console verb refused }
 {
@@ -46,7 +45,6 @@ fn is_among(orders: Orders, console: u32, verb: Verb, refused: Option<OrderFault
     }
 }
 
-/// Whether an entry is an order that is counted.
 fn is_counted(orders: Orders, entry: &Entry) -> bool
     ensures { result ≡ is_counted orders entry.now }
 {

@@ -53,7 +53,6 @@ fn look_for_reloads(console: &mut Console) -> Option<u32>
     Some(view.reloads())
 }
 
-/// Asks a console.
 #[tactic(auto, using(crate::proofs::Seats::same_link))]
 fn ask_one(console: &mut Console, asked: Asked) -> Told
     ensures { SameConsole console.old.link console.new.link }

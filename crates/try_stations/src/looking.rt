@@ -20,7 +20,6 @@ fn push_shown(page: &mut Page, events: u64, state: Option<engine::AlarmState>) {
     }
 }
 
-/// Adds an answer.
 fn push_answer(page: &mut Page, engine: &Engine, answer: Answer<Order, Reply>) {
     page.add("ANSWER");
     push_order(page, engine, answer.order);

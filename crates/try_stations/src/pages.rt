@@ -39,7 +39,6 @@ pub fn push_page<L: Ledger, R: Wait>(
     }
 }
 
-/// The lines of an engine's journal.
 fn journal_of(alloc: Global, engine: &Engine) -> Result<Vec<String>, AllocError> {
     let rows = engine.journal().len();
     let mut lines = Vec::new(alloc);

@@ -48,7 +48,6 @@ fn new_standing<H: Threads + Wait + Clone + Send + Drop + 'static>(
     }
 }
 
-/// Whether a crew gives these runs of jobs.
 fn gives<H, C: Crew<Job, Start, Done, H>>(
     rt: &H,
     alloc: Global,

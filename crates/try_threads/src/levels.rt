@@ -7,7 +7,6 @@ use std::test::Fail;
 /// No global.
 const NONE: Extent = Extent { first: 0, count: 0 };
 
-/// One global.
 fn global(number: u32) -> Extent {
     Extent {
         first: number,
@@ -15,7 +14,6 @@ fn global(number: u32) -> Extent {
     }
 }
 
-/// Those of a list that have globals.
 fn some_of(alloc: Global, extents: &[Extent]) -> Result<Vec<Extent>, AllocError> {
     let mut some = Vec::new(alloc);
     for extent in extents {

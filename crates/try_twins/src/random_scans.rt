@@ -91,7 +91,6 @@ fn outcome_of(framed: &Framed, state: &State, ends: &[End], ended: &[Ended]) -> 
     }
 }
 
-/// Makes a scan.
 fn scan(
     alloc: Global,
     framed: &Framed,

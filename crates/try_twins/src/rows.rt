@@ -22,7 +22,6 @@ struct Handed<'a> {
     words: &'a str,
 }
 
-/// The level of the program of a number, from 0.
 fn level_of(framed: &Framed, levelled: &Levelled, program: usize) -> u32
     requires levels { AreLevelsOf framed.now levelled.now }
     requires there { program < length framed.now.programs }

@@ -110,7 +110,6 @@ fn entered_lines(table: &[Count], seats: &[Seat], instance: usize) -> u32
     }
 }
 
-/// The instructions of a call.
 fn call_lines(
     table: &[Count],
     seats: &[Seat],

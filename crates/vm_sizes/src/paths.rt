@@ -19,7 +19,6 @@ fn paths_at(table: &[Count], k: usize) -> usize
     }
 }
 
-/// The paths below an instance.
 fn paths_below(table: &[Count], seat: &Seat) -> usize
     ensures { (paths : ℕ → List Path) → ((k : ℕ) → capped (length (paths k)) ≡ paths_at table.now k)
         → result ≡ capped (length (paths_below paths seat.now)) }

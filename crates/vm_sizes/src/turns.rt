@@ -51,7 +51,6 @@ pub fn constant_span(from: &Expr<usize>, to: &Expr<usize>, by: &Option<Expr<usiz
     span_from(constant_number(from), constant_number(to), step_number(by))
 }
 
-/// The turns of a span; 0 where there is none.
 fn turns_of(span: Option<Span>) -> u128
     ensures { result ≡ turns_of span }
 {

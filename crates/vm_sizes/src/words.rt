@@ -23,7 +23,6 @@ fn binary_words(right: &Expr<usize>, left: usize, words: usize) -> usize
     }
 }
 
-/// The words of an expression.
 #[tactic(auto, using(crate::proofs::Stopping::binary_stops))]
 fn expr_words(expr: &Expr<usize>) -> usize
     ensures { result ≡ capped (sizes.expr_words (view_expr expr.now)) }
@@ -40,7 +39,6 @@ fn expr_words(expr: &Expr<usize>) -> usize
     }
 }
 
-/// The words of the inputs of a call.
 fn inputs_words(arguments: &[Argument<usize>]) -> usize
     ensures { result ≡ capped (sizes.inputs_words (map view_argument arguments.now)) }
 {
@@ -126,7 +124,6 @@ fn stmt_words(table: &[Count], seats: &[Seat], stmt: &Stmt<usize>) -> usize
     }
 }
 
-/// The words of a body.
 #[cycle(words)]
 pub(crate) fn body_words(table: &[Count], seats: &[Seat], body: &[Stmt<usize>]) -> usize
     ensures { result ≡ capped (sizes.body_words seats.now (words_at table.now) (view_body body.now)) }
@@ -138,7 +135,6 @@ pub(crate) fn body_words(table: &[Count], seats: &[Seat], body: &[Stmt<usize>]) 
     total
 }
 
-/// The words of the branches of an IF.
 #[cycle(words)]
 fn branches_words(table: &[Count], seats: &[Seat], branches: &[Branch<usize>]) -> usize
     ensures { result
@@ -153,7 +149,6 @@ fn branches_words(table: &[Count], seats: &[Seat], branches: &[Branch<usize>]) -
     total
 }
 
-/// The words of the choices of a CASE.
 #[cycle(words)]
 fn choices_words(table: &[Count], seats: &[Seat], choices: &[Choice<usize>]) -> usize
     ensures { result

@@ -15,7 +15,6 @@ use crate::rows::{rows_read, rows_written};
 use acc_vm::{FlatInstr, Row};
 use std::alloc::{AllocError, Global};
 
-/// Whether a number is noted.
 fn is_noted(places: &[u32], numbers: &[u32], number: u32) -> bool
     requires { number < length places.now }
     ensures { IsTrue result ↔ IsNoted places.now numbers.now number }
@@ -44,7 +43,6 @@ fn note(places: &mut [u32], numbers: &mut Vec<u32>, number: u32) -> Result<(), A
     Ok(())
 }
 
-/// Notes a number that may be there.
 fn note_some(
     places: &mut [u32],
     numbers: &mut Vec<u32>,
@@ -77,7 +75,6 @@ fn note_row(places: &mut [u32], numbers: &mut Vec<u32>, row: Row) -> Result<(), 
     Ok(())
 }
 
-/// Whether two rows are the same.
 fn same_row(a: Row, b: Row) -> bool
     ensures { IsTrue result ↔ (a ≡ b) }
 {

@@ -189,7 +189,6 @@ impl Part {
         self.clocks.as_slice()
     }
 
-    /// Cells of nothing.
     fn no_cells(&self) -> Cells {
         let alloc = *self.slots.allocator();
         Cells::new(Vec::new(alloc), Vec::new(alloc))

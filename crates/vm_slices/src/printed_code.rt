@@ -34,7 +34,6 @@ impl PrintedCode {
         Ok(PrintedCode { code, prints })
     }
 
-    /// The code.
     pub(crate) fn code(&self) -> &Code
         ensures { result.now ≡ self.now }
     {
@@ -49,7 +48,6 @@ impl PrintedCode {
         same_prints(&self.prints, &other.prints)
     }
 
-    /// Whether another code is the same.
     pub(crate) fn same(&self, other: &PrintedCode) -> bool
         ensures { IsTrue result ↔ (self.now ≡ other.now) }
     {

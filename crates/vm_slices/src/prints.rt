@@ -238,7 +238,6 @@ pub(crate) fn same_values(a: &[i64], b: &[i64]) -> bool
     same
 }
 
-/// Whether two prints are the same.
 pub(crate) fn same_prints(a: &Prints, b: &Prints) -> bool
     ensures { IsTrue result ↔ HaveSameItems a.now b.now }
 {
@@ -259,7 +258,6 @@ pub(crate) struct Counts {
     cost: u64,
 }
 
-/// The numbers of a code.
 pub(crate) fn counted(code: &Code) -> Counts
     ensures { result ≡ counts_of code.now }
 {

@@ -25,7 +25,6 @@ fn same_timer(a: Timer, b: Timer) -> bool
     }
 }
 
-/// Whether two clocks are the same.
 fn same_clock(a: &Clock, b: &Clock) -> bool
     ensures { IsTrue result ↔ (a.now ≡ b.now) }
 {
