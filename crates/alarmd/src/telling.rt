@@ -3,10 +3,11 @@
 use crate::copies::KeptSources;
 use crate::greeting::greet;
 use crate::missing::why_missing;
+use explain_listing::listing;
 use explain_plant::{Warner, explain_all, warn};
 use explain_statements::statement_table;
 use plant_config::{ConfigFault, Observer, Plant, Unit};
-use serve_runs::{Folder, Listener, PlantTexts, listing};
+use serve_runs::{Folder, Listener, PlantTexts};
 use std::alloc::{AllocError, Global};
 use std::rt::Files;
 

@@ -1,3 +1,2 @@
 pub mod AdmitLaws
-pub mod LevelLaws
 pub mod ServiceLaws

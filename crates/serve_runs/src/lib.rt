@@ -4,17 +4,11 @@
 //! `admit`, `admit_from` and `check_from` tell what is said of a plant alone. `run` and `run_from` say in one clause what came of both. The crate stands above `serve_session`, whose sessions own neither a plant nor an engine,
 //! and gives on all that a program needs to serve: feeds and sinks, folders and listeners, verdicts and faults.
 //!
-//! `listing` says what there is in an accepted plant, as a person reads it: its programs with their costs and levels, its alarms by area, and its consoles.
-//! The text is for people. What it tells is asked of `Plant` and `Levelled` by their own calls; that it is laid out so is tried on examples.
-//!
 //! Layer serve_: it must not know consoles in threads, nor, but for `main`, what people are told.
 #![tactic(auto)]
 
-mod columns;
 mod service;
-mod tables;
 mod verdict;
-mod widths;
 
 pub use base_streams::{Failed, Feed, Reading, Sink, Writing};
 pub use plant_folder::{
@@ -24,5 +18,4 @@ pub use plant_folder::{
 pub use serve_faults::{ServeFault, put_all};
 pub use serve_session::{Session, Step, out_text_is_one, requests_end, serve};
 pub use service::{Ends, RunEnd, run, run_from};
-pub use tables::listing;
 pub use verdict::{admit, admit_from, check_from};

@@ -1,5 +1,5 @@
-use Rattle.serve_runs.proofs.LevelLaws.{level_is_there}
-use Rattle.serve_runs.proofs.tables.level_of.Goals as goal
+use Rattle.explain_listing.proofs.LevelLaws.{level_is_there}
+use Rattle.explain_listing.proofs.tables.level_of.Goals as goal
 
 -- each program has a level
 pub of-requires : goal.of-requires
