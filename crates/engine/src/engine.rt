@@ -282,8 +282,7 @@ impl Engine {
             (record {
               event = Event.Scan ready.old.image.items ready.old.moment;
               effect = ready.old.effect;
-              report
-                  = ready.old.report;
+              report = ready.old.report;
             }) }
         ensures plant { self.new.plant ≡ self.old.plant }
         ensures history { self.new.history

@@ -113,8 +113,7 @@ fn file_with(
           epoch = epoch.now;
           areas = areas.now;
           sources = sources.now;
-          alarms =
-              alarms.now;
+          alarms = alarms.now;
           consoles = consoles;
         }) }
     ensures { IfOk result (λ file. file
@@ -123,8 +122,7 @@ fn file_with(
           epoch = epoch.now;
           areas = areas.now;
           sources = sources.now;
-          alarms =
-              alarms.now;
+          alarms = alarms.now;
           consoles = consoles;
         }) }
 {

@@ -98,16 +98,14 @@ impl Start {
               number = number;
               part = part_of (arc_value parts) number;
               moment = moment;
-              cells =
-                  cells.old;
+              cells = cells.old;
             }) }
         ensures { self.new
             ≡ record {
               number = number;
               part = part_of (arc_value parts) number;
               moment = moment;
-              cells =
-                  cells.old;
+              cells = cells.old;
             } }
     {
         self.number = number;
