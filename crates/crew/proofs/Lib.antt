@@ -1,3 +1,4 @@
 pub mod Same
 pub mod Rising
 pub mod Batches
+pub mod Ticking

@@ -4,7 +4,7 @@ use Rattle.std.specs.Prelude.{slice_get}
 use Rattle.std.proofs.lemmas.Bool.{cases_lt}
 use Rattle.std.proofs.lemmas.List.Elements.{Contains-append_left, Contains-append_right, Contains-append_cases}
 use Rattle.std.proofs.lemmas.Option.{slice_get-get_or, slice_get_within, get_or_from_slice_get, same_Some}
-use Rattle.std.proofs.lemmas.List.{length-replicate}
+use Rattle.std.proofs.lemmas.List.{length-replicate, get_or_default}
 use Rattle.crew.specs.Runs.{AreNumbered, IsDistinct}
 use Rattle.logic_cells.specs.Cells.{PlainCells}
 use Rattle.vm_slices.specs.Parts.{PlainPart}
@@ -13,7 +13,6 @@ use Rattle.slice_store.specs.Starts.{Begun, no_part, part_of}
 use Rattle.slice_store.specs.Level.{Stored, AreJobsOf, IsReady}
 use Rattle.slice_store.specs.Splits.{CanSplit, IsChosen, IsJobBefore, AreJobsBefore, begun}
 use Rattle.slice_store.proofs.Taking.{one}
-use Rattle.slice_store.proofs.Ticks.{read_any}
 
 -- the part of a program's number
 pub part_there : (parts : List PlainPart) (p : ℕ) → p < length parts → slice_get parts p ≡ Some (part_of parts (p + 1))
@@ -119,8 +118,8 @@ jobs_numbered cells programs moment jobs h i j d lt inside e =
     let s : Begun = slice_index_or jobs i d in
     let t : Begun = slice_index_or jobs j d in
     let before : i < length jobs = omega (arith, lt, inside) in
-    let at : slice_index_or jobs i s ≡ s = read_any jobs i s d before in
-    let there : slice_index_or jobs j t ≡ t = read_any jobs j t d inside in
+    let at : slice_index_or jobs i s ≡ s = get_or_default jobs i s d before in
+    let there : slice_index_or jobs j t ≡ t = get_or_default jobs j t d inside in
     let same : t ≡ s = h.one_program t s (j, inside, there) (i, before, at) (sym e) in
     let P : Begun → Type 0 = λ u. slice_index_or jobs j u ≡ u in
     let again : i ≡ j = h.distinct i j s before inside at (subst P same there) in

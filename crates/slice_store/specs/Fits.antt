@@ -1,7 +1,7 @@
 -- How a gather ends.
 use Rattle.std.specs.Prelude.{List}
 use Rattle.slice_store.specs.Starts.{Begun}
-use Rattle.slice_store.specs.Level.{HasStranger, HasDouble, LacksOne}
+use Rattle.crew.specs.Ticks.{HasStranger, HasDouble, LacksOne}
 use Rattle.slice_store.specs.declared.misfit.Misfit.{Misfit}
 use Rattle.slice_store.specs.declared.misfit.Misfit.TheVariants.{Stranger, Double, Missing}
 

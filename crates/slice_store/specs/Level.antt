@@ -83,21 +83,6 @@ pub record AreRunsFrom (store : Stored) (runs : List Begun) : Type 0 where
   pub begin : AreJobsOf store.cells (length store.faulted) store.moment jobs
   pub each_once : IsEachOnce jobs runs
 
-abbrev pub HasStranger : List Begun → List Begun → Type 0
-HasStranger out runs = (s : Begun) × Contains runs s × (Contains out s → ⊥)
-
-abbrev pub HasDouble : List Begun → Type 0
-HasDouble runs = (s : Begun) × (i : ℕ) × (j : ℕ) × (i < j) × (j < length runs) × (slice_index_or runs i s ≡ s) × (slice_index_or runs j s ≡ s)
-
-abbrev pub LacksOne : List Begun → List Begun → Type 0
-LacksOne out runs = (s : Begun) × Contains out s × (Contains runs s → ⊥)
-
--- a start is ticked where a run of it has come, and no run has come twice
-pub record IsTicked (out : List Begun) (ticks : List Bool) (runs : List Begun) : Type 0 where
-  pub came : (i : ℕ) → i < length out → slice_index_or ticks i false ≡ true → (s : Begun) → slice_index_or out i s ≡ s → Contains runs s
-  pub ticked : (s : Begun) → Contains runs s → (i : ℕ) → i < length out → slice_index_or out i s ≡ s → slice_index_or ticks i false ≡ true
-  pub once : IsDistinct runs
-
 -- the jobs that are out are of these cells, and there is a place to tick each off
 pub record IsReady (cells : PlainCells) (faulted : List Bool) (moment : ℕ) (out : List Begun) (ticks : List Bool) : Type 0 where
   pub jobs : AreJobsOf cells (length faulted) moment out

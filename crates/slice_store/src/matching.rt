@@ -4,7 +4,7 @@ ghost use Rattle.std.specs.Prelude.{◌≡◌, ℕ, ◌<◌, length, slice_index
 ghost use Rattle.std.specs.Arc.{arc_value};
 ghost use Rattle.crew.specs.Runs.{IsEachOnce, IsDistinct};
 ghost use Rattle.slice_store.specs.Starts.{Begun};
-ghost use Rattle.slice_store.specs.Level.{HasStranger, HasDouble, IsTicked};
+ghost use Rattle.crew.specs.Ticks.{HasStranger, HasDouble, IsTicked};
 ghost use Rattle.slice_store.specs.Fits.{IsMisfit};
 
 use crate::done::Done;
@@ -70,6 +70,7 @@ fn all_known(out: &[Out], runs: &[Done]) -> bool
 }
 
 /// Ticks off each run. Where all are known, it answers whether none comes twice.
+#[tactic(auto, using(crate::proofs::Ticks::tick_next, crew::proofs::Ticking::none_ticked))]
 fn tick_off(out: &[Out], runs: &[Done], ticks: &mut [bool]) -> bool
     requires sized { length ticks.old ≡ length out.now }
     requires clear { (i : ℕ) → i < length ticks.old → slice_index_or ticks.old i false ≡ false }

@@ -1,20 +1,8 @@
--- How runs that came back compare with what was handed out. Both are lists of what jobs start from.
-use Rattle.std.specs.Prelude.{◌≡◌, ◌⊎◌, ℕ, ◌<◌, Bool, true, false, List, length, slice_index_or, Contains, Option, Some, None, Result, Ok, Err}
-use Rattle.crew.specs.Runs.{IsDistinct}
+-- How a crew of workers that stand judges the runs that came back. They and what was handed out are lists of what jobs start from.
+use Rattle.std.specs.Prelude.{◌⊎◌, Bool, List, Option, Some, None, Result, Ok, Err}
+use Rattle.crew.specs.Ticks.{HasStranger, HasDouble, LacksOne, IsTicked}
 use Rattle.crew.specs.declared.fault.CrewFault.{CrewFault}
 use Rattle.crew.specs.declared.fault.CrewFault.TheVariants.{Memory, NoThread, Lost, Misfit}
-
--- a run came back of no job that was handed out
-abbrev pub HasStranger : {S : Type 0} → List S → List S → Type 0
-HasStranger {S} starts runs = (s : S) × Contains runs s × (Contains starts s → ⊥)
-
--- two runs of one job came back
-abbrev pub HasDouble : {S : Type 0} → List S → Type 0
-HasDouble {S} runs = (s : S) × (i : ℕ) × (j : ℕ) × (i < j) × (j < length runs) × (slice_index_or runs i s ≡ s) × (slice_index_or runs j s ≡ s)
-
--- of a job that was handed out no run came back
-abbrev pub LacksOne : {S : Type 0} → List S → List S → Type 0
-LacksOne {S} starts runs = (s : S) × Contains starts s × (Contains runs s → ⊥)
 
 -- why runs are refused: a stranger or a double is a misfit; where there is neither, a run that is missing is lost
 abbrev pub IsCollectFault : {S : Type 0} → List S → List S → CrewFault → Type 0
@@ -30,14 +18,6 @@ IsLost (Err Memory) = ⊥
 IsLost (Err NoThread) = ⊥
 IsLost (Err Lost) = Unit {0}
 IsLost (Err Misfit) = ⊥
-
--- each run is of a job that was handed out, its job is ticked off and no other, and none came twice
-pub record IsTicked {S : Type 0} (starts : List S) (ticks : List Bool) (runs : List S) : Type 0 where
-  pub sized : length ticks ≡ length starts
-  pub known : (s : S) → Contains runs s → Contains starts s
-  pub came : (i : ℕ) → i < length starts → slice_index_or ticks i false ≡ true → (s : S) → slice_index_or starts i s ≡ s → Contains runs s
-  pub ticked : (s : S) → Contains runs s → (i : ℕ) → i < length starts → slice_index_or starts i s ≡ s → slice_index_or ticks i false ≡ true
-  pub once : IsDistinct runs
 
 -- no fault, unless memory was refused
 abbrev pub IsMemoryOrNone : Option CrewFault → Type 0

@@ -1,14 +1,15 @@
 //! Ticks for what was handed out, and runs that came back held against it.
 ghost use Rattle.std.specs.Prelude.{◌≡◌, ◌⊎◌, ℕ, ◌<◌, ◌≤◌, [], true, false, length, map, take, slice_index_or, Contains, IfOk, IsTrue, IsFalse, MatchOption, MatchResult};
 ghost use Rattle.crew.specs.Runs.{IsDistinct, IsEachOnce};
-ghost use Rattle.standing_crew.specs.Assembled.{HasStranger, HasDouble, IsTicked, IsCollectFault};
+ghost use Rattle.crew.specs.Ticks.{HasStranger, HasDouble, IsTicked};
+ghost use Rattle.standing_crew.specs.Assembled.{IsCollectFault};
 
 use crate::Begun;
 use crew::{CrewFault, Work};
 use std::alloc::AllocError;
 
 /// A tick for each job that was handed out, all off, in the room of other ticks.
-#[tactic(auto, using(crate::proofs::Ticks::all_off))]
+#[tactic(auto, using(crew::proofs::Ticking::all_off))]
 pub(crate) fn begin_ticks<S>(starts: &[Begun<S>], ticks: &mut Vec<bool>) -> Result<(), AllocError>
     ensures { IfOk result (λ _. IsTicked starts.now ticks.new.items []) }
 {
@@ -19,7 +20,7 @@ pub(crate) fn begin_ticks<S>(starts: &[Begun<S>], ticks: &mut Vec<bool>) -> Resu
 
 /// Ticks off the runs from a place on, where those before it are ticked off, and tells whether all are known and none comes twice. The first
 /// is sought near the start of a place. What is ticked off is fetched.
-#[tactic(auto, using(crate::proofs::Ticks::tick_next, crate::proofs::Ticks::stranger_next, crate::proofs::Ticks::double_next))]
+#[tactic(auto, using(crew::proofs::Ticking::tick_next, crew::proofs::Ticking::stranger_next, crew::proofs::Ticking::double_next))]
 pub(crate) fn tick_off<J: Work<S, D>, S: Drop, D>(
     starts: &[Begun<S>],
     got: &[D],
@@ -78,7 +79,7 @@ fn place_of<J: Work<S, D>, S, D>(starts: &[Begun<S>], ended: &D) -> Option<usize
 }
 
 /// Whether there is a run of each job, where those that came back are ticked off; else `Lost`.
-#[tactic(auto, using(crate::proofs::Ticks::all_there))]
+#[tactic(auto, using(crew::proofs::Ticking::all_there))]
 pub(crate) fn all_there<J: Work<S, D>, S, D>(
     starts: &[Begun<S>],
     got: &[D],

@@ -1,7 +1,8 @@
 //! The runs of a round, ticked off as they come back.
 ghost use Rattle.std.specs.Prelude.{◌≡◌, ◌≤◌, None, length, map, take, MatchResult};
 ghost use Rattle.crew.specs.Runs.{IsDistinct, IsEachOnce};
-ghost use Rattle.standing_crew.specs.Assembled.{IsCollectFault, IsGathered, IsTicked};
+ghost use Rattle.crew.specs.Ticks.{IsTicked};
+ghost use Rattle.standing_crew.specs.Assembled.{IsCollectFault, IsGathered};
 
 use crate::Begun;
 use crate::assembly::{all_there, begin_ticks, tick_off};

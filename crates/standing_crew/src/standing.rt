@@ -3,7 +3,8 @@ ghost use Rattle.std.specs.Prelude.{◌≡◌, ◌⊎◌, ◌++◌, ◌<◌, ◌
 ghost use Rattle.crew.specs.Faults.{IsMemoryAtMost, faults_after};
 ghost use Rattle.crew.specs.declared.fault.CrewFault.TheVariants.{Memory};
 ghost use Rattle.crew.specs.Runs.{AreNumbered, IsDistinct, IsEachOnce};
-ghost use Rattle.standing_crew.specs.Assembled.{IsGathered, IsLost, IsMemoryOrNone, IsTicked};
+ghost use Rattle.crew.specs.Ticks.{IsTicked};
+ghost use Rattle.standing_crew.specs.Assembled.{IsGathered, IsLost, IsMemoryOrNone};
 ghost use Rattle.standing_crew.specs.Standings.{lost_after, IsAsBefore, IsByItself, IsNew, IsRefused, IsRunFault, IsStartFault};
 
 use crate::assembly::begin_ticks;

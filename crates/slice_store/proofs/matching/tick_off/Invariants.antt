@@ -1,5 +1,5 @@
 use Rattle.std.proofs.Common.{take}
-use Rattle.slice_store.specs.Level.{IsTicked}
+use Rattle.crew.specs.Ticks.{IsTicked}
 use Rattle.slice_store.proofs.matching.tick_off.Given as goal
 
 abbrev pub invariant-loop-done : goal.invariant-loop-done

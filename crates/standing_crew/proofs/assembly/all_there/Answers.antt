@@ -1,6 +1,6 @@
 use Rattle.std.proofs.Common.{map, refl, arith}
 use Rattle.std.proofs.lemmas.Grind.{common_steps}
-use Rattle.standing_crew.proofs.Ticks.{no_stranger, no_double, lacks_there}
+use Rattle.crew.proofs.Ticking.{no_stranger, no_double, lacks_there}
 use Rattle.standing_crew.proofs.assembly.all_there.Goals as goal
 
 pub returns-then-not-all_ticked : goal.returns-then-not-all_ticked

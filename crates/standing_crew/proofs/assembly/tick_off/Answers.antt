@@ -1,6 +1,6 @@
 use Rattle.std.proofs.Common.{rules, ◌≡◌, ◌<◌, length, Contains, slice_index_or, true, false, inl, inr, arith}
 use Rattle.std.proofs.lemmas.Grind.{common_steps}
-use Rattle.standing_crew.proofs.Ticks.{stranger_next, double_next, tick_next}
+use Rattle.crew.proofs.Ticking.{stranger_next, double_next, tick_next}
 use Rattle.standing_crew.proofs.assembly.tick_off.Goals as goal
 
 pub returns-in_default-clause-misfit : goal.returns-in_default-clause-misfit

@@ -1,5 +1,5 @@
 use Rattle.std.proofs.Common.{map, take}
-use Rattle.standing_crew.specs.Assembled.{IsTicked}
+use Rattle.crew.specs.Ticks.{IsTicked}
 use Rattle.standing_crew.proofs.assembly.tick_off.Given as goal
 
 abbrev pub invariant-loop-at : goal.invariant-loop-at

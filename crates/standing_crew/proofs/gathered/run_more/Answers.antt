@@ -1,6 +1,6 @@
 use Rattle.std.proofs.Common.{◌≡◌, ◌∙◌, ℕ, ap, length, map, take, sym, subst, arith}
 use Rattle.std.proofs.lemmas.Grind.{common_steps}
-use Rattle.standing_crew.specs.Assembled.{IsTicked}
+use Rattle.crew.specs.Ticks.{IsTicked}
 use Rattle.standing_crew.proofs.gathered.run_more.Goals as goal
 
 pub tick_rest-requires-clause-ticked : goal.tick_rest-requires-clause-ticked
