@@ -1,5 +1,5 @@
 -- What the emission of a routine's code knows, and what it appends.
-use Rattle.std.specs.Prelude.{◌≡◌, ◌≤◌, ◌+◌, ◌^◌, ℕ, List, [], ◌∷◌, ◌++◌, length, Option}
+use Rattle.std.specs.Prelude.{◌≡◌, ◌<◌, ◌≤◌, ◌+◌, ◌^◌, ℕ, true, List, [], ◌∷◌, ◌++◌, length, Option}
 use Rattle.plant_types.specs.declared.values.Bounds.{Bounds}
 use Rattle.plant_types.specs.declared.values.Place.{Place}
 use Rattle.st_tree.specs.declared.tree.Binary.{Binary}
@@ -15,6 +15,7 @@ use Rattle.acc_vm.specs.declared.instr.Instr.TheVariants as instr
 use Rattle.vm_sizes.specs.declared.counts.Count.{Count}
 use Rattle.vm_sizes.specs.Sizes.{inputs_lines, outputs_lines, entered, stmt_lines, body_lines, frame_lines, branches_lines, choices_lines}
 use Rattle.vm_sizes.specs.Counts.{lines_at}
+use Rattle.codegen.specs.declared.scope.PlacedFrame.{PlacedFrame}
 use Rattle.codegen.specs.declared.scope.PlacedRoutine.{PlacedRoutine}
 use Rattle.codegen.specs.Codes as codes
 use Rattle.codegen.specs.Codes.{Line, Coder, frame_part, AreSteady}
@@ -43,6 +44,20 @@ named s = there fits fits s.globals (frame_there fits fits s.globals s.frames.no
 -- the code of each of so many first frames
 abbrev pub coders : ℕ → List Frame → ℕ → ℕ → Coder
 coders globals frames limit k = (frame_part globals frames limit k).code
+
+-- a placed frame is one of those whose lines its table has; each base at it and below it stays below 2 ^ 128, each path number below 2 ^ 32, the bounds of each FOR are constant DINTs, and what it names are numbers of 32 bits
+pub record IsPlaced (p : PlacedFrame) : Type 0 where
+  pub there : p.number < p.limit
+  pub lines : AreLines p.frames.now p.limit p.table.now
+  pub bases : HasRoom p.base p.limit
+  pub paths : p.path + length (frame_paths p.frames.now p.limit p.number) ≤ 2 ^ 32
+  pub in_turn : AreInTurn p.frames.now
+  pub steady : AreSteady p.frames.now
+  pub named : frame_there fits fits p.globals p.frames.now p.limit p.number p.base ≡ true
+
+-- the code of a placed frame, from a line's number on
+abbrev pub frame_code : PlacedFrame → ℕ → List Line
+frame_code p = coders p.globals p.frames.now p.limit p.number p.base p.path
 
 -- what stands behind the left operand of an operator, by its right operand and the lines of this
 abbrev pub operator_code : (globals : ℕ) → Base → Place → Binary → PlainExpr ℕ → (right : List Line) → List Line

@@ -5,63 +5,46 @@ ghost use Rattle.std.specs.List.{list_all};
 ghost use Rattle.st_tree.specs.View.{view_argument, view_stmt, view_body, view_branch, view_branches, view_choice, view_choices};
 ghost use Rattle.st_tree.specs.Mapping.{argument_known, stmt_known, body_known, expr_known, branches_known, choices_known};
 ghost use Rattle.st_tree.specs.Controls.{control_values};
-ghost use Rattle.logic_walk.specs.Frames.{AreInTurn, frame_paths};
-ghost use Rattle.logic_walk.specs.Walks.{HasRoom};
 ghost use Rattle.acc_vm.specs.declared.instr.Instr.TheVariants.{Jump, JumpUnless};
 ghost use Rattle.vm_sizes.specs.Sizes.{for_lines, frame_lines};
-ghost use Rattle.codegen.specs.Codes.{Line, labels_code, for_code, IsSteady, SteadyStmt, SteadyBody, SteadyBranches, SteadyChoices, AreSteady};
+ghost use Rattle.codegen.specs.Codes.{Line, labels_code, for_code, IsSteady, SteadyStmt, SteadyBody, SteadyBranches, SteadyChoices};
 ghost use Rattle.codegen.specs.Emission as code;
-ghost use Rattle.codegen.specs.Emission.{AreLines, IsLaid, named, coders, body_long, stmt_long, call_long, enter_long, branches_long, choices_long};
-ghost use Rattle.codegen.specs.Within.{fits, frame_there};
+ghost use Rattle.codegen.specs.Emission.{IsPlaced, IsLaid, named, frame_code, body_long, stmt_long, call_long, enter_long, branches_long, choices_long};
 
 use crate::arguments::{emit_inputs, emit_outputs, emit_standard};
 use crate::expressions::{emit_expr, emit_store};
 use crate::lines::{emit, emit_labels};
 use crate::numbers::{base_of, left_of, slot_of};
-use crate::scope::PlacedRoutine;
+use crate::scope::{PlacedFrame, PlacedRoutine};
 use acc_vm::Instr;
-use logic_walk::{Base, Frame, SeatOf};
+use logic_walk::SeatOf;
 use plant_types::Place;
 use st_tree::{Argument, Branch, Choice, Span, Stmt, count_turns};
 use std::alloc::AllocError;
 use vm_sizes::{
-    Count, body_lines, branches_lines, choices_lines, constant_span, expr_lines, inputs_lines,
-    stmt_lines,
+    body_lines, branches_lines, choices_lines, constant_span, expr_lines, inputs_lines, stmt_lines,
 };
 
-/// Appends the code of the frame of a number among so many first ones, at a base and a path, from a line's number on.
+/// Appends the code of a frame, from a line's number on.
 #[cycle(code)]
 pub(crate) fn emit_frame(
-    frames: &[Frame],
-    table: &[Count],
-    limit: usize,
-    k: usize,
-    globals: usize,
-    base: Base,
-    path: u32,
-    pc: u32,
+    placed: &PlacedFrame<'_>,
     out: &mut Vec<(Instr, Place)>,
+    pc: u32,
 ) -> Result<(), AllocError>
-    requires there { k < limit }
-    requires lines { AreLines frames.now limit table.now }
-    requires bases { HasRoom base limit }
-    requires paths { path + length (frame_paths frames.now limit k) ≤ 2 ^ 32 }
-    requires in_turn { AreInTurn frames.now }
-    requires steady { AreSteady frames.now }
-    requires named { frame_there fits fits globals frames.now limit k base ≡ true }
-    requires long { pc + frame_lines frames.now limit k < 2 ^ 32 }
-    ensures { IfOk result (λ _. out.new.items
-        ≡ out.old.items ++ coders globals frames.now limit k base path pc) }
+    requires placed { IsPlaced placed.now }
+    requires long { pc + frame_lines placed.now.frames.now placed.now.limit placed.now.number < 2 ^ 32 }
+    ensures { IfOk result (λ _. out.new.items ≡ out.old.items ++ frame_code placed.now pc) }
 {
-    let frame = &frames[k];
+    let frame = &placed.frames[placed.number];
     let scope = PlacedRoutine {
-        frames,
-        table: &table[..k],
-        limit: k,
+        frames: placed.frames,
+        table: &placed.table[..placed.number],
+        limit: placed.number,
         seats: &frame.seats,
-        globals,
-        base,
-        path,
+        globals: placed.globals,
+        base: placed.base,
+        path: placed.path,
     };
     emit_body(&scope, out, &frame.body, pc)
 }
@@ -227,17 +210,16 @@ fn emit_enter(
                 if !seat.is_called || k >= scope.limit {
                     return Ok(());
                 }
-                emit_frame(
-                    scope.frames,
-                    scope.table,
-                    scope.limit,
-                    k,
-                    scope.globals,
-                    base_of(scope.base, seat),
-                    scope.path + seat.paths,
-                    pc,
-                    out,
-                )
+                let placed = PlacedFrame {
+                    frames: scope.frames,
+                    table: scope.table,
+                    limit: scope.limit,
+                    number: k,
+                    globals: scope.globals,
+                    base: base_of(scope.base, seat),
+                    path: scope.path + seat.paths,
+                };
+                emit_frame(&placed, out, pc)
             }
         },
         None => Ok(()),

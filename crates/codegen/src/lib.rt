@@ -24,3 +24,4 @@ mod scope;
 
 pub use laws::frame_code_is_as_long;
 pub use program::compile_counted;
+pub use scope::PlacedProgram;

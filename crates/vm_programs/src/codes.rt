@@ -6,7 +6,7 @@ ghost use Rattle.logic_walk.specs.Frames.{AreInTurn};
 ghost use Rattle.vm_sizes.specs.Sizes.{frame_cost};
 ghost use Rattle.vm_sizes.specs.declared.counts.Count.{Count};
 ghost use Rattle.vm_sizes.specs.Counts.{HasFewLines, AreCounts};
-ghost use Rattle.codegen.specs.Codes.{code_of, AreSteady};
+ghost use Rattle.codegen.specs.Codes.{program_base, code_of, AreSteady};
 ghost use Rattle.codegen.specs.Within.{NamesFit};
 ghost use Rattle.logic_walk.specs.Plain.{view_frame};
 ghost use Rattle.vm_programs.specs.Folded.{folded_frame};
@@ -14,7 +14,7 @@ ghost use Rattle.vm_programs.specs.Codes.{IsCodeOf, AreCodes, AllNamesFit, AreSm
 
 use crate::folding::{fold_frame, fold_frames};
 use acc_vm::Code;
-use codegen::compile_counted;
+use codegen::{PlacedProgram, compile_counted};
 use const_fold::{
     folded_body_costs_at_most, folded_body_does_same, folded_body_weighs_at_most,
     folded_constants_are_literals, folded_names_stay,
@@ -53,25 +53,21 @@ fn code_of(
     alloc: Global,
     folded: &[Frame],
     counts: &FrameCounts,
-    globals: usize,
-    first: usize,
-    values: usize,
-    clocks: usize,
-    cost: u64,
+    program: PlacedProgram,
 ) -> Result<Code, AllocError>
-    requires there { first < length folded.now }
+    requires there { program.first < length folded.now }
     requires counted { AreCounts folded.now counts.now }
     requires in_turn { AreInTurn folded.now }
     requires steady { AreSteady folded.now }
-    requires named { NamesFit globals folded.now first (record { values = values; clocks = clocks }) }
+    requires named { NamesFit program.globals folded.now program.first (program_base program) }
     requires few { HasFewLines folded.now }
-    requires cost { frame_cost folded.now (length folded.now) first ≤ cost }
+    requires cost { frame_cost folded.now (length folded.now) program.first ≤ program.cost }
     ensures runs { IfOk result
-        (IsCodeOf folded.now globals first (record { values = values; clocks = clocks }) cost) }
+        (IsCodeOf folded.now program.globals program.first (program_base program) program.cost) }
     ensures is { IfOk result (λ code. code
-        ≡ code_of globals folded.now first (record { values = values; clocks = clocks }) cost) }
+        ≡ code_of program.globals folded.now program.first (program_base program) program.cost) }
 {
-    let code = compile_counted(alloc, folded, counts, globals, first, values, clocks, cost)?;
+    let code = compile_counted(alloc, folded, counts, program)?;
     Ok(code)
 }
 
@@ -115,9 +111,14 @@ pub fn codes_of(
     for program in programs {
         let n = codes.len();
         push_program(alloc, program, &mut folded, &mut counts)?;
-        let code = code_of(
-            alloc, &folded, &counts, globals, first, values[n], clocks[n], costs[n],
-        )?;
+        let placed = PlacedProgram {
+            globals,
+            first,
+            values: values[n],
+            clocks: clocks[n],
+            cost: costs[n],
+        };
+        let code = code_of(alloc, &folded, &counts, placed)?;
         folded.truncate(first);
         counts.frames.truncate(first);
         codes.push(code)?;

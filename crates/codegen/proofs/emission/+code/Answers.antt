@@ -124,8 +124,21 @@ emit_enter-emit_frame-requires t c =
     let below = numbers_below s.frames.now s.limit c.in-Frame.k c.args.instance s.seats.now seat less c.requires.laid.lines.within c.requires.laid.own at c.in-Frame.is c.if-not-seat.false in
     let entered = entered_long s c.args.instance seat at c.in-Frame.k c.in-Frame.is c.if-not-seat.false in
     let counted = c.requires.laid.lines.lines c.in-Frame.k in
-    let names = known_frame s c.args.instance seat at c.requires.named c.in-Frame.k c.base_of.result c.in-Frame.is c.if-not-seat.false c.base_of.ensures.is in
-    (omega arith, (less, (c.requires.laid.lines, (c.base_of.ensures.room s.limit c.requires.laid.bases, (omega (arith, below.1, c.requires.laid.paths), (c.requires.laid.in_turn, (c.requires.laid.steady, (names, omega (arith, entered, counted, c.requires.long)))))))))
+    let names = known_frame s c.args.instance seat at c.requires.named c.in-Frame.k c.base_of.result c.in-Frame.is c.if-not-seat.false c.base_of.ensures.is in (
+      omega arith,
+      (
+        record {
+          there = less;
+          lines = c.requires.laid.lines;
+          bases = c.base_of.ensures.room s.limit c.requires.laid.bases;
+          paths = omega (arith, below.1, c.requires.laid.paths);
+          in_turn = c.requires.laid.in_turn;
+          steady = c.requires.laid.steady;
+          named = names;
+        },
+        omega (arith, entered, counted, c.requires.long),
+      ),
+    )
 
 pub emit_enter-returns-else-k-scope : goal.emit_enter-returns-else-k-scope
 emit_enter-returns-else-k-scope t c =
@@ -142,41 +155,43 @@ emit_enter-returns-in-None t c =
 
 pub emit_frame-emit_body-requires : goal.emit_frame-emit_body-requires
 emit_frame-emit_body-requires t c =
-    let frames = c.args.frames.now in
-    let inside : c.args.k < length frames = let w = c.requires.lines.within in let h = c.requires.there in omega arith in
-    let less = frame_less frames c.args.limit c.args.k c.index-frames-k.result c.deref-2.result.now c.requires.there inside c.index-frames-k.is c.deref-2.ensures.value in
-    let at = frame_at frames c.args.k c.index-frames-k.result inside c.index-frames-k.is in
-    let all = ap (λ (l : List Path). length l) (paths_is frames c.args.limit c.args.k c.index-frames-k.result c.requires.there at) in
-    let own = ap (λ seats. length (routine_paths (frame_paths frames c.args.k) seats)) c.deref.ensures.value in
-    let front = take c.args.k c.args.table.now in
+    let p = c.args.placed.now in
+    let frames = p.frames.now in
+    let inside : p.number < length frames = let w = c.requires.placed.lines.within in let h = c.requires.placed.there in omega arith in
+    let less = frame_less frames p.limit p.number c.index.result c.deref-2.result.now c.requires.placed.there inside c.index.is c.deref-2.ensures.value in
+    let at = frame_at frames p.number c.index.result inside c.index.is in
+    let all = ap (λ (l : List Path). length l) (paths_is frames p.limit p.number c.index.result c.requires.placed.there at) in
+    let own = ap (λ seats. length (routine_paths (frame_paths frames p.number) seats)) c.deref.ensures.value in
+    let front = take p.number p.table.now in
     let long =
     (λ i. body_lines (c.deref.ensures.value i) (lines_at front) (view_body (c.deref-2.ensures.value i)))
-    ∙ frame_long frames c.args.limit c.args.k c.index-frames-k.result c.requires.there at front (front_lines frames c.args.limit c.args.k c.args.table.now c.requires.there c.requires.lines) in
-    let inner = frame_there fits fits c.args.globals frames c.args.k in
+    ∙ frame_long frames p.limit p.number c.index.result c.requires.placed.there at front (front_lines frames p.limit p.number p.table.now c.requires.placed.there c.requires.placed.lines) in
+    let inner = frame_there fits fits p.globals frames p.number in
     let names =
-    (λ i. body_known (there fits fits c.args.globals inner (c.deref.ensures.value i) c.args.base) (view_body (c.deref-2.ensures.value i)))
-    ∙ ap (λ (f : Base → Bool). f c.args.base) (sym (reached_is fits fits c.args.globals frames c.args.limit c.args.k c.index-frames-k.result c.requires.there at)) ∙ c.requires.named in (
+    (λ i. body_known (there fits fits p.globals inner (c.deref.ensures.value i) p.base) (view_body (c.deref-2.ensures.value i)))
+    ∙ ap (λ (f : Base → Bool). f p.base) (sym (reached_is fits fits p.globals frames p.limit p.number c.index.result c.requires.placed.there at)) ∙ c.requires.placed.named in (
       omega (arith, less),
       (
         record {
-          lines = laid_before frames c.args.limit c.args.k c.args.table.now c.requires.there c.requires.lines;
-          bases = (omega (arith, c.requires.there, c.requires.bases.0), omega (arith, c.requires.there, c.requires.bases.1));
-          paths = omega (arith, all, own, c.requires.paths);
-          own = subst (InTurn (frame_paths frames c.args.k)) (sym c.deref.ensures.value) (c.requires.in_turn c.args.k c.index-frames-k.result at);
-          in_turn = c.requires.in_turn;
-          steady = c.requires.steady;
+          lines = laid_before frames p.limit p.number p.table.now c.requires.placed.there c.requires.placed.lines;
+          bases = (omega (arith, c.requires.placed.there, c.requires.placed.bases.0), omega (arith, c.requires.placed.there, c.requires.placed.bases.1));
+          paths = omega (arith, all, own, c.requires.placed.paths);
+          own = subst (InTurn (frame_paths frames p.number)) (sym c.deref.ensures.value) (c.requires.placed.in_turn p.number c.index.result at);
+          in_turn = c.requires.placed.in_turn;
+          steady = c.requires.placed.steady;
         },
-        (subst (λ x. SteadyBody (view_body x)) (sym c.deref-2.ensures.value) (c.requires.steady c.args.k c.index-frames-k.result at), (names, omega (arith, long, c.requires.long))),
+        (subst (λ x. SteadyBody (view_body x)) (sym c.deref-2.ensures.value) (c.requires.placed.steady p.number c.index.result at), (names, omega (arith, long, c.requires.long))),
       ),
     )
 
 pub emit_frame-returns : goal.emit_frame-returns
 emit_frame-returns t c =
-    let inside : c.args.k < length c.args.frames.now = let w = c.requires.lines.within in let h = c.requires.there in omega arith in
-    let at = frame_at c.args.frames.now c.args.k c.index-frames-k.result inside c.index-frames-k.is in
-    let coded = frame_coded c.args.frames.now c.args.limit c.args.k c.args.table.now c.requires.there c.requires.lines c.args.globals c.index-frames-k.result c.args.base c.args.path c.args.pc at in
+    let p = c.args.placed.now in
+    let inside : p.number < length p.frames.now = let w = c.requires.placed.lines.within in let h = c.requires.placed.there in omega arith in
+    let at = frame_at p.frames.now p.number c.index.result inside c.index.is in
+    let coded = frame_coded p.frames.now p.limit p.number p.table.now c.requires.placed.there c.requires.placed.lines p.globals c.index.result p.base p.path c.args.pc at in
     let same =
-    (λ i. codes.body_code c.args.globals (c.deref.ensures.value i) (lines_at (take c.args.k c.args.table.now)) (coders c.args.globals c.args.frames.now c.args.k) c.args.base c.args.path (view_body (c.deref-2.ensures.value i)) c.args.pc) ∙ coded in
+    (λ i. codes.body_code p.globals (c.deref.ensures.value i) (lines_at (take p.number p.table.now)) (coders p.globals p.frames.now p.number) p.base p.path (view_body (c.deref-2.ensures.value i)) c.args.pc) ∙ coded in
     subst (λ z. IfOk c.emit_body.result (λ x. c.emit_body.new.out.items ≡ c.args.out.now.items ++ z)) same c.emit_body.ensures
 
 pub emit_stmt-emit_branches-requires : goal.emit_stmt-emit_branches-requires

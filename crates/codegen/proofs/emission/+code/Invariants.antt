@@ -25,7 +25,7 @@ invariant-emit_choices-loop-choice l =
 
 -- each call weighs less: a frame calls those before it alone, and a statement has what is inside it
 abbrev pub decreases-emit_frame : goal.decreases-emit_frame
-decreases-emit_frame l = total l.frames.now l.limit
+decreases-emit_frame l = total l.placed.now.frames.now l.placed.now.limit
 
 abbrev pub decreases-emit_enter : goal.decreases-emit_enter
 decreases-emit_enter l = total l.scope.now.frames.now l.scope.now.limit + 1
