@@ -19,7 +19,7 @@ use Rattle.alarm_machine.specs.declared.limits.TheConstants.{LAST_MOMENT}
 use Rattle.engine_history.specs.declared.event.Event.TheVariants as event
 use Rattle.engine_system.specs.Reports.{PlainReport}
 use Rattle.level_scans.specs.Scans.{programs_from}
-use Rattle.level_scans.specs.Runs.{ProgramsRan}
+use Rattle.level_scans.specs.Runs.{ProgramsRanInOrder}
 use Rattle.engine_system.specs.Reloads.{fresh_count, kept_count, kept_numbers}
 use Rattle.engine_system.specs.declared.reloading.ReadyReload.{ReadyReload}
 use Rattle.engine_system.specs.System.{System, after_reload_event, taken_scan, delays_of, outputs_from, outs_from}
@@ -71,7 +71,7 @@ with_cell cells input = assigned cells input.0 (worth input.1)
 
 -- what a scan with an image at moment t leaves and reports
 pub record ScanRan (plant : PlainPlant) (old : PlainState) (image : List (ℕ × Value)) (t : ℕ) (new : PlainState) (r : PlainReport) : Type 0 where
-  pub programs : (w : World) → StandFor plant.source (fold with_cell old.cells image) w → ProgramsRan plant.source (programs_from plant.source t 0 old.faulted w) new.cells new.faulted r.faults
+  pub programs : ProgramsRanInOrder plant.source t (fold with_cell old.cells image) old.faulted new.cells new.faulted r.faults
   pub faults_within : All (λ f. f.0.path < length (paths_of plant.source)) r.faults
   pub sites_are : new.sites ≡ old.sites
   pub watches_are : new.watches ≡ old.watches

@@ -17,7 +17,7 @@ use crate::state::{ScanEffect, State, copy_cells, copy_flags, empty_effect};
 use crate::steps::{list_changed, renew, set_inputs, step_alarms};
 use alarm_bank::Marks;
 use crew::Crew;
-use level_scans::{Levelled, Workspace, run_programs};
+use level_scans::{Levelled, ScanChanged, ScanGiven, Workspace, run_programs};
 use plant_config::Plant;
 use plant_types::{Pair, Value};
 use slice_store::{Done, Job, Start};
@@ -95,6 +95,17 @@ pub struct Before<'a> {
     pub levels: &'a Option<Levelled>,
 }
 
+/// A scan that is taken.
+#[derive(Clone, Copy)]
+struct TakenScan<'a> {
+    /// What it begins from.
+    before: &'a Before<'a>,
+    /// Its image: inputs by number, with their values.
+    image: &'a [(u32, Value)],
+    /// Its moment in milliseconds.
+    moment: u64,
+}
+
 /// A report of nothing, to be written over.
 pub fn empty_report(alloc: Global) -> Report {
     Report {
@@ -128,24 +139,28 @@ fn run_scan<C: Crew<Job, Start, Done, H>, H>(
     rt: &H,
     alloc: Global,
     crew: &mut C,
-    before: &Before<'_>,
+    taken: &TakenScan<'_>,
     room: &mut RunRoom,
-    image: &[(u32, Value)],
-    moment: u64,
     scan: &mut ReadyScan,
 ) -> Result<(), EngineFault>
     requires asked { C.asks }
-    requires ready { IsReady before.now.plant.now before.now.state.now }
-    requires levels { IfSome before.now.levels.now (AreLevelsOf before.now.plant.now.source) }
-    requires later { before.now.state.now.moment ≤ moment }
-    requires range { moment ≤ LAST_MOMENT }
-    requires image { All (FitsGlobal (globals_of before.now.plant.now)) image.now }
+    requires ready { IsReady taken.now.before.now.plant.now taken.now.before.now.state.now }
+    requires levels { IfSome taken.now.before.now.levels.now
+        (AreLevelsOf taken.now.before.now.plant.now.source) }
+    requires later { taken.now.before.now.state.now.moment ≤ taken.now.moment }
+    requires range { taken.now.moment ≤ LAST_MOMENT }
+    requires image { All (FitsGlobal (globals_of taken.now.before.now.plant.now)) taken.now.image.now }
     ensures ok { OnOk result
-        (ScanRan before.now.plant.now before.now.state.now image.now moment
-        (after_effect scan.new.effect before.now.state.now) scan.new.report) }
-    ensures err { IfErr result (λ e. IsDue e (Ok (Scan image.now moment))) }
+        (ScanRan taken.now.before.now.plant.now taken.now.before.now.state.now taken.now.image.now
+        taken.now.moment (after_effect scan.new.effect taken.now.before.now.state.now) scan.new.report) }
+    ensures err { IfErr result (λ e. IsDue e (Ok (Scan taken.now.image.now taken.now.moment))) }
     ensures crew { C.faulted crew.new ≡ faults_by (C.faulted crew.old) result }
 {
+    let TakenScan {
+        before,
+        image,
+        moment,
+    } = *taken;
     let Before {
         plant,
         state: old,
@@ -163,20 +178,18 @@ fn run_scan<C: Crew<Job, Start, Done, H>, H>(
     copy_cells(alloc, &old.cells, cells)?;
     set_inputs(image, cells);
     copy_flags(old.faulted.as_slice(), flags)?;
-    let framed = plant.logic();
-    let space = &mut room.space;
-    run_programs(
-        rt,
-        alloc,
-        crew,
-        framed,
+    let given = ScanGiven {
+        framed: plant.logic(),
         levels,
         moment,
-        space,
+    };
+    let mut changed = ScanChanged {
         cells,
-        flags,
-        &mut report.faults,
-    )?;
+        faulted: flags,
+        faults: &mut report.faults,
+        space: &mut room.space,
+    };
+    run_programs(rt, alloc, crew, &given, &mut changed)?;
     let marks = &mut room.marks;
     let met = &mut effect.met;
     let moved = &mut effect.moved;
@@ -222,17 +235,12 @@ pub fn prepared_scan<C: Crew<Job, Start, Done, H>, H>(
         moment,
     )?;
     let mut scan = spare_scan(alloc, &mut room.spare)?;
-    let image = room.image.as_slice();
-    match run_scan(
-        rt,
-        alloc,
-        crew,
+    let taken = TakenScan {
         before,
-        &mut room.run,
-        image,
+        image: room.image.as_slice(),
         moment,
-        &mut scan,
-    ) {
+    };
+    match run_scan(rt, alloc, crew, &taken, &mut room.run, &mut scan) {
         Ok(()) => {
             scan.moment = moment;
             swap(&mut room.image, &mut scan.image);

@@ -8,7 +8,7 @@ use Rattle.logic_source.specs.Worlds.{World, run_program}
 use Rattle.logic_cells.specs.Cells.{PlainCells}
 use Rattle.logic_frames.specs.Stands.{StandFor}
 use Rattle.vm_logic.specs.Runs.{place_spot}
-use Rattle.level_scans.specs.Scans.{Scanned}
+use Rattle.level_scans.specs.Scans.{Scanned, programs_from}
 
 -- what a program does, by its flag: a faulted one is skipped
 abbrev pub run_by : Bool → Source → ℕ → ℕ → World → Ran World
@@ -25,3 +25,7 @@ pub record ProgramsRan (source : Source) (r : Scanned) (cells : PlainCells) (fau
   pub world_stands : StandFor source cells r.world
   pub faulted_is : faulted ≡ r.faulted
   pub faults_are : map (λ f. (place_spot source f.0, f.1)) faults ≡ r.faults
+
+-- what programs make of cells and flags at a moment, and the faults, is what they leave in order in each world that the cells stand for
+abbrev pub ProgramsRanInOrder : Source → ℕ → (cells : PlainCells) (faulted : List Bool) → (left : PlainCells) (flags : List Bool) (faults : List (Place × Trap)) → Type 0
+ProgramsRanInOrder source t cells faulted left flags faults = (w : World) → StandFor source cells w → ProgramsRan source (programs_from source t 0 faulted w) left flags faults

@@ -1,26 +1,22 @@
 //! The programs of a scan, level by level, run by a crew.
 
-ghost use Rattle.std.specs.Prelude.{◌≡◌, ◌<◌, length, map, IfOk, All};
-ghost use Rattle.logic_source.specs.Worlds.{World};
+ghost use Rattle.std.specs.Prelude.{◌≡◌, ◌<◌, length, map, IfOk, OnOk, All};
 ghost use Rattle.logic_source.specs.Paths.{paths_of};
 ghost use Rattle.crew.specs.Faults.{faults_after};
-ghost use Rattle.logic_frames.specs.Stands.{StandFor};
 ghost use Rattle.vm_logic.specs.Runs.{HasCells};
-ghost use Rattle.level_scans.specs.Scans.{programs_from};
-ghost use Rattle.level_scans.specs.Runs.{ProgramsRan};
+ghost use Rattle.level_scans.specs.Runs.{ProgramsRanInOrder};
 ghost use Rattle.level_scans.specs.Levels.{AreLevelsOf};
 ghost use Rattle.level_scans.specs.Faults.{IsOfProgram, placed_fault};
 
-use crate::levels::Levelled;
-use crate::placing::all_placed;
+use crate::given::{LevelsGiven, ScanChanged};
+use crate::placing::list_placed;
 use crew::{Crew, CrewFault};
 use level_jobs::{ProgramFault, run_levels};
 use logic_cells::Cells;
-use plant_types::{Place, Trap};
 use slice_store::{Done, Job, Reserve, Start, Store};
 use std::alloc::{AllocError, Global};
 use std::mem::replace;
-use vm_logic::{Framed, place_is_in_source, programs_share_no_cell, sound_source_is_small};
+use vm_logic::{place_is_in_source, programs_share_no_cell, sound_source_is_small};
 
 /// Runs the programs level by level by a crew, and tells the faults by their programs' own paths. Its jobs take the memory of earlier
 /// ones, and the store that of the cells and flags.
@@ -28,80 +24,79 @@ fn run_in_levels<C: Crew<Job, Start, Done, H>, H>(
     rt: &H,
     alloc: Global,
     crew: &mut C,
-    framed: &Framed,
-    levelled: &Levelled,
-    moment: u64,
-    jobs: &mut Reserve,
-    cells: &mut Cells,
-    faulted: &mut Vec<bool>,
+    given: &LevelsGiven<'_>,
+    changed: &mut ScanChanged<'_>,
 ) -> Result<Vec<ProgramFault>, CrewFault>
     requires asked { C.asks }
-    requires levels { AreLevelsOf framed.now levelled.now }
-    requires flags { length faulted.old.items ≡ length framed.now.programs }
-    requires cells { HasCells framed.now cells.old }
-    ensures ran { IfOk result (λ faults. (w : World) → StandFor framed.now cells.old w
-        → ProgramsRan framed.now (programs_from framed.now moment 0 faulted.old.items w) cells.new
-        faulted.new.items (map (placed_fault framed.now) faults.items)) }
-    ensures told { IfOk result (λ faults. All (λ fault. IsOfProgram framed.now fault) faults.items) }
+    requires levels { AreLevelsOf given.now.framed.now given.now.levelled.now }
+    requires flags { length changed.old.faulted.now.items ≡ length given.now.framed.now.programs }
+    requires cells { HasCells given.now.framed.now changed.old.cells.now }
+    ensures ran { IfOk result (λ faults. ProgramsRanInOrder given.now.framed.now given.now.moment
+        changed.old.cells.now changed.old.faulted.now.items changed.new.cells.now
+        changed.new.faulted.now.items (map (placed_fault given.now.framed.now) faults.items)) }
+    ensures told { IfOk result
+        (λ faults. All (λ fault. IsOfProgram given.now.framed.now fault) faults.items) }
     ensures faults { C.faulted crew.new ≡ faults_after (C.faulted crew.old) result }
+    ensures same_cells { changed.new.cells.ghost_name ≡ changed.old.cells.ghost_name }
+    ensures same_faulted { changed.new.faulted.ghost_name ≡ changed.old.faulted.ghost_name }
+    ensures same_faults { changed.new.faults.ghost_name ≡ changed.old.faults.ghost_name }
+    ensures same_space { changed.new.space.ghost_name ≡ changed.old.space.ghost_name }
 {
     sound_source_is_small();
     programs_share_no_cell();
     place_is_in_source();
-    let _programs = framed.programs();
-    let all = replace(cells, Cells::new(Vec::new(alloc), Vec::new(alloc)));
-    let flags = replace(faulted, Vec::new(alloc));
-    let mut store = Store::of(alloc, all, flags, moment);
-    store.lend(replace(jobs, Reserve::new(alloc)));
-    let parts = levelled.parts();
-    match run_levels(rt, alloc, crew, parts, levelled.levels(), &mut store) {
+    let _programs = given.framed.programs();
+    let all = replace(changed.cells, Cells::new(Vec::new(alloc), Vec::new(alloc)));
+    let flags = replace(changed.faulted, Vec::new(alloc));
+    let mut store = Store::of(alloc, all, flags, given.moment);
+    store.lend(replace(&mut changed.space.jobs, Reserve::new(alloc)));
+    let parts = given.levelled.parts();
+    match run_levels(rt, alloc, crew, parts, given.levelled.levels(), &mut store) {
         Ok(faults) => {
-            *jobs = store.take_back(alloc);
+            changed.space.jobs = store.take_back(alloc);
             let (left, flags) = store.into_parts();
-            *cells = left;
-            *faulted = flags;
+            *changed.cells = left;
+            *changed.faulted = flags;
             Ok(faults)
         }
         Err(fault) => {
-            *jobs = store.take_back(alloc);
+            changed.space.jobs = store.take_back(alloc);
             Err(fault)
         }
     }
 }
 
-/// Runs the programs level by level, the jobs of each level by a crew, and returns the faults in program order. Cells, flags and faults are
-/// those of the programs one after another: one that is faulted doesn't run, and one that traps is faulted from then on. The moment is that of
-/// the scan, in milliseconds. Jobs take the memory of earlier ones, and leave theirs for later ones.
+/// Runs the programs level by level, the jobs of each level by a crew, and lists the faults in place of those listed before. Cells, flags and faults
+/// are those of the programs one after another: one that is faulted doesn't run, and one that traps is faulted from then on. Jobs take the memory
+/// of earlier ones, and leave theirs for later ones.
 ///
 /// Fails as the crew does, with `Memory` where memory was refused; then neither the cells nor the flags are of use.
 pub fn run_by_crew<C: Crew<Job, Start, Done, H>, H>(
     rt: &H,
     alloc: Global,
     crew: &mut C,
-    framed: &Framed,
-    levelled: &Levelled,
-    moment: u64,
-    jobs: &mut Reserve,
-    cells: &mut Cells,
-    faulted: &mut Vec<bool>,
-) -> Result<Vec<(Place, Trap)>, CrewFault>
+    given: &LevelsGiven<'_>,
+    changed: &mut ScanChanged<'_>,
+) -> Result<(), CrewFault>
     requires asked { C.asks }
-    requires levels { AreLevelsOf framed.now levelled.now }
-    requires flags { length faulted.old.items ≡ length framed.now.programs }
-    requires cells { HasCells framed.now cells.old }
-    ensures ran { IfOk result (λ faults. (w : World) → StandFor framed.now cells.old w
-        → ProgramsRan framed.now (programs_from framed.now moment 0 faulted.old.items w) cells.new
-        faulted.new.items faults.items) }
-    ensures within { IfOk result (λ faults. All (λ f. f.0.path < length (paths_of framed.now))
-        faults.items) }
+    requires levels { AreLevelsOf given.now.framed.now given.now.levelled.now }
+    requires flags { length changed.old.faulted.now.items ≡ length given.now.framed.now.programs }
+    requires cells { HasCells given.now.framed.now changed.old.cells.now }
+    ensures ran { OnOk result (ProgramsRanInOrder given.now.framed.now given.now.moment
+        changed.old.cells.now changed.old.faulted.now.items changed.new.cells.now
+        changed.new.faulted.now.items changed.new.faults.now.items) }
+    ensures within { OnOk result
+        (All (λ f. f.0.path < length (paths_of given.now.framed.now)) changed.new.faults.now.items) }
     ensures faults { C.faulted crew.new ≡ faults_after (C.faulted crew.old) result }
+    ensures same_cells { changed.new.cells.ghost_name ≡ changed.old.cells.ghost_name }
+    ensures same_faulted { changed.new.faulted.ghost_name ≡ changed.old.faulted.ghost_name }
+    ensures same_faults { changed.new.faults.ghost_name ≡ changed.old.faults.ghost_name }
+    ensures same_space { changed.new.space.ghost_name ≡ changed.old.space.ghost_name }
 {
     place_is_in_source();
-    let told = run_in_levels(
-        rt, alloc, crew, framed, levelled, moment, jobs, cells, faulted,
-    )?;
-    let Ok(faults) = all_placed(alloc, framed, told.as_slice()) else {
-        return Err(CrewFault::Memory);
-    };
-    Ok(faults)
+    let told = run_in_levels(rt, alloc, crew, given, changed)?;
+    match list_placed(given.framed, told.as_slice(), changed.faults) {
+        Ok(()) => Ok(()),
+        Err(_) => Err(CrewFault::Memory),
+    }
 }

@@ -5,67 +5,67 @@ ghost use Rattle.logic_source.specs.Worlds.{World};
 ghost use Rattle.logic_source.specs.Paths.{paths_of};
 ghost use Rattle.logic_frames.specs.Stands.{StandFor};
 ghost use Rattle.vm_logic.specs.Runs.{Agree, HasCells};
-ghost use Rattle.level_scans.specs.Scans.{programs_from};
-ghost use Rattle.level_scans.specs.Runs.{run_by, ended_by, ProgramsRan};
+ghost use Rattle.level_scans.specs.Runs.{run_by, ended_by, ProgramsRanInOrder};
 
+use crate::given::{ScanChanged, ScanGiven};
 use logic_cells::Cells;
 use plant_types::{Place, Trap};
 use std::alloc::AllocError;
-use vm_logic::{Framed, Stack, Walked, run, sound_source_is_small};
+use vm_logic::{Stack, Walked, run, sound_source_is_small};
 
 /// Runs the program of a number, from 0, unless it is faulted, and returns its fault. What it assigned before a fault is kept.
 fn run_program(
-    framed: &Framed,
+    given: &ScanGiven<'_>,
     program: u32,
-    moment: u64,
     stack: &mut Stack,
     cells: &mut Cells,
     is_faulted: bool,
 ) -> Result<Option<(Place, Trap)>, AllocError>
-    requires there { program < length framed.now.programs }
-    requires cells { HasCells framed.now cells.old }
-    ensures cells { HasCells framed.now cells.new }
-    ensures ran { IfOk result (λ fault. (w : World) → StandFor framed.now cells.old w
-        → Agree framed.now (run_by is_faulted framed.now program moment w)
-        (ended_by framed.now fault cells.new)) }
-    ensures within { IfOk result (λ fault. IfSome fault (λ f. f.0.path < length (paths_of framed.now))) }
+    requires there { program < length given.now.framed.now.programs }
+    requires cells { HasCells given.now.framed.now cells.old }
+    ensures cells { HasCells given.now.framed.now cells.new }
+    ensures ran { IfOk result (λ fault. (w : World) → StandFor given.now.framed.now cells.old w
+        → Agree given.now.framed.now
+        (run_by is_faulted given.now.framed.now program given.now.moment w)
+        (ended_by given.now.framed.now fault cells.new)) }
+    ensures within { IfOk result
+        (λ fault. IfSome fault (λ f. f.0.path < length (paths_of given.now.framed.now))) }
 {
     if is_faulted {
         return Ok(None);
     }
-    match run(framed, program, stack, cells, moment)? {
+    match run(given.framed, program, stack, cells, given.moment)? {
         Walked::Done => Ok(None),
         Walked::Trapped(place, trap) => Ok(Some((place, trap))),
     }
 }
 
 /// Runs the programs in order, but for those that are faulted, and lists the faults in place of those listed before. A program that traps is
-/// faulted from then on. The moment is that of the scan, in milliseconds.
+/// faulted from then on.
 ///
 /// Fails if memory is refused.
-pub fn run_in_order(
-    framed: &Framed,
-    moment: u64,
-    stack: &mut Stack,
-    cells: &mut Cells,
-    faulted: &mut Vec<bool>,
-    faults: &mut Vec<(Place, Trap)>,
-) -> Result<(), AllocError>
-    requires flags { length faulted.old.items ≡ length framed.now.programs }
-    requires cells { HasCells framed.now cells.old }
-    ensures ran { OnOk result
-        ((w : World) → StandFor framed.now cells.old w
-        → ProgramsRan framed.now (programs_from framed.now moment 0 faulted.old.items w) cells.new
-        faulted.new.items faults.new.items) }
-    ensures within { OnOk result (All (λ f. f.0.path < length (paths_of framed.now)) faults.new.items) }
+pub fn run_in_order(given: &ScanGiven<'_>, changed: &mut ScanChanged<'_>) -> Result<(), AllocError>
+    requires flags { length changed.old.faulted.now.items ≡ length given.now.framed.now.programs }
+    requires cells { HasCells given.now.framed.now changed.old.cells.now }
+    ensures ran { OnOk result (ProgramsRanInOrder given.now.framed.now given.now.moment
+        changed.old.cells.now changed.old.faulted.now.items changed.new.cells.now
+        changed.new.faulted.now.items changed.new.faults.now.items) }
+    ensures within { OnOk result
+        (All (λ f. f.0.path < length (paths_of given.now.framed.now)) changed.new.faults.now.items) }
+    ensures same_cells { changed.new.cells.ghost_name ≡ changed.old.cells.ghost_name }
+    ensures same_faulted { changed.new.faulted.ghost_name ≡ changed.old.faulted.ghost_name }
+    ensures same_faults { changed.new.faults.ghost_name ≡ changed.old.faults.ghost_name }
+    ensures same_space { changed.new.space.ghost_name ≡ changed.old.space.ghost_name }
 {
     sound_source_is_small();
-    faults.clear();
-    for at in 0..framed.programs().len() {
-        let fault = run_program(framed, at as u32, moment, stack, cells, faulted[at])?;
+    changed.faults.clear();
+    for at in 0..given.framed.programs().len() {
+        let stack = &mut changed.space.stack;
+        let is_faulted = changed.faulted[at];
+        let fault = run_program(given, at as u32, stack, changed.cells, is_faulted)?;
         if let Some(fault) = fault {
-            faulted[at] = true;
-            faults.push(fault)?;
+            changed.faulted[at] = true;
+            changed.faults.push(fault)?;
         }
     }
     Ok(())

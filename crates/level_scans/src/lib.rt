@@ -7,6 +7,7 @@
 #![tactic(auto)]
 
 mod by_crew;
+mod given;
 mod in_order;
 mod levels;
 mod parts;
@@ -15,6 +16,7 @@ mod running;
 mod workspace;
 
 pub use by_crew::run_by_crew;
+pub use given::{LevelsGiven, ScanChanged, ScanGiven};
 pub use in_order::run_in_order;
 pub use levels::Levelled;
 pub use running::{plan_levels, run_programs};

@@ -1,11 +1,11 @@
 //! Faults by the paths of the plant.
 
-ghost use Rattle.std.specs.Prelude.{◌≡◌, map, All, IfOk};
+ghost use Rattle.std.specs.Prelude.{◌≡◌, map, All, OnOk};
 ghost use Rattle.level_scans.specs.Faults.{IsOfProgram, placed_fault};
 
 use level_jobs::ProgramFault;
 use plant_types::{Place, Trap};
-use std::alloc::{AllocError, Global};
+use std::alloc::AllocError;
 use vm_logic::Framed;
 
 /// A fault, with the number that its path has among those of all programs.
@@ -22,18 +22,18 @@ fn placed(framed: &Framed, fault: &ProgramFault) -> (Place, Trap)
     (placed, fault.stop.trap)
 }
 
-/// Faults, with the numbers that their paths have among those of all programs.
-pub fn all_placed(
-    alloc: Global,
+/// Lists faults, with the numbers that their paths have among those of all programs, in place of those listed before.
+pub fn list_placed(
     framed: &Framed,
     faults: &[ProgramFault],
-) -> Result<Vec<(Place, Trap)>, AllocError>
+    all: &mut Vec<(Place, Trap)>,
+) -> Result<(), AllocError>
     requires { All (λ fault. IsOfProgram framed.now fault) faults.now }
-    ensures { IfOk result (λ all. all.items ≡ map (placed_fault framed.now) faults.now) }
+    ensures { OnOk result (all.new.items ≡ map (placed_fault framed.now) faults.now) }
 {
-    let mut all = Vec::with_capacity(alloc, faults.len())?;
+    all.clear();
     for fault in faults {
         all.push(placed(framed, fault))?;
     }
-    Ok(all)
+    Ok(())
 }

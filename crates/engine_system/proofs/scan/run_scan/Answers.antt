@@ -16,10 +16,10 @@ use Rattle.engine_system.proofs.scan.run_scan.Goals as goal
 
 pub returns-clause-ok : goal.returns-clause-ok
 returns-clause-ok g c =
-    let plant = c.args.before.now.plant.now in
-    let old = c.args.before.now.state.now in
+    let plant = c.args.taken.now.before.now.plant.now in
+    let old = c.args.taken.now.before.now.state.now in
     let before = value_at old.cells in
-    let now = value_at c.run_programs.new.cells in
+    let now = value_at c.run_programs.new.changed.cells.now in
     let made = c.in_ok-renew.ensures ∙ ap (map (output_in now)) (c.as_slice-2.ensures.value ∙ ap (λ (k : PlainState). k.outputs) c.old.view_is) in
     let each = each_watched plant.alarms old.watches old.alarms c.requires.ready.watches c.requires.ready.alarms in
     let outputs : c.renew.new.renewed.items ≡ outputs_from 0 plant.source.globals now = outputs_renewed plant.source.globals before now old.outputs c.renew.new.renewed.items c.requires.ready.outputs made in
@@ -27,14 +27,14 @@ returns-clause-ok g c =
     let many = watches_many plant.alarms old.watches c.requires.ready.watches in
     let delays : length old.delays.delays ≡ length old.watches = ap length c.requires.ready.delays ∙ delays_many plant.alarms ∙ sym many in
     let since : length old.delays.since ≡ length old.watches = c.requires.ready.since ∙ sym many in
-    let kept : after_met c.step_alarms.new.met.items c.args.moment c.step_alarms.new.moved.items old.delays ≡ after_conditions (watched_conditions now old.watches) c.args.moment old.delays = c.in_ok-step_alarms.ensures.met in
+    let kept : after_met c.step_alarms.new.met.items c.args.taken.now.moment c.step_alarms.new.moved.items old.delays ≡ after_conditions (watched_conditions now old.watches) c.args.taken.now.moment old.delays = c.in_ok-step_alarms.ensures.met in
     record {
       programs = search rules;
       faults_within = search rules;
       sites_are = search rules;
       watches_are = search rules;
       reloads_are = search rules;
-      follow = rw c.in_ok-step_alarms.ensures.alarms (subst (λ (d : PlainDelays). Follow now old.watches d (alarms_watched now c.args.moment old.watches old.delays old.alarms)) (sym kept) (follow_after now c.args.moment old.watches old.delays old.alarms each delays since));
+      follow = rw c.in_ok-step_alarms.ensures.alarms (subst (λ (d : PlainDelays). Follow now old.watches d (alarms_watched now c.args.taken.now.moment old.watches old.delays old.alarms)) (sym kept) (follow_after now c.args.taken.now.moment old.watches old.delays old.alarms each delays since));
       alarms_are = search rules;
       delays_are = kept;
       changes_are = search rules;
@@ -47,19 +47,19 @@ returns-clause-ok g c =
 
 pub renew-requires : goal.renew-requires
 renew-requires g c =
-    let plant = c.args.before.now.plant.now in
-    let old = c.args.before.now.state.now in
-    let now = value_at c.run_programs.new.cells in
-    let held = scan_stands plant.source old.cells c.run_programs.new.cells c.args.image.now c.args.moment old.faulted c.run_programs.new.faulted.items c.run_programs.new.faults.items c.requires.ready.sound c.requires.image c.requires.ready.values (search rules) in
-    let showable = outputs_showable plant.source.globals (value_at old.cells) now old.outputs (cells_showable plant.source c.run_programs.new.cells held) c.requires.ready.outputs in
+    let plant = c.args.taken.now.before.now.plant.now in
+    let old = c.args.taken.now.before.now.state.now in
+    let now = value_at c.run_programs.new.changed.cells.now in
+    let held = scan_stands plant.source old.cells c.run_programs.new.changed.cells.now c.args.taken.now.image.now c.args.taken.now.moment old.faulted c.run_programs.new.changed.faulted.now.items c.run_programs.new.changed.faults.now.items c.requires.ready.sound c.requires.image c.requires.ready.values (search rules) in
+    let showable = outputs_showable plant.source.globals (value_at old.cells) now old.outputs (cells_showable plant.source c.run_programs.new.changed.cells.now held) c.requires.ready.outputs in
     rw c.as_slice-2.ensures.value (rw (← c.old.view_is) at showable)
 
 pub run_programs-requires-clause-cells : goal.run_programs-requires-clause-cells
 run_programs-requires-clause-cells g c =
-    let plant = c.args.before.now.plant.now in
-    let old = c.args.before.now.state.now in
-    let set : c.set_inputs.new.cells ≡ fold with_cell old.cells c.args.image.now = search rules in
-    rw c.logic-framed.ensures.source (subst (HasCells plant.source) (sym set) (inputs_have_cells plant.source old.cells c.args.image.now c.requires.ready.sound c.requires.image c.requires.ready.values))
+    let plant = c.args.taken.now.before.now.plant.now in
+    let old = c.args.taken.now.before.now.state.now in
+    let set : c.set_inputs.new.cells ≡ fold with_cell old.cells c.args.taken.now.image.now = search rules in
+    rw c.logic-framed.ensures.source (subst (HasCells plant.source) (sym set) (inputs_have_cells plant.source old.cells c.args.taken.now.image.now c.requires.ready.sound c.requires.image c.requires.ready.values))
 
 pub step_alarms-requires-clause-each : goal.step_alarms-requires-clause-each
 step_alarms-requires-clause-each g c = grind (arith, common_steps)
@@ -78,6 +78,6 @@ step_alarms-requires-clause-later g c = let last = c.requires.ready.last in let 
 
 pub step_alarms-requires-clause-delays : goal.step_alarms-requires-clause-delays
 step_alarms-requires-clause-delays g c =
-    let rows = c.args.before.now.plant.now.alarms in
-    let k = c.args.before.now.state.now in
+    let rows = c.args.taken.now.before.now.plant.now.alarms in
+    let k = c.args.taken.now.before.now.state.now in
     ap length c.requires.ready.delays ∙ delays_many rows ∙ sym (watches_many rows k.watches c.requires.ready.watches)

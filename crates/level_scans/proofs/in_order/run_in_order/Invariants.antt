@@ -9,9 +9,13 @@ use Rattle.level_scans.proofs.in_order.run_in_order.Given as goal
 
 abbrev pub invariant-loop-at : goal.invariant-loop-at
 invariant-loop-at l = record {
-  few : l.at-end ≡ length (l.framed.programs);
-  same : length l.faulted.items ≡ l.at-end;
-  cells_there : HasCells l.framed l.cells;
-  within : All (λ f. f.0.path < length (paths_of l.framed)) l.faults.items;
-  reached : (w : World) → StandFor l.framed l.fn.cells w → Reached l.framed l.moment (programs_from l.framed l.moment 0 l.fn.faulted.items w) l.at l.cells l.faulted.items l.faults.items;
+  few : l.at-end ≡ length (l.given.framed.now.programs);
+  same : length l.changed.faulted.now.items ≡ l.at-end;
+  cells_there : HasCells l.given.framed.now l.changed.cells.now;
+  within : All (λ f. f.0.path < length (paths_of l.given.framed.now)) l.changed.faults.now.items;
+  reached : (w : World) → StandFor l.given.framed.now l.fn.changed.cells.now w → Reached l.given.framed.now l.given.moment (programs_from l.given.framed.now l.given.moment 0 l.fn.changed.faulted.now.items w) l.at l.changed.cells.now l.changed.faulted.now.items l.changed.faults.now.items;
+  same_cells : l.changed.cells.ghost_name ≡ l.fn.changed.cells.ghost_name;
+  same_faulted : l.changed.faulted.ghost_name ≡ l.fn.changed.faulted.ghost_name;
+  same_faults : l.changed.faults.ghost_name ≡ l.fn.changed.faults.ghost_name;
+  same_space : l.changed.space.ghost_name ≡ l.fn.changed.space.ghost_name;
 }
