@@ -13,7 +13,7 @@ use Rattle.alarm_machine.specs.Transitions.{on_scan}
 use Rattle.alarm_machine.specs.Alarms.{PlainAlarm, new_alarm, after_scan, end_of, is_settled}
 use Rattle.alarm_bank.specs.declared.rows.Site.{Site}
 use Rattle.alarm_bank.specs.Banks.{PlainBank, scan_each, IsSettled}
-use Rattle.alarm_bank.specs.Moves.{AreMoved, IsMove, IsMoveAt, UnmarkedStay, NoShelfEnds, put_all, changes_from, change_from, changes_by, listed, AddsMove, AreMovesOf}
+use Rattle.alarm_bank.specs.Moves.{AreMoved, IsMove, IsMoveAt, UnmarkedStay, NoShelfEnds, put_all, changes_from, change_from, changes_by, listed, AddsMove, AreMovesOf, MovesOn}
 
 no_alarm : PlainAlarm
 no_alarm = new_alarm false 0
@@ -21,11 +21,6 @@ no_alarm = new_alarm false 0
 -- a scan of the alarms from a place on
 abbrev scan_rest : ℕ → List Bool → List Bool → ℕ → List PlainAlarm → List PlainAlarm
 scan_rest i cs ss t xs = scan_each (drop i cs) (drop i ss) t (drop i xs)
-
--- what the alarms from a place on add to the list of those that a scan moves
-abbrev pub MovesOn : ℕ → List Bool → List Bool → ℕ → List PlainAlarm → List (ℕ × PlainAlarm) → Type 0
-MovesOn i cs ss t xs moved =
-    (rest : List (ℕ × PlainAlarm)) → AreMoved i (drop i xs) (scan_each (drop i cs) (drop i ss) t (drop i xs)) rest → AreMoved 0 xs (scan_each cs ss t xs) (moved ++ rest)
 
 -- none is listed yet
 pub moves_first : (cs ss : List Bool) (t : ℕ) (xs : List PlainAlarm) → MovesOn 0 cs ss t xs []

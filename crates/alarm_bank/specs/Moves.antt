@@ -1,8 +1,10 @@
 -- What a scan moves: the alarms that it leaves otherwise than they were, and the changes of their codes.
-use Rattle.std.specs.Prelude.{◌≡◌, ◌≢◌, ℕ, ◌+◌, ◌<◌, ◌⊎◌, Bool, false, Option, Some, None, Result, Ok, Err, List, [], ◌∷◌, ◌++◌, fold, slice_get, slice_set}
+use Rattle.std.specs.Prelude.{◌≡◌, ◌≢◌, ℕ, ◌+◌, ◌<◌, ◌⊎◌, Bool, false, Option, Some, None, Result, Ok, Err, List, [], ◌∷◌, ◌++◌, drop, fold, slice_get, slice_set}
 use Rattle.alarm_machine.specs.declared.states.OrderFault.{OrderFault}
 use Rattle.alarm_machine.specs.Codes.{PlainChange, code_of, change_between}
 use Rattle.alarm_machine.specs.Alarms.{PlainAlarm, after_scan, end_of}
+use Rattle.alarm_bank.specs.declared.moves.Moves.{Moves}
+use Rattle.alarm_bank.specs.Banks.{scan_each}
 
 -- the alarms that aren't what they were, from a number on, in order, each with what it is now; those that rest are passed over
 abbrev pub AreMoved : ℕ → List PlainAlarm → List PlainAlarm → List (ℕ × PlainAlarm) → Type 0
@@ -75,6 +77,22 @@ abbrev pub AreMovesOf : List PlainAlarm → List PlainAlarm → List (ℕ × Pla
 AreMovesOf old new moved changes = record {
   moved : AreMoved 0 old new moved;
   changes : changes ≡ changes_from 0 old new;
+}
+
+-- what a scan of alarms lists: those that it moves, and the changes of their codes
+abbrev pub AreScanMoves : List Bool → List Bool → ℕ → List PlainAlarm → Moves → Type 0
+AreScanMoves cs ss t alarms moves = AreMovesOf alarms (scan_each cs ss t alarms) moves.moved.items moves.changes.items
+
+-- the alarms before a place that a scan moves: behind them come those from there on
+abbrev pub MovesOn : ℕ → List Bool → List Bool → ℕ → List PlainAlarm → List (ℕ × PlainAlarm) → Type 0
+MovesOn i cs ss t xs moved =
+    (rest : List (ℕ × PlainAlarm)) → AreMoved i (drop i xs) (scan_each (drop i cs) (drop i ss) t (drop i xs)) rest → AreMoved 0 xs (scan_each cs ss t xs) (moved ++ rest)
+
+-- what a scan lists of the alarms before a place
+abbrev pub AreMovesBefore : ℕ → List Bool → List Bool → ℕ → List PlainAlarm → Moves → Type 0
+AreMovesBefore i cs ss t alarms moves = record {
+  moved : MovesOn i cs ss t alarms moves.moved.items;
+  changes : moves.changes.items ≡ changes_by alarms moves.moved.items;
 }
 
 -- the change that an order of the alarm of a number makes which is answered so: none if it is refused, or changes no code

@@ -1,15 +1,16 @@
 //! The alarms of a plant.
 
-ghost use Rattle.std.specs.Prelude.{◌≡◌, ℕ, ◌≤◌, ◌<◌, ◌^◌, List, length, slice_get, IfSome, IfNone, IfOk, OnOk, All, Some, slice_set, slice_index, map, true, false};
+ghost use Rattle.std.specs.Prelude.{◌≡◌, ℕ, ◌≤◌, ◌<◌, ◌+◌, ◌*◌, ◌^◌, List, length, min, slice_get, IfSome, IfNone, IfOk, OnOk, All, Some, slice_set, slice_index, map, true, false};
 ghost use Rattle.std.specs.Option.{option_map};
 ghost use Rattle.alarm_machine.specs.declared.limits.TheConstants.{LAST_MOMENT};
 ghost use Rattle.alarm_machine.specs.Alarms.{PlainAlarm, end_of, EndsInRange};
 ghost use Rattle.alarm_bank.specs.Banks.{IsSite, scan_each, after_event, reply_of, counted, end_or_never, IsNextEnd, NoneShelved, IsSettled};
 ghost use Rattle.alarm_bank.specs.Reloads.{all_fit, bank_reloaded, sites_of};
-ghost use Rattle.alarm_bank.specs.Moves.{AreMoved, AddsMove, AreMovesOf, UnmarkedStay, NoShelfEnds, put_all};
+ghost use Rattle.alarm_bank.specs.Moves.{AreMoved, AddsMove, AreMovesBefore, AreScanMoves, UnmarkedStay, NoShelfEnds, put_all};
 
 use crate::event::BankEvent;
 use crate::marks::{BITS, Marks};
+use crate::moves::Moves;
 use crate::news::{alarms_of, all_fit, sites_of};
 use crate::rows::{Counted, NewAlarm, Site};
 use crate::shelf::Shelf;
@@ -340,21 +341,22 @@ impl Bank {
         }
     }
 
-    /// Adds the alarm of a number to a list as a scan leaves it, unless it rests, and the change of its code to another list, if there is one.
+    /// Lists the alarm of a number as a scan leaves it, unless it rests, and the change of its code, if there is one, behind what is listed.
+    #[inline(always)]
     fn list_move<S: Signals>(
         &self,
         number: u32,
         signals: &S,
         moment: u64,
-        moved: &mut Vec<(u32, Alarm)>,
-        changes: &mut Vec<(u32, Change)>,
+        moves: &mut Moves,
     ) -> Result<(), AllocError>
         requires there { number < length self.now.alarms }
         requires conditions { length (S.conditions signals.now) ≡ length self.now.alarms }
         requires suppressions { length (S.suppressions signals.now) ≡ length self.now.alarms }
         ensures { OnOk result
             (AddsMove number (S.conditions signals.now) (S.suppressions signals.now) moment
-            self.now.alarms moved.old.items moved.new.items changes.old.items changes.new.items) }
+            self.now.alarms moves.old.moved.items moves.new.moved.items moves.old.changes.items
+            moves.new.changes.items) }
     {
         let condition = signals.condition(number);
         let suppression = signals.suppression(number);
@@ -363,9 +365,9 @@ impl Bank {
             return Ok(());
         }
         let change = alarm.scan(condition, suppression, moment);
-        moved.push((number, alarm))?;
+        moves.moved.push((number, alarm))?;
         if let Some(change) = change {
-            changes.push((number, change))?;
+            moves.changes.push((number, change))?;
         }
         Ok(())
     }
@@ -377,20 +379,53 @@ impl Bank {
         &self,
         signals: &S,
         moment: u64,
-        moved: &mut Vec<(u32, Alarm)>,
-        changes: &mut Vec<(u32, Change)>,
+        moves: &mut Moves,
     ) -> Result<(), AllocError>
         requires conditions { length (S.conditions signals.now) ≡ length self.now.alarms }
         requires suppressions { length (S.suppressions signals.now) ≡ length self.now.alarms }
         ensures { OnOk result
-            (AreMovesOf self.now.alarms
-            (scan_each (S.conditions signals.now) (S.suppressions signals.now) moment self.now.alarms)
-            moved.new.items changes.new.items) }
+            (AreScanMoves (S.conditions signals.now) (S.suppressions signals.now) moment self.now.alarms
+            moves.new) }
     {
-        moved.clear();
-        changes.clear();
+        moves.moved.clear();
+        moves.changes.clear();
         for at in 0..self.alarms.len() {
-            self.list_move(at as u32, signals, moment, moved, changes)?;
+            self.list_move(at as u32, signals, moment, moves)?;
+        }
+        Ok(())
+    }
+
+    /// Lists those of the marked alarms of one word of marks that a scan moves, and the changes of their codes, where those of the words before it
+    /// are listed and no shelf ends by the scan's moment.
+    // The bits of the word are taken off one by one, lowest first, which is the shortest way from one mark to the next.
+    #[inline(always)]
+    fn list_word<S: Signals>(
+        &self,
+        marks: &Marks,
+        index: usize,
+        signals: &S,
+        moment: u64,
+        moves: &mut Moves,
+    ) -> Result<(), AllocError>
+        requires marks { length marks.now ≡ length self.now.alarms }
+        requires there { index * 64 ≤ length self.now.alarms }
+        requires later { NoShelfEnds moment self.now.alarms }
+        requires unmarked { UnmarkedStay marks.now (S.conditions signals.now)
+            (S.suppressions signals.now) self.now.alarms }
+        requires conditions { length (S.conditions signals.now) ≡ length self.now.alarms }
+        requires suppressions { length (S.suppressions signals.now) ≡ length self.now.alarms }
+        requires before { AreMovesBefore (index * 64) (S.conditions signals.now)
+            (S.suppressions signals.now) moment self.now.alarms moves.old }
+        ensures { OnOk result
+            (AreMovesBefore (min ((index + 1) * 64) (length self.now.alarms))
+            (S.conditions signals.now) (S.suppressions signals.now) moment self.now.alarms moves.new) }
+    {
+        let words = marks.words();
+        let mut left = words[index];
+        while left != 0 {
+            let at = index * BITS + left.trailing_zeros() as usize;
+            self.list_move(at as u32, signals, moment, moves)?;
+            left &= left - 1;
         }
         Ok(())
     }
@@ -398,7 +433,6 @@ impl Bank {
     /// Lists the alarms that a scan moves, and the changes of their codes, as `list_moved` does. It looks at the marked alarms alone, which lie from
     /// a first place up to before an end, unless a shelf ends by the scan's moment: each of the others has the condition and the suppression that it
     /// had in the last scan.
-    // The bits of a word are taken off one by one, lowest first, which is the shortest way from one mark to the next.
     pub fn list_moved_among<S: Signals>(
         &self,
         marks: &Marks,
@@ -406,8 +440,7 @@ impl Bank {
         end: usize,
         signals: &S,
         moment: u64,
-        moved: &mut Vec<(u32, Alarm)>,
-        changes: &mut Vec<(u32, Change)>,
+        moves: &mut Moves,
     ) -> Result<(), AllocError>
         requires marks { length marks.now ≡ length self.now.alarms }
         requires first { first ≤ length marks.now }
@@ -418,29 +451,23 @@ impl Bank {
         requires conditions { length (S.conditions signals.now) ≡ length self.now.alarms }
         requires suppressions { length (S.suppressions signals.now) ≡ length self.now.alarms }
         ensures { OnOk result
-            (AreMovesOf self.now.alarms
-            (scan_each (S.conditions signals.now) (S.suppressions signals.now) moment self.now.alarms)
-            moved.new.items changes.new.items) }
+            (AreScanMoves (S.conditions signals.now) (S.suppressions signals.now) moment self.now.alarms
+            moves.new) }
     {
         if self.shelf_ends(moment) {
-            return self.list_moved(signals, moment, moved, changes);
+            return self.list_moved(signals, moment, moves);
         }
-        moved.clear();
-        changes.clear();
-        let words = marks.words();
+        moves.moved.clear();
+        moves.changes.clear();
         let end = end.min(self.alarms.len());
         for index in first / BITS..end / BITS + 1 {
-            let mut left = words[index];
-            while left != 0 {
-                let at = index * BITS + left.trailing_zeros() as usize;
-                self.list_move(at as u32, signals, moment, moved, changes)?;
-                left &= left - 1;
-            }
+            self.list_word(marks, index, signals, moment, moves)?;
         }
         Ok(())
     }
 
     /// Puts an alarm in the place of the one of a number. A number that isn't there changes nothing.
+    #[inline(always)]
     fn put_at(&mut self, number: u32, alarm: &Alarm)
         ensures { self.new ≡ record self.old { alarms = slice_set self.old.alarms number alarm.now } }
     {

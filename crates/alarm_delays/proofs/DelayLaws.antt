@@ -115,8 +115,6 @@ after_past false t before r past e = absurd (cc e)
 after_past true t None r past e = let same : t ≡ r = cc e in omega (arith, same)
 after_past true t (Some q) r past e = past r e
 
--- ---- the conditions that count
-
 -- ---- conditions that are taken one after another, where no alarm has a delay
 
 get_index : (xs : List (Option ℕ)) (n r : ℕ) → slice_index_or xs n None ≡ Some r → slice_get xs n ≡ Some (Some r)
@@ -153,6 +151,8 @@ puts_plain delays since last due is_plain met is none = record {
 pub written_back : (many : ℕ) (new old : List (Option ℕ)) → many ≡ length old → length new ≡ length old → take many (new ++ drop (length new) old) ≡ new
 written_back many new old size same =
     ap (λ (l : List (Option ℕ)). take many (new ++ l)) (drop_all (length new) old (omega (arith, same))) ∙ ap (take many) (append-nil new) ∙ take_all many new (omega (arith, size, same))
+
+-- ---- the conditions that count
 
 pub each_within : (cs : List Bool) (t : ℕ) (ds : List ℕ) (rs : List (Option ℕ)) (n : ℕ) → n < length (delayed_each cs t ds rs) → (n < length cs) × (n < length ds) × (n < length rs)
 each_within [] t ds rs n h = absurd (omega arith)

@@ -2,13 +2,13 @@
 
 ghost use Rattle.std.specs.Prelude.{◌≡◌, ◌<◌, ◌≤◌, ◌^◌, ◌+◌, ◌-◌, ℕ, Bool, List, Some, None, Option, true, false, length, map, fold, replicate, slice_get, slice_set, IfOk, OnOk};
 ghost use Rattle.alarm_machine.specs.declared.limits.TheConstants.{LAST_MOMENT};
-ghost use Rattle.alarm_bank.specs.Banks.{scan_each};
-ghost use Rattle.alarm_bank.specs.Moves.{AreMovesOf};
+ghost use Rattle.alarm_bank.specs.Moves.{AreScanMoves};
 ghost use Rattle.alarm_delays.specs.Delays.{AreMet, ConditionsStay, DelaysAgree, Follows, IsFirstMark, FollowsOn, KeptAgree, RawStay, after_conditions, after_met, delayed, delayed_each, delays_reloaded, have_none, kept_since, last_conditions, put_since, since_after};
 
+use crate::listed::Listed;
 use crate::since::Since;
 use alarm_bank::{BITS, Bank, Marks, Shelf, Signals};
-use alarm_machine::{Alarm, Change};
+use alarm_machine::Alarm;
 use std::alloc::{AllocError, Global};
 use std::marker::Model;
 
@@ -280,7 +280,7 @@ impl Delays {
     }
 
     /// Takes the last conditions of alarms, by their numbers, in the scan of the last moment, where no alarm has a delay.
-    fn put_last(&mut self, moved: &[(u32, Alarm)])
+    fn take_moved(&mut self, moved: &[(u32, Alarm)])
         requires { have_none self.old.delays ≡ true }
         ensures { self.new
             ≡ record self.old
@@ -301,7 +301,7 @@ impl Delays {
             self.put_at(*number, *condition);
         }
         if self.is_plain() {
-            self.put_last(moved);
+            self.take_moved(moved);
         }
     }
 
@@ -349,9 +349,7 @@ impl Delays {
         raw: &S,
         moment: u64,
         marks: &mut Marks,
-        met: &mut Vec<(u32, bool)>,
-        moved: &mut Vec<(u32, Alarm)>,
-        changes: &mut Vec<(u32, Change)>,
+        listed: &mut Listed,
     ) -> Result<(), AllocError>
         requires later { self.now.last ≤ moment }
         requires each { length bank.now.alarms ≡ length self.now.delays }
@@ -361,22 +359,22 @@ impl Delays {
         requires unmarked { RawStay marks.old (S.conditions raw.now) (S.suppressions raw.now) self.now
             bank.now.alarms }
         ensures moved { OnOk result
-            (AreMovesOf bank.now.alarms
-            (scan_each (delayed_each (S.conditions raw.now) moment self.now.delays self.now.since)
-            (S.suppressions raw.now) moment bank.now.alarms) moved.new.items changes.new.items) }
+            (AreScanMoves (delayed_each (S.conditions raw.now) moment self.now.delays self.now.since)
+            (S.suppressions raw.now) moment bank.now.alarms listed.new.moves) }
         ensures met { OnOk result
-            (after_met met.new.items moment moved.new.items self.now
+            (after_met listed.new.met.items moment listed.new.moves.moved.items self.now
             ≡ after_conditions (S.conditions raw.now) moment self.now) }
     {
         self.due.mark_most(moment, marks);
         let first = marks.first();
-        let end = self.list_met(raw, marks, first, met)?;
+        let end = self.list_met(raw, marks, first, &mut listed.met)?;
         let counted = Counting {
             raw,
             delays: self,
             moment,
         };
-        bank.list_moved_among(marks, first, end, &counted, moment, moved, changes)?;
+        let moves = &mut listed.moves;
+        bank.list_moved_among(marks, first, end, &counted, moment, moves)?;
         Ok(())
     }
 
@@ -388,9 +386,7 @@ impl Delays {
         raw: &S,
         moment: u64,
         marks: &Marks,
-        met: &mut Vec<(u32, bool)>,
-        moved: &mut Vec<(u32, Alarm)>,
-        changes: &mut Vec<(u32, Change)>,
+        listed: &mut Listed,
     ) -> Result<(), AllocError>
         requires plain { have_none self.now.delays ≡ true }
         requires follow { Follows self.now bank.now.alarms }
@@ -402,17 +398,17 @@ impl Delays {
         requires unmarked { RawStay marks.now (S.conditions raw.now) (S.suppressions raw.now) self.now
             bank.now.alarms }
         ensures moved { OnOk result
-            (AreMovesOf bank.now.alarms
-            (scan_each (delayed_each (S.conditions raw.now) moment self.now.delays self.now.since)
-            (S.suppressions raw.now) moment bank.now.alarms) moved.new.items changes.new.items) }
+            (AreScanMoves (delayed_each (S.conditions raw.now) moment self.now.delays self.now.since)
+            (S.suppressions raw.now) moment bank.now.alarms listed.new.moves) }
         ensures met { OnOk result
-            (after_met met.new.items moment moved.new.items self.now
+            (after_met listed.new.met.items moment listed.new.moves.moved.items self.now
             ≡ after_conditions (S.conditions raw.now) moment self.now) }
     {
         let _last = self.last;
-        met.clear();
+        listed.met.clear();
         let first = marks.first();
-        bank.list_moved_among(marks, first, marks.len(), raw, moment, moved, changes)?;
+        let moves = &mut listed.moves;
+        bank.list_moved_among(marks, first, marks.len(), raw, moment, moves)?;
         Ok(())
     }
 }

@@ -7,6 +7,8 @@
 #![tactic(auto)]
 
 mod delays;
+mod listed;
 mod since;
 
 pub use delays::{Delays, alarms_follow, delays_agree, kept_scans_agree};
+pub use listed::Listed;

@@ -3,6 +3,8 @@ use Rattle.std.specs.Prelude.{◌≡◌, ℕ, ℤ, Bool, false, Option, Some, No
 use Rattle.plant_types.specs.Values.{is_true}
 use Rattle.alarm_machine.specs.Alarms.{PlainAlarm}
 use Rattle.alarm_bank.specs.Banks.{scan_each}
+use Rattle.alarm_bank.specs.declared.moves.Moves.{Moves}
+use Rattle.alarm_bank.specs.Moves.{AreMovesOf}
 use Rattle.alarm_delays.specs.Delays.{PlainDelays, Follows, delayed_each}
 use Rattle.alarm_watch.specs.declared.watched.Watch.{Watch}
 
@@ -22,6 +24,10 @@ watched_suppressions now watches = map (λ watch. suppression now watch.suppress
 -- each alarm takes its step by whether the condition that it watches counts, and by its suppression
 abbrev pub alarms_watched : (ℕ → ℤ) → ℕ → List Watch → PlainDelays → List PlainAlarm → List PlainAlarm
 alarms_watched now t watches d alarms = scan_each (delayed_each (watched_conditions now watches) t d.delays d.since) (watched_suppressions now watches) t alarms
+
+-- what a scan lists of alarms that take their steps by what they watch: those that it moves, and the changes of their codes
+abbrev pub AreWatchedMoves : (ℕ → ℤ) → ℕ → List Watch → PlainDelays → List PlainAlarm → Moves → Type 0
+AreWatchedMoves now t watches d alarms moves = AreMovesOf alarms (alarms_watched now t watches d alarms) moves.moved.items moves.changes.items
 
 -- the condition and the suppression of each alarm's last scan are those that its globals have now, and its last condition is the one that counted then
 pub record Follow (now : ℕ → ℤ) (watches : List Watch) (d : PlainDelays) (alarms : List PlainAlarm) : Type 0 where

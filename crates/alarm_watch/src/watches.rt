@@ -1,17 +1,15 @@
 //! What all alarms watch, and the alarms that a scan moves.
 
 ghost use Rattle.std.specs.Prelude.{◌≡◌, ◌<◌, ◌≤◌, ◌^◌, ℕ, true, false, Some, length, map, slice_get, IfOk, OnOk};
-ghost use Rattle.alarm_bank.specs.Moves.{AreMovesOf};
 ghost use Rattle.logic_cells.specs.Cells.{value_at};
 ghost use Rattle.alarm_watch.specs.Chains.{condition_keys, suppress_keys, ChangesAreMarked};
-ghost use Rattle.alarm_watch.specs.Watched.{alarms_watched, watched_conditions, Follow};
+ghost use Rattle.alarm_watch.specs.Watched.{AreWatchedMoves, watched_conditions, Follow};
 ghost use Rattle.alarm_delays.specs.Delays.{after_conditions, after_met};
 
 use crate::chains::{Ranges, chains_of, mark_changed, ranges_of};
 use crate::watched::{Watch, Watched};
 use alarm_bank::{Bank, Marks};
-use alarm_delays::Delays;
-use alarm_machine::{Alarm, Change};
+use alarm_delays::{Delays, Listed};
 use logic_cells::Cells;
 use std::alloc::{AllocError, Global};
 use std::marker::Model;
@@ -134,9 +132,7 @@ impl Watches {
         now: &Cells,
         moment: u64,
         marks: &mut Marks,
-        met: &mut Vec<(u32, bool)>,
-        moved: &mut Vec<(u32, Alarm)>,
-        changes: &mut Vec<(u32, Change)>,
+        listed: &mut Listed,
     ) -> Result<(), AllocError>
         requires later { last.now.delays.now.last ≤ moment }
         requires each { length last.now.bank.now.alarms ≡ length self.now }
@@ -145,11 +141,10 @@ impl Watches {
             → Follow (value_at last.now.cells.now) self.now last.now.delays.now
             last.now.bank.now.alarms }
         ensures moved { OnOk result
-            (AreMovesOf last.now.bank.now.alarms
-            (alarms_watched (value_at now.now) moment self.now last.now.delays.now
-            last.now.bank.now.alarms) moved.new.items changes.new.items) }
+            (AreWatchedMoves (value_at now.now) moment self.now last.now.delays.now
+            last.now.bank.now.alarms listed.new.moves) }
         ensures met { OnOk result
-            (after_met met.new.items moment moved.new.items last.now.delays.now
+            (after_met listed.new.met.items moment listed.new.moves.moved.items last.now.delays.now
             ≡ after_conditions (watched_conditions (value_at now.now) self.now) moment
             last.now.delays.now) }
     {
@@ -168,10 +163,10 @@ impl Watches {
         self.mark(cells, now, marks);
         mark_all_unless(follows, marks);
         if follows && delays.is_plain() {
-            delays.list_plain(bank, &signals, moment, marks, met, moved, changes)?;
+            delays.list_plain(bank, &signals, moment, marks, listed)?;
             return Ok(());
         }
-        delays.list_moved(bank, &signals, moment, marks, met, moved, changes)?;
+        delays.list_moved(bank, &signals, moment, marks, listed)?;
         Ok(())
     }
 }

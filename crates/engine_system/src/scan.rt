@@ -191,10 +191,9 @@ fn run_scan<C: Crew<Job, Start, Done, H>, H>(
     };
     run_programs(rt, alloc, crew, &given, &mut changed)?;
     let marks = &mut room.marks;
-    let met = &mut effect.met;
-    let moved = &mut effect.moved;
-    let changes = &mut report.changes;
-    step_alarms(alloc, old, cells, moment, marks, met, moved, changes)?;
+    let listed = &mut effect.listed;
+    step_alarms(alloc, old, cells, moment, marks, listed)?;
+    swap(&mut report.changes, &mut listed.moves.changes);
     renew(old.outputs.as_slice(), cells, &mut effect.outputs)?;
     let outputs = effect.outputs.as_slice();
     list_changed(outputs, &old.cells, cells, &mut report.outs)?;

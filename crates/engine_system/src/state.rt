@@ -14,7 +14,7 @@ ghost use Rattle.engine_system.specs.Watches.{watches_of};
 
 use crate::steps::{delays_of, opening_alarms, opening_sites, outputs, watches_of};
 use alarm_bank::Bank;
-use alarm_delays::Delays;
+use alarm_delays::{Delays, Listed};
 use alarm_machine::{Alarm, AlarmState, OrderFault};
 use alarm_watch::Watches;
 use logic_cells::Cells;
@@ -62,10 +62,9 @@ pub struct ScanEffect {
     pub faulted: Vec<bool>,
     /// The outputs and the values that it leaves of them.
     pub outputs: Vec<(u32, Value)>,
-    /// Alarms whose conditions it may have changed, by number, with their conditions; the others of these move.
-    pub met: Vec<(u32, bool)>,
-    /// The alarms that it moves, by number, as it leaves them.
-    pub moved: Vec<(u32, Alarm)>,
+    /// The conditions that it may have changed, and the alarms that it moves. The changes of codes are what an earlier scan left: those of this one
+    /// are in its report.
+    pub listed: Listed,
     /// Its moment in milliseconds.
     pub moment: u64,
 }
@@ -75,7 +74,7 @@ impl Model for ScanEffect {
 
     ghost Value = { PlainScanEffect };
 
-    ghost view = { λ s. record { cells = s.cells; faulted = s.faulted.items; outputs = s.outputs.items; met = s.met.items; moved = s.moved.items; moment = s.moment } };
+    ghost view = { λ s. record { cells = s.cells; faulted = s.faulted.items; outputs = s.outputs.items; met = s.listed.met.items; moved = s.listed.moves.moved.items; moment = s.moment } };
 }
 
 /// What an order that isn't refused does to a state.
@@ -159,8 +158,7 @@ pub fn empty_effect(alloc: Global) -> ScanEffect {
         cells: Cells::new(Vec::new(alloc), Vec::new(alloc)),
         faulted: Vec::new(alloc),
         outputs: Vec::new(alloc),
-        met: Vec::new(alloc),
-        moved: Vec::new(alloc),
+        listed: Listed::new(alloc),
         moment: 0,
     }
 }
@@ -199,10 +197,9 @@ pub fn apply_scan(effect: &mut ScanEffect, state: &mut State)
     requires range { effect.old.moment ≤ LAST_MOMENT }
     ensures { state.new ≡ after_effect effect.old state.old }
 {
-    let moved = effect.moved.as_slice();
-    state
-        .delays
-        .apply(effect.met.as_slice(), moved, effect.moment);
+    let met = effect.listed.met.as_slice();
+    let moved = effect.listed.moves.moved.as_slice();
+    state.delays.apply(met, moved, effect.moment);
     state.bank.apply(moved, effect.moment);
     state.follows = true;
     swap(&mut state.cells, &mut effect.cells);

@@ -13,7 +13,8 @@ ghost use Rattle.engine_system.specs.Steps.{with_cell, output_in, differs, IsSho
 
 use crate::state::State;
 use alarm_bank::{Marks, Site};
-use alarm_machine::{Alarm, Change};
+use alarm_delays::Listed;
+use alarm_machine::Alarm;
 use alarm_watch::{LastScan, Watch, value_at};
 use logic_cells::Cells;
 use logic_source::Variable;
@@ -92,9 +93,7 @@ pub fn step_alarms(
     cells: &Cells,
     moment: u64,
     marks: &mut Marks,
-    met: &mut Vec<(u32, bool)>,
-    moved: &mut Vec<(u32, Alarm)>,
-    changes: &mut Vec<(u32, Change)>,
+    listed: &mut Listed,
 ) -> Result<(), AllocError>
     requires later { old.now.delays.last ≤ moment }
     requires each { length old.now.alarms ≡ length old.now.watches }
@@ -102,14 +101,14 @@ pub fn step_alarms(
     requires follow { old.now.follows ≡ true
         → Follow (value_at old.now.cells) old.now.watches old.now.delays old.now.alarms }
     ensures alarms { OnOk result
-        (put_all old.now.alarms moved.new.items
+        (put_all old.now.alarms listed.new.moves.moved.items
         ≡ alarms_watched (value_at cells.now) moment old.now.watches old.now.delays old.now.alarms) }
     ensures changes { OnOk result
-        (changes.new.items
+        (listed.new.moves.changes.items
         ≡ changes_from 0 old.now.alarms
         (alarms_watched (value_at cells.now) moment old.now.watches old.now.delays old.now.alarms)) }
     ensures met { OnOk result
-        (after_met met.new.items moment moved.new.items old.now.delays
+        (after_met listed.new.met.items moment listed.new.moves.moved.items old.now.delays
         ≡ after_conditions (watched_conditions (value_at cells.now) old.now.watches) moment
         old.now.delays) }
 {
@@ -120,7 +119,7 @@ pub fn step_alarms(
         cells: &old.cells,
     };
     old.watches
-        .list_moved(alloc, &last, cells, moment, marks, met, moved, changes)?;
+        .list_moved(alloc, &last, cells, moment, marks, listed)?;
     Ok(())
 }
 

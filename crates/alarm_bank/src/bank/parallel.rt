@@ -8,6 +8,7 @@ ghost use Rattle.alarm_bank.specs.Moves.{AddsMove, AreMovesOf, changes_from, tol
 
 use super::Bank;
 use crate::event::BankEvent;
+use crate::moves::Moves;
 use alarm_machine::{Alarm, Change, LAST_MOMENT, OrderFault};
 use rayon::prelude::*;
 use std::alloc::{AllocError, Global};
@@ -19,13 +20,6 @@ struct Given<'a> {
     conds: &'a [bool],
     sups: &'a [bool],
     moment: u64,
-}
-
-/// The alarms that a scan moves, and the changes of their codes, each by its number.
-#[derive(Drop)]
-struct Moves {
-    moved: Vec<(u32, Alarm)>,
-    changes: Vec<(u32, Change)>,
 }
 
 /// Takes a scan of each alarm, of several at once.
@@ -124,10 +118,7 @@ fn moves_of(
     ensures { IfOk result (λ moves. AreMovesOf alarms.now next.now moves.moved.items
         moves.changes.items) }
 {
-    let mut moves = Moves {
-        moved: Vec::new(alloc),
-        changes: Vec::new(alloc),
-    };
+    let mut moves = Moves::new(alloc);
     for at in 0..alarms.len() {
         add_move(at, alarms, next, given, &mut moves)?;
     }

@@ -27,7 +27,7 @@ returns-clause-ok g c =
     let many = watches_many plant.alarms old.watches c.requires.ready.watches in
     let delays : length old.delays.delays ≡ length old.watches = ap length c.requires.ready.delays ∙ delays_many plant.alarms ∙ sym many in
     let since : length old.delays.since ≡ length old.watches = c.requires.ready.since ∙ sym many in
-    let kept : after_met c.step_alarms.new.met.items c.args.taken.now.moment c.step_alarms.new.moved.items old.delays ≡ after_conditions (watched_conditions now old.watches) c.args.taken.now.moment old.delays = c.in_ok-step_alarms.ensures.met in
+    let kept : after_met c.step_alarms.new.listed.met.items c.args.taken.now.moment c.step_alarms.new.listed.moves.moved.items old.delays ≡ after_conditions (watched_conditions now old.watches) c.args.taken.now.moment old.delays = c.in_ok-step_alarms.ensures.met in
     record {
       programs = search rules;
       faults_within = search rules;

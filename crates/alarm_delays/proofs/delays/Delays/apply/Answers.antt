@@ -15,4 +15,4 @@ returns-then-is_plain c =
     let none : have_none old.delays ≡ true = ap have_none (sym c.loop-number.invariant.delays) ∙ sym c.is_plain.ensures ∙ c.if-is_plain.true in
     let end = drop_all c.loop-number.number-index c.args.met.now (omega arith) in
     let all : d.since ≡ fold (put_since c.args.moment) old.since c.args.met.now = ap (fold (put_since c.args.moment) d.since) (sym end) ∙ c.loop-number.invariant.put in
-    c.put_last.ensures ∙ moved_taken d old c.args.met.now c.args.moment c.args.moved.now none c.loop-number.invariant.delays all c.loop-number.invariant.last
+    c.take_moved.ensures ∙ moved_taken d old c.args.met.now c.args.moment c.args.moved.now none c.loop-number.invariant.delays all c.loop-number.invariant.last

@@ -29,5 +29,5 @@ pub returns-clause-met : goal.returns-clause-met
 returns-clause-met g c =
     let d = c.args.self.now in
     let is : IsDelays d.delays d.since d.last c.self.inside.due c.self.inside.is_plain = subst (λ (x : PlainDelays). IsDelays x.delays x.since x.last c.self.inside.due c.self.inside.is_plain) c.self.view_is c.self.invariant in
-    told_all (g.S.Signals.conditions c.args.raw.now) (g.S.Signals.suppressions c.args.raw.now) c.args.moment d c.args.bank.now.alarms c.list_met.new.met.items c.list_moved_among.new.moved.items
+    told_all (g.S.Signals.conditions c.args.raw.now) (g.S.Signals.suppressions c.args.raw.now) c.args.moment d c.args.bank.now.alarms c.list_met.new.met.items c.list_moved_among.new.moves.moved.items
     c.requires.each c.requires.conditions c.requires.suppressions is.each c.in_ok-end.ensures.met c.in_ok-list_moved_among.ensures.moved

@@ -1,6 +1,5 @@
 use Rattle.std.proofs.Common.{Bool, List, ℕ, arith, ap, sym, ◌∙◌, subst}
-use Rattle.alarm_bank.specs.Banks.{scan_each}
-use Rattle.alarm_bank.specs.Moves.{AreMovesOf, UnmarkedStay}
+use Rattle.alarm_bank.specs.Moves.{AreScanMoves, UnmarkedStay}
 use Rattle.alarm_delays.specs.Delays.{PlainDelays, IsDelays, after_met}
 use Rattle.alarm_delays.proofs.DelayLaws.{none_awaited, none_counted, told_plain, unmarked_stay}
 use Rattle.alarm_delays.proofs.delays.Delays.list_plain.Goals as goal
@@ -28,7 +27,7 @@ returns-clause-moved g c =
     let ss = g.S.Signals.suppressions c.args.raw.now in
     let alarms = c.args.bank.now.alarms in
     let is : IsDelays d.delays d.since d.last c.self.inside.due c.self.inside.is_plain = subst (λ (x : PlainDelays). IsDelays x.delays x.since x.last c.self.inside.due c.self.inside.is_plain) c.self.view_is c.self.invariant in
-    subst (λ (l : List Bool). AreMovesOf alarms (scan_each l ss c.args.moment alarms) c.list_moved_among.new.moved.items c.list_moved_among.new.changes.items) (sym (none_counted cs c.args.moment d.delays d.since c.requires.conditions is.each c.requires.plain)) c.in_ok-list_moved_among.ensures
+    subst (λ (l : List Bool). AreScanMoves l ss c.args.moment alarms c.list_moved_among.new.moves) (sym (none_counted cs c.args.moment d.delays d.since c.requires.conditions is.each c.requires.plain)) c.in_ok-list_moved_among.ensures
 
 pub returns-clause-met : goal.returns-clause-met
 returns-clause-met g c =
@@ -37,5 +36,5 @@ returns-clause-met g c =
     let ss = g.S.Signals.suppressions c.args.raw.now in
     let alarms = c.args.bank.now.alarms in
     let is : IsDelays d.delays d.since d.last c.self.inside.due c.self.inside.is_plain = subst (λ (x : PlainDelays). IsDelays x.delays x.since x.last c.self.inside.due c.self.inside.is_plain) c.self.view_is c.self.invariant in
-    ap (λ (met : List (ℕ × Bool)). after_met met c.args.moment c.list_moved_among.new.moved.items d) c.clear.ensures.items
-    ∙ told_plain cs ss c.args.moment d alarms c.list_moved_among.new.moved.items c.requires.each c.requires.conditions c.requires.suppressions is.each c.requires.plain c.requires.follow c.in_ok-list_moved_among.ensures.moved
+    ap (λ (met : List (ℕ × Bool)). after_met met c.args.moment c.list_moved_among.new.moves.moved.items d) c.clear.ensures.items
+    ∙ told_plain cs ss c.args.moment d alarms c.list_moved_among.new.moves.moved.items c.requires.each c.requires.conditions c.requires.suppressions is.each c.requires.plain c.requires.follow c.in_ok-list_moved_among.ensures.moved

@@ -1,7 +1,7 @@
 use Rattle.std.proofs.Common.{◌≡◌, ◌++◌, ℕ, Option, List, true, length, fold, take, drop, arith, ap, subst, sym, ◌∙◌}
 use Rattle.alarm_delays.specs.Delays.{PlainDelays, IsDelays, have_none, last_conditions, put_since}
 use Rattle.alarm_delays.proofs.DelayLaws.{length_puts, puts_plain, written_back}
-use Rattle.alarm_delays.proofs.delays.Delays.put_last.Goals as goal
+use Rattle.alarm_delays.proofs.delays.Delays.take_moved.Goals as goal
 
 pub invariant_of-self : goal.invariant_of-self
 invariant_of-self c =
