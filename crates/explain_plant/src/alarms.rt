@@ -1,12 +1,11 @@
 //! What is wrong in the rows of the alarm database (C11 to C14), as its reader found it.
 
-use crate::document::{WIDE, is_wide, strange_area};
 use crate::fields::{field_of, fields_of_row, last_of, row_start, unquoted};
-use crate::keys::Mark;
 use crate::telling::Refused;
 use alarm_db::{Column, RowFault, RowMistake, Version};
+use explain_document::{Mark, WIDE, is_wide, strange_area};
 use explain_places::place_at;
-use explain_tokens::{FileOf, part};
+use explain_tokens::part;
 use explain_trees::no_bool_global;
 use st_parser::Unit;
 use std::alloc::AllocError;
@@ -75,7 +74,7 @@ pub fn has_commas_alone(text: &[u8], from: usize) -> bool {
 impl<'t> Refused<'t> {
     /// Tells what is wrong at bytes of the alarm database, as `say` does.
     fn say_at(&mut self, mark: Mark, text: &str, words: &[&str]) -> Result<(), AllocError> {
-        self.say(FileOf::Alarms, Some(mark), text, words)
+        self.say(Some(mark), text, words)
     }
 
     /// Tells of each field of the header that isn't the name of the column in its place. Where they aren't as many as the columns, or more than two are wrong, one
@@ -115,12 +114,12 @@ impl<'t> Refused<'t> {
     fn misheaded(&mut self, fields: &[Mark]) -> Result<(), AllocError> {
         let (all, first) = (self.alarms, field_of(fields, 0));
         if is_wide(all) {
-            return self.say(FileOf::Alarms, None, WIDE, &[]);
+            return self.say(None, WIDE, &[]);
         }
         if all.starts_with(b"PK\x03\x04") {
             let text =
                 "this file is a spreadsheet's own, and no text: save it there as CSV in UTF-8, with commas";
-            return self.say(FileOf::Alarms, None, text, &[]);
+            return self.say(None, text, &[]);
         }
         let header = part(all, first.0, first.1);
         let signs = [(b';', "semicolons"), (b'\t', "tabs")];

@@ -1,6 +1,6 @@
 //! The fields of a table of comma-separated values, by their bytes.
 
-use crate::keys::Mark;
+use explain_document::Mark;
 use explain_places::mark_len;
 use explain_tokens::part;
 use std::alloc::{AllocError, Global};

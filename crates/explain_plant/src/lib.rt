@@ -3,8 +3,8 @@
 //! is likely to be wrong in it, with what a `Warner` saw while it was read.
 //!
 //! No plant is read again: what is wrong in the plant file (C1 to C3) and in the rows of the alarm database (C11 to C14) comes with the fault, as their readers
-//! found it. What is wrong in sources is found by explain_sources (C4, C5), explain_bodies (C6 to C9) and explain_limits (C10). Behind mistakes of sources those of
-//! rows are told too, as far as the globals are spelled rightly.
+//! found it; of the plant file explain_document tells it. What is wrong in sources is found by explain_sources (C4, C5), explain_bodies (C6 to C9) and
+//! explain_limits (C10). Behind mistakes of sources those of rows are told too, as far as the globals are spelled rightly.
 //!
 //! Proved is that the text begins with the whole line of the refusal; that a word is told which is wrong is tried on examples.
 //!
@@ -12,9 +12,7 @@
 #![tactic(auto)]
 
 mod alarms;
-mod document;
 mod fields;
-mod keys;
 mod limits;
 mod rows;
 mod sources;

@@ -1,8 +1,8 @@
 //! Where a limit isn't kept (C10), and by what.
 
 use crate::fields::Rows;
-use crate::keys::{Mark, keys_of};
 use crate::telling::Refused;
+use explain_document::{Mark, keys_of};
 use explain_limits::{Measure, where_past};
 use explain_tokens::{Cause, FileOf};
 use plant_config::Limit;

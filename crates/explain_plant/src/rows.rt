@@ -2,10 +2,10 @@
 
 use crate::alarms::{columns_near, first_line, has_commas_alone, names};
 use crate::fields::{field_of, fields_of_row, last_of};
-use crate::keys::Mark;
 use crate::telling::{MOST_FAULTS, Refused};
 use alarm_db::{Column, DatabaseRow, Examined, RowFault, RowMistake, Version, examine};
 use base_words::Names;
+use explain_document::Mark;
 use explain_tokens::part;
 use explain_trees::{entries_of, sources_of, units_of};
 use plant_file::{PlantFileFault, TextSet, read};

@@ -5,8 +5,8 @@ ghost use Rattle.plant_config.specs.declared.fault.ConfigFault.TheVariants as co
 ghost use Rattle.plant_folder.specs.Verdicts.{refusal_line};
 ghost use Rattle.explain_plant.specs.Told.{BeginsWith};
 
-use crate::keys::Mark;
 use explain_bodies::BrokenRule;
+use explain_document::{Mark, no_document, wrong_epoch, wrong_keys};
 use explain_places::shown;
 use explain_tokens::{Cause, FileOf, Spot, cause_of};
 use explain_trees::filled;
@@ -36,29 +36,37 @@ impl<'t> Refused<'t> {
         Ok(())
     }
 
-    /// Tells what is wrong at bytes of the plant file or of the alarm database: a text in which each `%` stands for the next of words.
+    /// Tells what is wrong at bytes of the alarm database: a text in which each `%` stands for the next of words.
     pub fn say(
         &mut self,
-        file: FileOf,
         mark: Option<Mark>,
         text: &str,
         words: &[&str],
     ) -> Result<(), AllocError> {
         let said = filled(self.alloc, &[text], "", words)?;
-        let page = match file {
-            FileOf::Plant => "docs/PLANT.md, \"plant.toml\"",
-            _ => "docs/PLANT.md, \"alarms.csv\"",
-        };
-        self.tell(file, Cause { mark, said, page })
+        let page = "docs/PLANT.md, \"alarms.csv\"";
+        self.tell(FileOf::Alarms, Cause { mark, said, page })
+    }
+
+    /// Tells what is wrong in the plant file.
+    fn in_document(&mut self, causes: Vec<Cause>) -> Result<(), AllocError> {
+        for cause in causes {
+            self.tell(FileOf::Plant, cause)?;
+        }
+        Ok(())
     }
 
     /// Tells what is wrong, as far as it is found.
     fn find(&mut self, fault: &ConfigFault) -> Result<(), AllocError> {
         match fault {
             ConfigFault::Memory => Ok(()),
-            ConfigFault::NotToml(unread) => self.not_toml(unread),
-            ConfigFault::PlantFile(mistakes) => self.in_keys(mistakes.as_slice()),
-            ConfigFault::Epoch => self.in_epoch(),
+            ConfigFault::NotToml(unread) => {
+                self.in_document(no_document(self.alloc, self.plant, unread)?)
+            }
+            ConfigFault::PlantFile(mistakes) => {
+                self.in_document(wrong_keys(self.alloc, self.plant, mistakes.as_slice())?)
+            }
+            ConfigFault::Epoch => self.in_document(wrong_epoch(self.alloc, self.plant)?),
             ConfigFault::Limit(limit) => self.past(*limit),
             ConfigFault::Spelling { file, line, column } => {
                 self.in_sources((file, *line, *column), true)

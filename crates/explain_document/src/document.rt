@@ -1,13 +1,19 @@
 //! What is wrong in the plant file (C1 to C3), as its reader found it.
 
+use crate::areas::strange_area;
 use crate::keys::{Keys, Mark, NOBODY, keys_of};
-use crate::telling::{MOST_FAULTS, Refused};
 use base_stamps::Epoch;
-use explain_tokens::{FileOf, Spot, part, within_one};
+use explain_tokens::{Cause, part, within_one};
+use explain_trees::filled;
 use plant_file::{Mistake, PlantFileFault, Unread, Why, read};
 use std::alloc::{AllocError, Global};
 use std::str;
-use toml::Value;
+
+/// Where it stands what a plant file is.
+const PAGE: &str = "docs/PLANT.md, \"plant.toml\"";
+
+/// A plant file has so many lines at most that are read on behind.
+const MOST_LINES: usize = 20;
 
 /// What is said of a text that looks like UTF-16.
 pub const WIDE: &str = "this file is no UTF-8, but looks like UTF-16: save it as UTF-8";
@@ -40,19 +46,6 @@ pub fn is_wide(text: &[u8]) -> bool {
         text,
         [0xFF, 0xFE, ..] | [0xFE, 0xFF, ..] | [_, 0, ..] | [0, ..]
     )
-}
-
-/// What is said of an area that the plant hasn't, whose areas its file lists.
-pub fn strange_area(alloc: Global, plant: &[u8], area: &str) -> Result<String, AllocError> {
-    let mut said = format!(in alloc; "the plant has no area '{area}'; its areas are:")?;
-    let table = toml::table_from_slice(alloc, plant).ok();
-    if let Some(Value::Array(areas)) = table.as_ref().and_then(|table| table.get("areas")) {
-        for area in areas {
-            said.push_str(" ")?;
-            said.push_str(area.as_str().unwrap_or(""))?;
-        }
-    }
-    Ok(said)
 }
 
 /// The key that there is and that an unknown one nearly is; empty where none is.
@@ -229,23 +222,42 @@ fn has_no_epoch(keys: &Keys<'_>, plant: &[u8]) -> bool {
     }
 }
 
-impl<'t> Refused<'t> {
+/// A plant file that is refused, and what is told of it.
+#[derive(Drop)]
+struct Document<'t> {
+    alloc: Global,
+    plant: &'t [u8],
+    told: Vec<Cause>,
+}
+
+impl<'t> Document<'t> {
+    /// Tells what is wrong at bytes of the plant file: a text in which each `%` stands for the next of words.
+    fn say(&mut self, mark: Option<Mark>, text: &str, words: &[&str]) -> Result<(), AllocError> {
+        let said = filled(self.alloc, &[text], "", words)?;
+        self.told.push(Cause {
+            mark,
+            said,
+            page: PAGE,
+        })?;
+        Ok(())
+    }
+
     /// Tells of bytes that are no TOML document: where they aren't any more, and why, as the reader says.
-    pub fn not_toml(&mut self, unread: &Unread) -> Result<(), AllocError> {
+    fn not_toml(&mut self, unread: &Unread) -> Result<(), AllocError> {
         let (plant, mark) = (self.plant, unread.bytes());
         if is_wide(plant) {
-            return self.say(FileOf::Plant, None, WIDE, &[]);
+            return self.say(None, WIDE, &[]);
         }
         let Some(message) = unread.message() else {
             let text = "here the plant file isn't UTF-8: an editor can save it so";
-            self.say(FileOf::Plant, Some(mark), text, &[])?;
+            self.say(Some(mark), text, &[])?;
             return self.in_text_of(ascii_of(self.alloc, plant)?);
         };
         let rest = part(plant, mark.0, plant.len());
         if rest.starts_with(b"[console]") || rest.starts_with(b"[[console]]") {
             let keys = keys_of(self.alloc, plant)?;
             let mark = keys.header("[console]").unwrap_or(mark);
-            return self.say(FileOf::Plant, Some(mark), ONE_CONSOLE, &[]);
+            return self.say(Some(mark), ONE_CONSOLE, &[]);
         }
         self.unread_at(mark, message)?;
         if has_keys(plant) {
@@ -260,7 +272,7 @@ impl<'t> Refused<'t> {
         let reason = reasons.find(|reason| reason.0 == message);
         let why = reason.map_or(message, |reason| reason.1);
         let text = "here the plant file is no TOML document any more: %";
-        self.say(FileOf::Plant, Some(mark), text, &[why])
+        self.say(Some(mark), text, &[why])
     }
 
     /// Tells what else is wrong in a plant file that is no document any more at a byte: it is read on without the line there, as far as that is certain.
@@ -273,7 +285,7 @@ impl<'t> Refused<'t> {
 
     /// Tells what is wrong in the text of the plant file, in which what was told stands no more.
     fn in_text_of(&mut self, mut text: Vec<u8>) -> Result<(), AllocError> {
-        for _ in 0..MOST_FAULTS {
+        for _ in 0..MOST_LINES {
             let unread = match read(self.alloc, text.as_slice()) {
                 Ok(_) => return Ok(()),
                 Err(PlantFileFault::Memory) => return Err(AllocError),
@@ -294,11 +306,6 @@ impl<'t> Refused<'t> {
         Ok(())
     }
 
-    /// Tells of a document that isn't that of a plant file, in the order of the text; what has no place comes first.
-    pub fn in_keys(&mut self, mistakes: &[Mistake]) -> Result<(), AllocError> {
-        self.in_keys_of(self.plant, mistakes, true)
-    }
-
     /// Tells of a mistake in the text of a plant file, in which these are found.
     fn in_key(
         &mut self,
@@ -307,17 +314,17 @@ impl<'t> Refused<'t> {
         mistakes: &[Mistake],
         wrong: &Mistake,
     ) -> Result<(), AllocError> {
-        let (alloc, file) = (self.alloc, FileOf::Plant);
+        let alloc = self.alloc;
         let (mark, key) = (mark_of(keys, wrong)?, wrong.key.as_str());
         match wrong.why {
             _ if is_told(keys, mistakes, wrong) => Ok(()),
             Why::UnknownKey => {
                 let text = said_of_unknown(keys, mistakes, wrong);
-                self.say(file, mark, text, &[key, near_key(wrong)])
+                self.say(mark, text, &[key, near_key(wrong)])
             }
             Why::StrangeArea => {
                 let said = strange_area(alloc, plant, wrong.text.as_str())?;
-                self.say(file, mark, "%", &[said.as_str()])
+                self.say(mark, "%", &[said.as_str()])
             }
             Why::Length { bytes, most } => {
                 let said = match wrong.item {
@@ -326,9 +333,9 @@ impl<'t> Refused<'t> {
                 };
                 let bytes = bytes.to_string(alloc)?;
                 let words = [said.as_str(), bytes.as_str()];
-                self.say(file, mark, "%, and this one has %", &words)
+                self.say(mark, "%, and this one has %", &words)
             }
-            _ => self.say(file, mark, said_of(wrong), &[key]),
+            _ => self.say(mark, said_of(wrong), &[key]),
         }
     }
 
@@ -350,10 +357,10 @@ impl<'t> Refused<'t> {
         }
         if self.told.is_empty() {
             let text = "the sources that were handed in aren't those that 'sources' lists";
-            self.say(FileOf::Plant, None, text, &[])?;
+            self.say(None, text, &[])?;
         }
-        self.told.sort_unstable_by_key(|spot: &Spot| {
-            spot.cause.mark.map_or(0, |mark| mark.0.saturating_add(1))
+        self.told.sort_unstable_by_key(|cause: &Cause| {
+            cause.mark.map_or(0, |mark| mark.0.saturating_add(1))
         });
         Ok(())
     }
@@ -362,12 +369,40 @@ impl<'t> Refused<'t> {
         let mark = keys.find(0, "epoch").map(|entry| entry.value);
         let text =
             "the epoch is no second of the years 1970 to 2399 in the form YYYY-MM-DDTHH:MM:SSZ";
-        self.say(FileOf::Plant, mark, text, &[])
+        self.say(mark, text, &[])
     }
+}
 
-    /// Tells of an epoch that isn't one.
-    pub fn in_epoch(&mut self) -> Result<(), AllocError> {
-        let keys = keys_of(self.alloc, self.plant)?;
-        self.no_epoch(&keys)
+/// A plant file of which nothing is told yet.
+fn untold(alloc: Global, plant: &[u8]) -> Document<'_> {
+    Document {
+        alloc,
+        plant,
+        told: Vec::new(alloc),
     }
+}
+
+/// What is told of a plant file that is no TOML document (C1): where it isn't one any more, and why, as its reader says; and what is wrong behind that.
+pub fn no_document(alloc: Global, plant: &[u8], unread: &Unread) -> Result<Vec<Cause>, AllocError> {
+    let mut document = untold(alloc, plant);
+    document.not_toml(unread)?;
+    Ok(document.told)
+}
+
+/// What is told of a document that isn't that of a plant file (C2), in the order of the text; what has no place comes first.
+pub fn wrong_keys(
+    alloc: Global,
+    plant: &[u8],
+    mistakes: &[Mistake],
+) -> Result<Vec<Cause>, AllocError> {
+    let mut document = untold(alloc, plant);
+    document.in_keys_of(plant, mistakes, true)?;
+    Ok(document.told)
+}
+
+/// What is told of a plant file whose epoch isn't one (C3).
+pub fn wrong_epoch(alloc: Global, plant: &[u8]) -> Result<Vec<Cause>, AllocError> {
+    let mut document = untold(alloc, plant);
+    document.no_epoch(&keys_of(alloc, plant)?)?;
+    Ok(document.told)
 }

@@ -1,0 +1,17 @@
+//! What a person is told of a plant file that is refused (C1 to C3), and where its keys stand.
+//!
+//! What is wrong its reader, plant_file, has found: `no_document` tells why a text is no TOML document, and reads it on behind a line that is wrong by itself,
+//! `wrong_keys` tells of keys and of what stands under them, `wrong_epoch` of the epoch. `keys_of` finds the bytes of keys and values, for whoever shows one.
+//!
+//! No clause says what is told; that is tried on examples.
+//!
+//! Layer explain_: it must not know events or commands.
+#![tactic(auto)]
+
+mod areas;
+mod document;
+mod keys;
+
+pub use areas::strange_area;
+pub use document::{WIDE, is_wide, no_document, wrong_epoch, wrong_keys};
+pub use keys::{KeyLine, Keys, Mark, keys_of};
