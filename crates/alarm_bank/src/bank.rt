@@ -331,7 +331,6 @@ impl Bank {
         }
     }
 
-    /// Whether a shelf ends by a moment.
     fn shelf_ends(&self, moment: u64) -> bool
         ensures { result ≡ false → NoShelfEnds moment self.now.alarms }
     {

@@ -81,7 +81,6 @@ impl Summary {
         }
     }
 
-    /// The area of an alarm that is there.
     pub(crate) fn area(&self, at: usize) -> u32
         requires { at < length self.now }
         ensures { option_map (λ row. row.area) (slice_get self.now at) ≡ Some result }

@@ -58,7 +58,6 @@ fn delayed(condition: bool, delay: u32, moment: u64, since: Option<u64>) -> bool
     }
 }
 
-/// Whether no alarm has a delay.
 fn have_none(delays: &[u32]) -> bool
     ensures { result ≡ have_none delays.now }
 {

@@ -42,14 +42,12 @@ pub fn number_at(cells: &Cells, slot: usize) -> i64
     }
 }
 
-/// Whether a global is TRUE.
 fn is_set(cells: &Cells, global: u32) -> bool
     ensures { result ≡ is_true (value_at cells.now global) }
 {
     value_at(cells, global) != 0
 }
 
-/// Whether an alarm is suppressed.
 fn is_suppressed(cells: &Cells, watch: &Watch) -> bool
     ensures { result ≡ suppression (value_at cells.now) watch.now.suppress }
 {

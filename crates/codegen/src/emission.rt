@@ -49,7 +49,6 @@ pub(crate) fn emit_frame(
     emit_body(&scope, out, &frame.body, pc)
 }
 
-/// Appends a body.
 #[cycle(code)]
 fn emit_body(
     scope: &PlacedRoutine<'_>,

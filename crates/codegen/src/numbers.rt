@@ -18,7 +18,6 @@ pub(crate) fn left_of(turns: u128) -> i64
     turns as i64
 }
 
-/// The slot of a variable.
 pub(crate) fn slot_of(globals: usize, base: Base, variable: usize) -> u32
     requires { fits (slot_of globals base variable) ≡ true }
     ensures { result ≡ slot_of globals base variable }
@@ -46,7 +45,6 @@ pub(crate) fn member_slot(base: Base, seat: &Seat, name: usize) -> u32
     (base.values + seat.values as u128 + name as u128) as u32
 }
 
-/// The clock of an instance.
 pub(crate) fn clock_of(base: Base, seat: &Seat) -> u32
     requires { fits (base.clocks + seat.now.clocks) ≡ true }
     ensures { result ≡ base.clocks + seat.now.clocks }
@@ -66,7 +64,6 @@ pub(crate) fn base_of(base: Base, seat: &Seat) -> Base
     }
 }
 
-/// What loads an output of an instance.
 pub(crate) fn output_instr(seats: &[Seat], instance: usize, base: Base, name: usize) -> Instr
     requires { has_output fits fits (slice_get seats.now instance) base name ≡ true }
     ensures { result ≡ output_instr (slice_get seats.now instance) base name }

@@ -74,7 +74,6 @@ fn run_each<G: Gate + Sync, J: Work<S, D> + Send, S, D: Drop + Send, H: Threads 
     )
 }
 
-/// Runs a batch.
 fn run_batch<G: Gate + Sync, J: Work<S, D> + Send, S, D: Drop + Send, H: Threads + Sync>(
     rt: &H,
     gate: &G,

@@ -39,7 +39,6 @@ impl Model for PreparedOrder {
     ghost view = { λ p. record { console = p.console; order = p.order; done = p.done; reply = p.reply } };
 }
 
-/// Whether a console is listed.
 fn is_listed(consoles: &[ListedConsole], number: u32) -> bool
     ensures { result ≡ list_any (is_console number) consoles.now }
 {

@@ -123,7 +123,6 @@ pub fn step_alarms(
     Ok(())
 }
 
-/// Whether a region is that of outputs.
 fn is_output(region: Option<Region>) -> bool
     ensures { result ≡ is_output region }
 {

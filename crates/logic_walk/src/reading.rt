@@ -46,7 +46,6 @@ fn set_from(cells: &mut Cells, base: u128, offset: u128, value: i64)
     }
 }
 
-/// The value of a variable.
 fn variable(cells: &Cells, globals: usize, base: Base, variable: usize) -> i64
     ensures { result ≡ value_at cells.now (slot_of globals base variable) }
 {
@@ -57,7 +56,6 @@ fn variable(cells: &Cells, globals: usize, base: Base, variable: usize) -> i64
     }
 }
 
-/// Assigns a variable.
 pub(crate) fn set_variable(
     cells: &mut Cells,
     globals: usize,
@@ -81,7 +79,6 @@ fn offset_of(bounds: Bounds, index: i64) -> u128
     (i128::from(index) - i128::from(bounds.low)).unsigned_abs()
 }
 
-/// The value of an element of an array.
 fn element(
     cells: &Cells,
     globals: usize,
@@ -100,7 +97,6 @@ fn element(
     }
 }
 
-/// Assigns an element of an array.
 pub(crate) fn set_element(
     cells: &mut Cells,
     globals: usize,
@@ -165,7 +161,6 @@ fn shown(cells: &Cells, base: Base, seat: &Seat, name: usize) -> i64
     }
 }
 
-/// The value of an output of an instance.
 fn output(cells: &Cells, seats: &[Seat], base: Base, instance: usize, name: usize) -> i64
     ensures { result ≡ output_at (slice_get seats.now instance) base cells.now name }
 {
@@ -178,7 +173,6 @@ fn output(cells: &Cells, seats: &[Seat], base: Base, instance: usize, name: usiz
     }
 }
 
-/// Assigns an input of an instance.
 fn set_input(
     cells: &mut Cells,
     seats: &[Seat],

@@ -82,7 +82,6 @@ pub(crate) fn run_body(
     Ok(())
 }
 
-/// Runs a statement.
 #[cycle(walk)]
 fn run_stmt(
     frames: &[Frame],

@@ -56,7 +56,6 @@ fn place_of(out: &[Out], done: &Done) -> Option<usize>
     None
 }
 
-/// Whether each run's start is out.
 fn all_known(out: &[Out], runs: &[Done]) -> bool
     ensures known { IsTrue result → (s : Begun) → Contains runs.now s → Contains out.now s }
     ensures stranger { IsFalse result → HasStranger out.now runs.now }
@@ -92,7 +91,6 @@ fn tick_off(out: &[Out], runs: &[Done], ticks: &mut [bool]) -> bool
     true
 }
 
-/// Whether all are ticked.
 fn all_ticked(ticks: &[bool]) -> bool
     ensures all { IsTrue result → (i : ℕ) → i < length ticks.now
         → slice_index_or ticks.now i false ≡ true }

@@ -41,7 +41,6 @@ impl Parts {
         self.items.len()
     }
 
-    /// The part of a number, from 1 on.
     pub(crate) fn numbered(&self, number: u32) -> &Part
         requires { HasNumber self.now number }
         ensures { result.now ≡ part_of self.now number }

@@ -132,7 +132,6 @@ fn shared_start(alloc: Global, start: Start) -> Result<Arc<Start>, AllocError>
     Ok(start)
 }
 
-/// No cells yet.
 fn no_cells(alloc: Global) -> Cells {
     Cells::new(Vec::new(alloc), Vec::new(alloc))
 }

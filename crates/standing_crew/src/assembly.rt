@@ -95,7 +95,6 @@ pub(crate) fn all_there<J: Work<S, D>, S, D>(
     Ok(())
 }
 
-/// Whether all are ticked.
 fn all_ticked(ticks: &[bool]) -> bool
     ensures all { IsTrue result → (i : ℕ) → i < length ticks.now
         → slice_index_or ticks.now i false ≡ true }

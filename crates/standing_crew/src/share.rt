@@ -11,7 +11,6 @@ const LEAST_SHARE: u64 = 9_000;
 /// to run them.
 pub(crate) const LEAST_ROUND: u64 = 20_000;
 
-/// The cost of jobs. Each costs something.
 pub(crate) fn cost_of<J: Work<S, D>, S, D>(jobs: &[J]) -> u64 {
     let mut whole = 0u64;
     for job in jobs {
