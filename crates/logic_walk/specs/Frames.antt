@@ -1,5 +1,7 @@
 -- Frames in a table, each of which calls those before it alone, and the paths of the instances below a frame.
 use Rattle.std.specs.Prelude.{◌≡◌, ◌≤◌, ◌+◌, ◌^◌, ℕ, zero, suc, nat_eq, if◌then◌else◌, List, [], ◌∷◌, ◌++◌, map, length, Option, Some, None, slice_get}
+use Rattle.std.specs.Coded.{×_prop, Unit-prop, le_prop}
+use native.Mathlib.Nat.{ℕ_set}
 use Rattle.logic_walk.specs.declared.frame.SeatOf.{SeatOf}
 use Rattle.plant_types.specs.Values.{Path}
 use Rattle.logic_walk.specs.declared.frame.SeatOf.TheVariants as seat_of
@@ -49,3 +51,16 @@ pub record InTurn (paths : ℕ → List Path) (seats : List Seat) : Type 0 where
 -- the instances of each frame have their path numbers in turn
 abbrev pub AreInTurn : List Frame → Type 0
 AreInTurn frames = (k : ℕ) (frame : Frame) → slice_get frames k ≡ Some frame → InTurn (frame_paths frames k) frame.seats.items
+
+-- instances are numbered in one way at most
+pub AreNumbered-prop : (paths : ℕ → List Path) (n : ℕ) (seats : List Seat) → IsProp (AreNumbered paths n seats)
+AreNumbered-prop paths n [] = Unit-prop
+AreNumbered-prop paths n (seat ∷ seats) = ×_prop (ℕ_set _ _) (AreNumbered-prop paths (n + length (paths_below paths seat)) seats)
+
+-- instances have their numbers in turn in one way at most
+pub InTurn-prop : (paths : ℕ → List Path) (seats : List Seat) → IsProp (InTurn paths seats)
+InTurn-prop paths seats a b = λ i. record { numbered = AreNumbered-prop paths 1 seats a.numbered b.numbered i; few = le_prop a.few b.few i }
+
+-- and so do those of all frames
+pub AreInTurn-prop : (frames : List Frame) → IsProp (AreInTurn frames)
+AreInTurn-prop frames a b = λ i k frame is. InTurn-prop (frame_paths frames k) frame.seats.items (a k frame is) (b k frame is) i

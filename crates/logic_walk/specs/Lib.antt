@@ -5,3 +5,4 @@ pub mod Starts
 pub mod Standards
 pub mod Paths
 pub mod Plain
+pub mod Walk

@@ -25,6 +25,7 @@ mod paths;
 mod reading;
 mod standards;
 mod starts;
+mod walk;
 mod walker;
 
 pub use copy::{copy_frames, copy_seats};

@@ -5,6 +5,7 @@ ghost use Rattle.logic_walk.specs.Starts.{frame_begun, seats_begun, StartsAreMar
 ghost use Rattle.logic_walk.specs.Walks.{HasRoom};
 
 use crate::frame::{Base, Frame, Seat, SeatOf};
+use crate::walk::Walk;
 use crate::walker::run_body;
 use logic_cells::Cells;
 
@@ -25,7 +26,15 @@ fn start_within(
     if k < limit {
         let frame = &frames[k];
         if frame.has_starts {
-            let _ended = run_body(&[], 0, &[], globals, base, &frame.starts, cells, 0);
+            let alone = Walk {
+                frames: &[],
+                limit: 0,
+                seats: &[],
+                globals,
+                base,
+                moment: 0,
+            };
+            let _ended = run_body(&alone, &frame.starts, cells);
             start_seats(frames, k, &frame.seats, globals, base, cells);
         }
     }

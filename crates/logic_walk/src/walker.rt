@@ -1,54 +1,47 @@
 //! Runs a frame over cells.
 
-ghost use Rattle.std.specs.Prelude.{◌≡◌, ◌<◌, ◌≤◌, ◌+◌, ◌<ℤ◌, pos, [], map, length, slice_get, IfErr};
+ghost use Rattle.std.specs.Prelude.{◌≡◌, ◌<◌, ◌<ℤ◌, pos, [], map, length, slice_get, IfErr};
 ghost use Rattle.st_tree.specs.Plain.{call};
 ghost use Rattle.st_tree.specs.View.{view_body, view_stmt, view_branches, view_choices, view_argument};
 ghost use Rattle.st_tree.specs.Meaning.{run, run_all, turns, first_true, first_fit};
 ghost use Rattle.st_tree.specs.Controls.{up, down, control_values};
 ghost use Rattle.plant_types.specs.Values.{Path};
 ghost use Rattle.logic_cells.specs.Runs.{ended};
-ghost use Rattle.logic_walk.specs.Frames.{AreInTurn, InTurn, frame_paths};
-ghost use Rattle.logic_walk.specs.Walks.{HasRoom, called, placed, under, run_frame, run_within, space_within, paths_within, chosen};
+ghost use Rattle.logic_walk.specs.Frames.{AreInTurn, frame_paths};
+ghost use Rattle.logic_walk.specs.Walks.{HasRoom, called, under, run_frame, run_within, chosen};
+ghost use Rattle.logic_walk.specs.Walk.{below, space, paths};
 
-use crate::frame::{Base, Frame, Seat, SeatOf};
+use crate::frame::{Base, Frame, SeatOf};
 use crate::reading::{
     call_clock, give_outputs, in_statement, index_of, outcome, set_element, set_variable, step_of,
     take_inputs,
 };
+use crate::walk::Walk;
 use logic_cells::{Cells, Stop};
 use plant_types::Place;
 use st_tree::{Argument, Branch, Choice, Span, Stmt, labels_fit, span_of};
 
-/// Runs the frame of a number among so many first ones.
+/// Runs the frame of a number, at a base, among the first ones that the routine of a walk may call.
 #[cycle(walk)]
-fn run_within(
-    frames: &[Frame],
-    limit: usize,
-    k: usize,
-    globals: usize,
-    base: Base,
-    cells: &mut Cells,
-    moment: u64,
-) -> Result<(), Stop>
-    requires there { limit ≤ length frames.now }
-    requires in_turn { AreInTurn frames.now }
-    requires room { HasRoom base limit }
-    ensures ran { ended (frame_paths frames.now limit k) result cells.new
-        ≡ run_within moment globals frames.now limit k base cells.old }
-    ensures path { IfErr result (λ stop. stop.place.path < length (frame_paths frames.now limit k)) }
+fn run_within(walk: &Walk<'_>, k: usize, base: Base, cells: &mut Cells) -> Result<(), Stop>
+    requires { HasRoom base walk.now.limit }
+    ensures ran { ended (frame_paths walk.now.frames.now walk.now.limit k) result cells.new
+        ≡ run_within walk.now.moment walk.now.globals walk.now.frames.now walk.now.limit k base
+        cells.old }
+    ensures path { IfErr result (λ stop. stop.place.path
+        < length (frame_paths walk.now.frames.now walk.now.limit k)) }
 {
-    if k < limit {
-        let frame = &frames[k];
-        run_body(
-            frames,
-            k,
-            &frame.seats,
-            globals,
+    if k < walk.limit {
+        let frame = &walk.frames[k];
+        let inside = Walk {
+            frames: walk.frames,
+            limit: k,
+            seats: &frame.seats,
+            globals: walk.globals,
             base,
-            &frame.body,
-            cells,
-            moment,
-        )
+            moment: walk.moment,
+        };
+        run_body(&inside, &frame.body, cells)
     } else {
         Ok(())
     }
@@ -56,53 +49,26 @@ fn run_within(
 
 /// Runs the statements of a body one after another.
 #[cycle(walk)]
-pub(crate) fn run_body(
-    frames: &[Frame],
-    limit: usize,
-    seats: &[Seat],
-    globals: usize,
-    base: Base,
-    body: &[Stmt<usize>],
-    cells: &mut Cells,
-    moment: u64,
-) -> Result<(), Stop>
-    requires there { limit ≤ length frames.now }
-    requires in_turn { AreInTurn frames.now }
-    requires own { InTurn (frame_paths frames.now limit) seats.now }
-    requires room { HasRoom base (limit + 1) }
-    ensures ran { ended (paths_within frames.now limit seats.now) result cells.new
-        ≡ run_all (space_within moment globals frames.now limit seats.now base) (view_body body.now)
-        cells.old }
-    ensures path { IfErr result (λ stop. stop.place.path
-        < length (paths_within frames.now limit seats.now)) }
+pub(crate) fn run_body(walk: &Walk<'_>, body: &[Stmt<usize>], cells: &mut Cells) -> Result<(), Stop>
+    ensures ran { ended (paths walk.now) result cells.new
+        ≡ run_all (space walk.now) (view_body body.now) cells.old }
+    ensures path { IfErr result (λ stop. stop.place.path < length (paths walk.now)) }
 {
     for stmt in body {
-        run_stmt(frames, limit, seats, globals, base, stmt, cells, moment)?;
+        run_stmt(walk, stmt, cells)?;
     }
     Ok(())
 }
 
 #[cycle(walk)]
-fn run_stmt(
-    frames: &[Frame],
-    limit: usize,
-    seats: &[Seat],
-    globals: usize,
-    base: Base,
-    stmt: &Stmt<usize>,
-    cells: &mut Cells,
-    moment: u64,
-) -> Result<(), Stop>
-    requires there { limit ≤ length frames.now }
-    requires in_turn { AreInTurn frames.now }
-    requires own { InTurn (frame_paths frames.now limit) seats.now }
-    requires room { HasRoom base (limit + 1) }
-    ensures ran { ended (paths_within frames.now limit seats.now) result cells.new
-        ≡ run (space_within moment globals frames.now limit seats.now base) (view_stmt stmt.now)
-        cells.old }
-    ensures path { IfErr result (λ stop. stop.place.path
-        < length (paths_within frames.now limit seats.now)) }
+fn run_stmt(walk: &Walk<'_>, stmt: &Stmt<usize>, cells: &mut Cells) -> Result<(), Stop>
+    ensures ran { ended (paths walk.now) result cells.new
+        ≡ run (space walk.now) (view_stmt stmt.now) cells.old }
+    ensures path { IfErr result (λ stop. stop.place.path < length (paths walk.now)) }
 {
+    let globals = walk.globals;
+    let seats = walk.seats;
+    let base = walk.base;
     match stmt {
         Stmt::Empty(_) => Ok(()),
         Stmt::Assign(number, slot, expr) => {
@@ -123,23 +89,19 @@ fn run_stmt(
             set_element(cells, globals, base, *array, *bounds, i, n);
             Ok(())
         }
-        Stmt::Call(number, instance, arguments) => run_call(
-            frames, limit, seats, globals, base, *number, *instance, arguments, cells, moment,
-        ),
+        Stmt::Call(number, instance, arguments) => {
+            run_call(walk, *number, *instance, arguments, cells)
+        }
         Stmt::If(number, branches, last) => {
-            if !run_first_true(
-                frames, limit, seats, globals, base, *number, branches, cells, moment,
-            )? {
-                run_body(frames, limit, seats, globals, base, last, cells, moment)?;
+            if !run_first_true(walk, *number, branches, cells)? {
+                run_body(walk, last, cells)?;
             }
             Ok(())
         }
         Stmt::Case(number, selector, choices, last) => {
             let n = in_statement(*number, outcome(selector, globals, seats, base, cells))?;
-            if !run_first_fit(
-                frames, limit, seats, globals, base, n, choices, cells, moment,
-            )? {
-                run_body(frames, limit, seats, globals, base, last, cells, moment)?;
+            if !run_first_fit(walk, n, choices, cells)? {
+                run_body(walk, last, cells)?;
             }
             Ok(())
         }
@@ -157,9 +119,7 @@ fn run_stmt(
                 step_of(by, globals, seats, base, cells),
             );
             let span = in_statement(*number, bounds)?;
-            run_turns(
-                frames, limit, seats, globals, base, *variable, span, body, cells, moment,
-            )
+            run_turns(walk, *variable, span, body, cells)
         }
     }
 }
@@ -167,29 +127,21 @@ fn run_stmt(
 /// Runs a call: takes the inputs, runs what is called, gives the outputs.
 #[cycle(walk)]
 fn run_call(
-    frames: &[Frame],
-    limit: usize,
-    seats: &[Seat],
-    globals: usize,
-    base: Base,
+    walk: &Walk<'_>,
     number: u32,
     instance: usize,
     arguments: &[Argument<usize>],
     cells: &mut Cells,
-    moment: u64,
 ) -> Result<(), Stop>
-    requires there { limit ≤ length frames.now }
-    requires in_turn { AreInTurn frames.now }
-    requires own { InTurn (frame_paths frames.now limit) seats.now }
-    requires room { HasRoom base (limit + 1) }
-    ensures ran { ended (paths_within frames.now limit seats.now) result cells.new
-        ≡ run (space_within moment globals frames.now limit seats.now base)
-        (call number instance (map view_argument arguments.now)) cells.old }
-    ensures path { IfErr result (λ stop. stop.place.path
-        < length (paths_within frames.now limit seats.now)) }
+    ensures ran { ended (paths walk.now) result cells.new
+        ≡ run (space walk.now) (call number instance (map view_argument arguments.now)) cells.old }
+    ensures path { IfErr result (λ stop. stop.place.path < length (paths walk.now)) }
 {
+    let globals = walk.globals;
+    let seats = walk.seats;
+    let base = walk.base;
     match take_inputs(number, instance, arguments, globals, seats, base, cells) {
-        Ok(()) => match run_called(frames, limit, seats, globals, base, instance, cells, moment) {
+        Ok(()) => match run_called(walk, instance, cells) {
             Ok(()) => {
                 give_outputs(instance, arguments, globals, seats, base, cells);
                 Ok(())
@@ -202,30 +154,16 @@ fn run_call(
 
 /// Runs what an instance is of. The path number of a trap below it goes on from the instance's.
 #[cycle(walk)]
-fn run_called(
-    frames: &[Frame],
-    limit: usize,
-    seats: &[Seat],
-    globals: usize,
-    base: Base,
-    instance: usize,
-    cells: &mut Cells,
-    moment: u64,
-) -> Result<(), Stop>
-    requires there { limit ≤ length frames.now }
-    requires in_turn { AreInTurn frames.now }
-    requires own { InTurn (frame_paths frames.now limit) seats.now }
-    requires room { HasRoom base (limit + 1) }
-    ensures ran { ended (paths_within frames.now limit seats.now) result cells.new
-        ≡ called moment (placed (run_within moment globals frames.now limit))
-        (slice_get seats.now instance) base [] cells.old }
-    ensures path { IfErr result (λ stop. stop.place.path
-        < length (paths_within frames.now limit seats.now)) }
+fn run_called(walk: &Walk<'_>, instance: usize, cells: &mut Cells) -> Result<(), Stop>
+    ensures ran { ended (paths walk.now) result cells.new
+        ≡ called walk.now.moment (below walk.now) (slice_get walk.now.seats.now instance)
+        walk.now.base [] cells.old }
+    ensures path { IfErr result (λ stop. stop.place.path < length (paths walk.now)) }
 {
-    match seats.get(instance) {
+    match walk.seats.get(instance) {
         Some(seat) => match seat.of {
             SeatOf::Standard(standard) => {
-                call_clock(cells, base, seat, standard, moment);
+                call_clock(cells, walk.base, seat, standard, walk.moment);
                 Ok(())
             }
             SeatOf::Frame(k) => {
@@ -233,10 +171,10 @@ fn run_called(
                     return Ok(());
                 }
                 let inside = Base {
-                    values: base.values + seat.values as u128,
-                    clocks: base.clocks + seat.clocks as u128,
+                    values: walk.base.values + seat.values as u128,
+                    clocks: walk.base.clocks + seat.clocks as u128,
                 };
-                match run_within(frames, limit, k, globals, inside, cells, moment) {
+                match run_within(walk, k, inside, cells) {
                     Ok(()) => Ok(()),
                     Err(stop) => Err(Stop {
                         place: Place {
@@ -255,42 +193,19 @@ fn run_called(
 /// Runs the first branch whose test is TRUE. Returns whether there is one.
 #[cycle(walk)]
 fn run_first_true(
-    frames: &[Frame],
-    limit: usize,
-    seats: &[Seat],
-    globals: usize,
-    base: Base,
+    walk: &Walk<'_>,
     statement: u32,
     branches: &[Branch<usize>],
     cells: &mut Cells,
-    moment: u64,
 ) -> Result<bool, Stop>
-    requires there { limit ≤ length frames.now }
-    requires in_turn { AreInTurn frames.now }
-    requires own { InTurn (frame_paths frames.now limit) seats.now }
-    requires room { HasRoom base (limit + 1) }
-    ensures ran { chosen (paths_within frames.now limit seats.now) result cells.new
-        ≡ first_true (space_within moment globals frames.now limit seats.now base) statement
-        (view_branches branches.now) cells.old }
-    ensures path { IfErr result (λ stop. stop.place.path
-        < length (paths_within frames.now limit seats.now)) }
+    ensures ran { chosen (paths walk.now) result cells.new
+        ≡ first_true (space walk.now) statement (view_branches branches.now) cells.old }
+    ensures path { IfErr result (λ stop. stop.place.path < length (paths walk.now)) }
 {
     for branch in branches {
-        if in_statement(
-            statement,
-            outcome(&branch.test, globals, seats, base, cells),
-        )? != 0
-        {
-            run_body(
-                frames,
-                limit,
-                seats,
-                globals,
-                base,
-                &branch.body,
-                cells,
-                moment,
-            )?;
+        let test = outcome(&branch.test, walk.globals, walk.seats, walk.base, cells);
+        if in_statement(statement, test)? != 0 {
+            run_body(walk, &branch.body, cells)?;
             return Ok(true);
         }
     }
@@ -300,38 +215,18 @@ fn run_first_true(
 /// Runs the first choice with a label that fits the number. Returns whether there is one.
 #[cycle(walk)]
 fn run_first_fit(
-    frames: &[Frame],
-    limit: usize,
-    seats: &[Seat],
-    globals: usize,
-    base: Base,
+    walk: &Walk<'_>,
     n: i64,
     choices: &[Choice<usize>],
     cells: &mut Cells,
-    moment: u64,
 ) -> Result<bool, Stop>
-    requires there { limit ≤ length frames.now }
-    requires in_turn { AreInTurn frames.now }
-    requires own { InTurn (frame_paths frames.now limit) seats.now }
-    requires room { HasRoom base (limit + 1) }
-    ensures ran { chosen (paths_within frames.now limit seats.now) result cells.new
-        ≡ first_fit (space_within moment globals frames.now limit seats.now base) n
-        (view_choices choices.now) cells.old }
-    ensures path { IfErr result (λ stop. stop.place.path
-        < length (paths_within frames.now limit seats.now)) }
+    ensures ran { chosen (paths walk.now) result cells.new
+        ≡ first_fit (space walk.now) n (view_choices choices.now) cells.old }
+    ensures path { IfErr result (λ stop. stop.place.path < length (paths walk.now)) }
 {
     for choice in choices {
         if labels_fit(n, &choice.labels) {
-            run_body(
-                frames,
-                limit,
-                seats,
-                globals,
-                base,
-                &choice.body,
-                cells,
-                moment,
-            )?;
+            run_body(walk, &choice.body, cells)?;
             return Ok(true);
         }
     }
@@ -341,38 +236,21 @@ fn run_first_fit(
 /// Runs a body once for each value of its control variable; not at all if the step is 0.
 #[cycle(walk)]
 fn run_turns(
-    frames: &[Frame],
-    limit: usize,
-    seats: &[Seat],
-    globals: usize,
-    base: Base,
+    walk: &Walk<'_>,
     slot: usize,
     span: Span,
     body: &[Stmt<usize>],
     cells: &mut Cells,
-    moment: u64,
 ) -> Result<(), Stop>
-    requires there { limit ≤ length frames.now }
-    requires in_turn { AreInTurn frames.now }
-    requires own { InTurn (frame_paths frames.now limit) seats.now }
-    requires room { HasRoom base (limit + 1) }
-    ensures ran { ended (paths_within frames.now limit seats.now) result cells.new
-        ≡ turns (λ w n. (space_within moment globals frames.now limit seats.now base).put w slot n)
-        (run_all (space_within moment globals frames.now limit seats.now base) (view_body body.now))
-        (control_values span) cells.old }
-    ensures path { IfErr result (λ stop. stop.place.path
-        < length (paths_within frames.now limit seats.now)) }
+    ensures ran { ended (paths walk.now) result cells.new
+        ≡ turns (λ w n. (space walk.now).put w slot n)
+        (run_all (space walk.now) (view_body body.now)) (control_values span) cells.old }
+    ensures path { IfErr result (λ stop. stop.place.path < length (paths walk.now)) }
 {
     if span.step > 0 {
-        count_up(
-            frames, limit, seats, globals, base, slot, span.from, span.to, span.step, body, cells,
-            moment,
-        )
+        count_up(walk, slot, span.from, span.to, span.step, body, cells)
     } else if span.step < 0 {
-        count_down(
-            frames, limit, seats, globals, base, slot, span.from, span.to, span.step, body, cells,
-            moment,
-        )
+        count_down(walk, slot, span.from, span.to, span.step, body, cells)
     } else {
         Ok(())
     }
@@ -381,35 +259,24 @@ fn run_turns(
 /// Runs a body for each value from `from` by a step above 0, up to `to`.
 #[cycle(walk)]
 fn count_up(
-    frames: &[Frame],
-    limit: usize,
-    seats: &[Seat],
-    globals: usize,
-    base: Base,
+    walk: &Walk<'_>,
     slot: usize,
     from: i64,
     to: i64,
     step: i64,
     body: &[Stmt<usize>],
     cells: &mut Cells,
-    moment: u64,
 ) -> Result<(), Stop>
-    requires there { limit ≤ length frames.now }
-    requires in_turn { AreInTurn frames.now }
-    requires own { InTurn (frame_paths frames.now limit) seats.now }
-    requires room { HasRoom base (limit + 1) }
-    requires step { pos 0 <ℤ step }
-    ensures ran { ended (paths_within frames.now limit seats.now) result cells.new
-        ≡ turns (λ w n. (space_within moment globals frames.now limit seats.now base).put w slot n)
-        (run_all (space_within moment globals frames.now limit seats.now base) (view_body body.now))
-        (up from to step) cells.old }
-    ensures path { IfErr result (λ stop. stop.place.path
-        < length (paths_within frames.now limit seats.now)) }
+    requires { pos 0 <ℤ step }
+    ensures ran { ended (paths walk.now) result cells.new
+        ≡ turns (λ w n. (space walk.now).put w slot n)
+        (run_all (space walk.now) (view_body body.now)) (up from to step) cells.old }
+    ensures path { IfErr result (λ stop. stop.place.path < length (paths walk.now)) }
 {
     let mut at = i128::from(from);
     while at <= i128::from(to) {
-        set_variable(cells, globals, base, slot, at as i64);
-        run_body(frames, limit, seats, globals, base, body, cells, moment)?;
+        set_variable(cells, walk.globals, walk.base, slot, at as i64);
+        run_body(walk, body, cells)?;
         at += i128::from(step);
     }
     Ok(())
@@ -418,35 +285,25 @@ fn count_up(
 /// Runs a body for each value from `from` by a step below 0, down to `to`.
 #[cycle(walk)]
 fn count_down(
-    frames: &[Frame],
-    limit: usize,
-    seats: &[Seat],
-    globals: usize,
-    base: Base,
+    walk: &Walk<'_>,
     slot: usize,
     from: i64,
     to: i64,
     step: i64,
     body: &[Stmt<usize>],
     cells: &mut Cells,
-    moment: u64,
 ) -> Result<(), Stop>
-    requires there { limit ≤ length frames.now }
-    requires in_turn { AreInTurn frames.now }
-    requires own { InTurn (frame_paths frames.now limit) seats.now }
-    requires room { HasRoom base (limit + 1) }
-    requires step { step <ℤ pos 0 }
-    ensures ran { ended (paths_within frames.now limit seats.now) result cells.new
-        ≡ turns (λ w n. (space_within moment globals frames.now limit seats.now base).put w slot n)
-        (run_all (space_within moment globals frames.now limit seats.now base) (view_body body.now))
-        (down from to step) cells.old }
-    ensures path { IfErr result (λ stop. stop.place.path
-        < length (paths_within frames.now limit seats.now)) }
+    requires { step <ℤ pos 0 }
+    ensures ran { ended (paths walk.now) result cells.new
+        ≡ turns (λ w n. (space walk.now).put w slot n)
+        (run_all (space walk.now) (view_body body.now)) (down from to step)
+        cells.old }
+    ensures path { IfErr result (λ stop. stop.place.path < length (paths walk.now)) }
 {
     let mut at = i128::from(from);
     while i128::from(to) <= at {
-        set_variable(cells, globals, base, slot, at as i64);
-        run_body(frames, limit, seats, globals, base, body, cells, moment)?;
+        set_variable(cells, walk.globals, walk.base, slot, at as i64);
+        run_body(walk, body, cells)?;
         at += i128::from(step);
     }
     Ok(())
@@ -476,5 +333,13 @@ pub fn walk_frame(
         values: values as u128,
         clocks: clocks as u128,
     };
-    run_within(frames, frames.len(), k, globals, base, cells, moment)
+    let whole = Walk {
+        frames,
+        limit: frames.len(),
+        seats: &[],
+        globals,
+        base,
+        moment,
+    };
+    run_within(&whole, k, base, cells)
 }
