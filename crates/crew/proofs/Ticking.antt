@@ -93,15 +93,16 @@ all_there starts runs ticks h all = record {
 }
 
 -- where one isn't ticked off, its run is missing
-pub lacks : {S : Type 0} (starts runs : List S) (ticks : List Bool) (i : ℕ) (x : S) → IsTicked starts ticks runs → i < length starts → slice_index_or starts i x ≡ x → slice_index_or ticks i false ≡ false → LacksOne starts runs
+lacks : {S : Type 0} (starts runs : List S) (ticks : List Bool) (i : ℕ) (x : S) → IsTicked starts ticks runs → i < length starts → slice_index_or starts i x ≡ x → slice_index_or ticks i false ≡ false → LacksOne starts runs
 lacks starts runs ticks i x h lt here off = (x, (i, lt, here), (λ has. let on : slice_index_or ticks i false ≡ true = h.ticked x has i lt here in cc))
 
 -- the same, whatever stands there
-pub lacks_there : {S : Type 0} (starts runs : List S) (ticks : List Bool) (i : ℕ) → IsTicked starts ticks runs → i < length starts → slice_index_or ticks i false ≡ false → LacksOne starts runs
-lacks_there [] runs ticks i h lt off = absurd (omega (arith, lt))
+pub lacks_there : {S : Type 0} (starts runs : List S) (ticks : List Bool) (i : ℕ) → IsTicked starts ticks runs → i < length ticks → slice_index_or ticks i false ≡ false → LacksOne starts runs
+lacks_there [] runs ticks i h lt off = absurd (omega (arith, lt, h.sized))
 lacks_there (x ∷ xs) runs ticks i h lt off =
+    let inside : i < length (x ∷ xs) = omega (arith, lt, h.sized) in
     let s = slice_index_or (x ∷ xs) i x in
-    lacks (x ∷ xs) runs ticks i s h lt (get_or_default (x ∷ xs) i s x lt) off
+    lacks (x ∷ xs) runs ticks i s h inside (get_or_default (x ∷ xs) i s x inside) off
 
 -- one run more of those that came back
 pub tick_next : {S D : Type 0} (f : D → S) (starts : List S) (got : List D) (n : ℕ) (ended : D) (ticks : List Bool) (place : ℕ) → IsTicked starts ticks (map f (take n got)) → IsDistinct starts
@@ -127,3 +128,13 @@ double_next {S} {D} f starts got n ended ticks place h inside is lt here on =
     let whole : map f (take n got) ++ map f (drop n got) ≡ map f got = sym (map-append f (take n got) (drop n got)) ∙ ap (λ (xs : List D). map f xs) (take-append-drop n got) in
     let before : slice_index_or (map f got) has.0 (f ended) ≡ f ended = subst (λ (xs : List S). slice_index_or xs has.0 (f ended) ≡ f ended) whole (get_or_append_left (map f (take n got)) (map f (drop n got)) (f ended) has.0 has.1 ∙ has.2) in
     (f ended, has.0, n, omega (arith, has.1, few), omega (arith, length-map got f), before, at)
+
+-- one run more of jobs that were handed out
+pub known_next : {S D : Type 0} (f : D → S) (starts : List S) (got : List D) (n : ℕ) (ended : D) (place : ℕ) → (HasStranger starts (map f (take n got)) → ⊥) → n < length got → ended ≡ slice_index_or got n ended
+    → place < length starts → slice_index_or starts place (f ended) ≡ f ended → HasStranger starts (map f (take (n + 1) got)) → ⊥
+known_next {S} {D} f starts got n ended place known inside is lt here (s, has, none) =
+    let more : Contains (map f (take n got) ++ f (slice_index_or got n ended) ∷ []) s = subst (λ (xs : List S). Contains xs s) (map_more f got n ended inside) has in
+    ⊎_elim
+    (λ (a : Contains (map f (take n got)) s). known (s, a, none))
+    (λ (b : Contains (f (slice_index_or got n ended) ∷ []) s). none (subst (λ (z : S). Contains starts z) (ap f is ∙ one (f (slice_index_or got n ended)) s b) (place, lt, here)))
+    (Contains-append_cases (map f (take n got)) (f (slice_index_or got n ended) ∷ []) s more)

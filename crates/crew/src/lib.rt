@@ -3,6 +3,9 @@
 //! A crew is generic in what it runs (`Work`), and its answer has one run of each job that was handed in, in any order. Nobody is told
 //! which thread ran what, so what follows from the runs is the same for every crew.
 //!
+//! Runs that are known by their type alone are ticked off against what was handed out: whether each is of a job of that, none comes twice, and
+//! none is missing.
+//!
 //! Layer base_: it must not know sources, alarms or files.
 #![tactic(auto)]
 
@@ -16,12 +19,16 @@ mod alone;
 mod fault;
 mod gate;
 mod scoped;
+mod starts;
+mod ticks;
 mod work;
 
 pub use alone::Alone;
 pub use fault::CrewFault;
 pub use gate::{BoxedGate, Gate, Ungated};
 pub use scoped::Scoped;
+pub use starts::{Begun, starts_of};
+pub use ticks::{all_known, all_there, begin_ticks, tick_off};
 pub use work::{Work, numbers_rise};
 
 /// Who runs jobs. `J` is a job, `S` what it starts from, `D` a run of it that ended, and `H` the handle that a crew is lent.

@@ -1,10 +1,12 @@
 -- The jobs of a level.
-use Rattle.std.proofs.Common.{◌≡◌, ℕ, zero, ◌+◌, ◌-◌, ◌<◌, Bool, false, replicate, List, [], ◌∷◌, ◌++◌, length, slice_index_or, Contains, Some, refl, sym, ◌∙◌, ap, subst, arith, suc, inl, inr, ⊎_elim, lit<}
+use Rattle.std.proofs.Common.{◌≡◌, ℕ, zero, ◌+◌, ◌-◌, ◌<◌, Bool, false, List, [], ◌∷◌, ◌++◌, length, slice_index_or, Contains, Some, refl, sym, ◌∙◌, ap, subst, map, arith, suc, inl, inr, ⊎_elim, lit<}
 use Rattle.std.specs.Prelude.{slice_get}
 use Rattle.std.proofs.lemmas.Bool.{cases_lt}
 use Rattle.std.proofs.lemmas.List.Elements.{Contains-append_left, Contains-append_right, Contains-append_cases}
 use Rattle.std.proofs.lemmas.Option.{slice_get-get_or, slice_get_within, get_or_from_slice_get, same_Some}
-use Rattle.std.proofs.lemmas.List.{length-replicate, get_or_default}
+use Rattle.std.proofs.lemmas.List.{get_or_default}
+use Rattle.crew.specs.Ticks.{IsTicked}
+use Rattle.slice_store.proofs.Ticks.{all_out}
 use Rattle.crew.specs.Runs.{AreNumbered, IsDistinct}
 use Rattle.logic_cells.specs.Cells.{PlainCells}
 use Rattle.vm_slices.specs.Parts.{PlainPart}
@@ -125,16 +127,10 @@ jobs_numbered cells programs moment jobs h i j d lt inside e =
     let again : i ≡ j = h.distinct i j s before inside at (subst P same there) in
     omega (arith, lt, again)
 
-none_ticked : (n i : ℕ) → slice_index_or (replicate n false) i false ≡ false
-none_ticked zero i = refl
-none_ticked (suc n) zero = refl
-none_ticked (suc n) (suc i) = none_ticked n i
-
--- jobs that are out with a tick each, all off, are ready
-pub ready_out : (cells : PlainCells) (faulted : List Bool) (moment : ℕ) (out : List Begun) (ticks : List Bool) (n : ℕ) → AreJobsOf cells (length faulted) moment out → ticks ≡ replicate n false → n ≡ length out
+-- jobs that are out, none of which is ticked off, are ready
+pub ready_out : (cells : PlainCells) (faulted : List Bool) (moment : ℕ) (jobs out : List Begun) (ticks : List Bool) → AreJobsOf cells (length faulted) moment jobs → out ≡ map (λ (s : Begun). s) jobs → IsTicked out ticks []
     → IsReady cells faulted moment out ticks
-ready_out cells faulted moment out ticks n jobs are many = record {
-  jobs = jobs;
-  sized = ap length are ∙ length-replicate n false ∙ many;
-  clear = λ i within. ap (λ ts. slice_index_or ts i false) are ∙ none_ticked n i;
+ready_out cells faulted moment jobs out ticks h are clear = record {
+  jobs = subst (λ (xs : List Begun). AreJobsOf cells (length faulted) moment xs) (sym (all_out out jobs are)) h;
+  clear = clear;
 }

@@ -5,6 +5,7 @@ use Rattle.std.specs.Result.{is_err}
 use Rattle.std.proofs.lemmas.List.{length-set}
 use Rattle.std.proofs.lemmas.List.Elements.{Contains-append_left, Contains-append_right, Contains-append_cases}
 use Rattle.std.proofs.lemmas.Option.{slice_get-get_or}
+use Rattle.crew.proofs.Ticking.{none_ticked}
 use Rattle.crew.specs.Runs.{IsEachOnce}
 use Rattle.logic_cells.specs.declared.stop.Stop.{Stop}
 use Rattle.logic_cells.specs.declared.clock.Clock.{Clock}
@@ -136,8 +137,7 @@ ready_empty cells faulted moment = record {
     apart = λ s t has. absurd (omega (arith, has.1));
     clocks_apart = λ s t has. absurd (omega (arith, has.1));
   };
-  sized = refl;
-  clear = λ i a. absurd (omega arith);
+  clear = none_ticked [] [] refl (λ i a. absurd (omega arith));
 }
 
 -- a part that is within cells is within cells of their shape

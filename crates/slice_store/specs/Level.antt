@@ -1,6 +1,7 @@
 -- What a gathered level is.
-use Rattle.std.specs.Prelude.{◌≡◌, ℕ, suc, ◌<◌, ◌≤◌, List, length, slice_index_or, slice_get, Contains, Bool, true, false, Some, Result, Ok, Err}
+use Rattle.std.specs.Prelude.{◌≡◌, ℕ, suc, ◌<◌, ◌≤◌, List, [], length, slice_get, Contains, Bool, true, false, Some, Result, Ok, Err}
 use Rattle.crew.specs.Runs.{IsDistinct, IsEachOnce}
+use Rattle.crew.specs.Ticks.{IsTicked}
 use Rattle.logic_cells.specs.declared.stop.Stop.{Stop}
 use Rattle.logic_cells.specs.Cells.{PlainCells}
 use Rattle.acc_vm.specs.Codes.{SameShape}
@@ -83,8 +84,7 @@ pub record AreRunsFrom (store : Stored) (runs : List Begun) : Type 0 where
   pub begin : AreJobsOf store.cells (length store.faulted) store.moment jobs
   pub each_once : IsEachOnce jobs runs
 
--- the jobs that are out are of these cells, and there is a place to tick each off
+-- the jobs that are out are of these cells, and none is ticked off
 pub record IsReady (cells : PlainCells) (faulted : List Bool) (moment : ℕ) (out : List Begun) (ticks : List Bool) : Type 0 where
   pub jobs : AreJobsOf cells (length faulted) moment out
-  pub sized : length ticks ≡ length out
-  pub clear : (i : ℕ) → i < length ticks → slice_index_or ticks i false ≡ false
+  pub clear : IsTicked out ticks []

@@ -3,7 +3,8 @@
 ghost use Rattle.std.specs.Prelude.{◌≡◌, []};
 
 use crate::done::{Done, Run};
-use crate::matching::Out;
+use crate::start::Start;
+use crew::Begun;
 use std::alloc::{AllocError, Global};
 use std::mem::{replace, swap};
 
@@ -11,7 +12,7 @@ use std::mem::{replace, swap};
 /// matter, so contracts see nothing of it.
 pub struct Reserve {
     runs: Vec<Option<Box<Run>>>,
-    out: Vec<Out>,
+    out: Vec<Begun<Start>>,
     ticks: Vec<bool>,
 }
 
@@ -53,7 +54,7 @@ impl Reserve {
     }
 
     /// Takes the memory of a list of what is out.
-    pub(crate) fn take_out(&mut self, alloc: Global) -> Vec<Out> {
+    pub(crate) fn take_out(&mut self, alloc: Global) -> Vec<Begun<Start>> {
         replace(&mut self.out, Vec::new(alloc))
     }
 
@@ -63,7 +64,7 @@ impl Reserve {
     }
 
     /// Keeps the memory of lists that aren't used any more, and leaves empty ones. It allocates nothing.
-    pub(crate) fn keep_lists(&mut self, out: &mut Vec<Out>, ticks: &mut Vec<bool>)
+    pub(crate) fn keep_lists(&mut self, out: &mut Vec<Begun<Start>>, ticks: &mut Vec<bool>)
         ensures out { out.new.items ≡ [] }
         ensures ticks { ticks.new.items ≡ [] }
     {

@@ -1,6 +1,6 @@
 //! The store that jobs are split from and gathered into.
 
-ghost use Rattle.std.specs.Prelude.{◌≡◌, ◌+◌, ◌<◌, ◌^◌, ℕ, [], length, replicate, false, slice_index, slice_index_or, IsTrue, OnOk, IfOk, IfErr};
+ghost use Rattle.std.specs.Prelude.{◌≡◌, ◌+◌, ◌<◌, ◌^◌, ℕ, [], length, false, slice_index, slice_index_or, IsTrue, OnOk, IfOk, IfErr};
 ghost use Rattle.std.specs.Arc.{arc_value};
 ghost use Rattle.slice_store.specs.Level.{TakesRuns, AreJobsOf, AreRunsFrom};
 ghost use Rattle.crew.specs.Runs.{AreNumbered, IsEachOnce};
@@ -11,12 +11,12 @@ ghost use Rattle.slice_store.specs.Starts.{HasNumber, part_of};
 ghost use Rattle.slice_store.specs.Ready.{IsReadyJob};
 
 use crate::done::{Done, Job, Run};
-use crate::matching::{Out, match_up};
+use crate::matching::match_up;
 use crate::misfit::Misfit;
 use crate::parts::Parts;
 use crate::reserve::Reserve;
 use crate::start::Start;
-use crew::Work;
+use crew::{Begun, Work, begin_ticks, starts_of};
 use level_plan::Levels;
 use logic_cells::{Cells, Clock};
 use std::alloc::{AllocError, Global};
@@ -32,7 +32,7 @@ pub struct Store {
     clocks: Vec<Clock>,
     faulted: Vec<bool>,
     moment: u64,
-    out: Vec<Out>,
+    out: Vec<Begun<Start>>,
     ticks: Vec<bool>,
     reserve: Reserve,
 }
@@ -192,28 +192,6 @@ fn make_ready(alloc: Global, run: &mut Run) -> Result<(), AllocError>
         stack.resize(words, 0)?;
     }
     Ok(())
-}
-
-/// The starts of jobs, in the room of others.
-fn starts_of(jobs: &[Job], room: Vec<Out>) -> Result<Vec<Out>, AllocError>
-    ensures { IfOk result (λ out. out.items ≡ jobs.now) }
-{
-    let mut out = room;
-    out.clear();
-    for job in jobs {
-        out.push(Out::new(Arc::try_clone(job.start())?))?;
-    }
-    Ok(out)
-}
-
-/// Ticks for so many jobs, all off, in the room of others.
-fn no_ticks(many: usize, room: Vec<bool>) -> Result<Vec<bool>, AllocError>
-    ensures { IfOk result (λ ticks. ticks.items ≡ replicate many false) }
-{
-    let mut ticks = room;
-    ticks.clear();
-    ticks.resize(many, false)?;
-    Ok(ticks)
 }
 
 impl Store {
@@ -450,6 +428,7 @@ impl Store {
 
     /// Splits a level: begins it, and keeps a list of the jobs that are out, in memory of earlier lists. All jobs that were out have been gathered.
     /// Fails if memory was refused; then none is out.
+    #[tactic(auto, using(crate::proofs::Splitting::ready_out, crate::proofs::Ticks::all_out))]
     pub fn split(
         &mut self,
         alloc: Global,
@@ -468,8 +447,10 @@ impl Store {
         ensures same { SameStore self.new self.old }
     {
         let jobs = self.begin(alloc, parts, levels, level)?;
-        let out = starts_of(jobs.as_slice(), self.reserve.take_out(alloc))?;
-        let ticks = no_ticks(jobs.len(), self.reserve.take_ticks(alloc))?;
+        let room = self.reserve.take_out(alloc);
+        let out = starts_of::<Job, Start, Done>(jobs.as_slice(), room)?;
+        let mut ticks = self.reserve.take_ticks(alloc);
+        begin_ticks(out.as_slice(), &mut ticks)?;
         self.out = out;
         self.ticks = ticks;
         Ok(jobs)

@@ -1,2 +1,2 @@
 pub mod RunFaults
-pub mod Ticks
+pub mod Gathering

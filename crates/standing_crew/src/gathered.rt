@@ -4,10 +4,8 @@ ghost use Rattle.crew.specs.Runs.{IsDistinct, IsEachOnce};
 ghost use Rattle.crew.specs.Ticks.{IsTicked};
 ghost use Rattle.standing_crew.specs.Assembled.{IsCollectFault, IsGathered};
 
-use crate::Begun;
-use crate::assembly::{all_there, begin_ticks, tick_off};
 use crate::message::{Lists, keep_lists, run_back};
-use crew::{CrewFault, Gate, Work};
+use crew::{Begun, CrewFault, Gate, Work, all_there, begin_ticks, tick_off};
 use std::alloc::Global;
 
 /// The runs that came back so far, each ticked off, how many messages are away, the first fault, and lists that serve a later message.
@@ -51,7 +49,7 @@ pub fn assemble<J: Work<S, D>, S: Drop, D: Drop>(
 }
 
 /// Ticks off the runs from a place on, where those before it are ticked off. The first is sought near the start of a place.
-#[tactic(auto, using(crate::proofs::Ticks::still_gathered))]
+#[tactic(auto, using(crate::proofs::Gathering::still_gathered))]
 fn tick_rest<J: Work<S, D>, S: Drop, D>(
     starts: &[Begun<S>],
     from: usize,
@@ -124,7 +122,7 @@ fn run_more<J: Work<S, D>, S: Drop, D: Drop, G: Gate>(
 }
 
 /// Takes in runs that came back of jobs that were handed out together, the first near the start of a place. After a fault they are dropped.
-#[tactic(auto, using(crate::proofs::Ticks::was_ticked))]
+#[tactic(auto, using(crate::proofs::Gathering::was_ticked))]
 pub(crate) fn take_in<J: Work<S, D>, S: Drop, D: Drop>(
     starts: &[Begun<S>],
     lists: Lists<J, D>,
@@ -144,7 +142,7 @@ pub(crate) fn take_in<J: Work<S, D>, S: Drop, D: Drop>(
 }
 
 /// Runs jobs that were handed out together, the first near the start of a place, and takes in their runs. After a fault they are given up.
-#[tactic(auto, using(crate::proofs::Ticks::was_ticked))]
+#[tactic(auto, using(crate::proofs::Gathering::was_ticked))]
 pub(crate) fn run_in<J: Work<S, D>, S: Drop, D: Drop, G: Gate>(
     gate: &G,
     starts: &[Begun<S>],
@@ -164,8 +162,25 @@ pub(crate) fn run_in<J: Work<S, D>, S: Drop, D: Drop, G: Gate>(
     }
 }
 
+/// Whether there is a run of each job, where those that came back are ticked off; else `Lost`.
+#[tactic(auto, using(crate::proofs::Gathering::lost_told))]
+fn none_lost<J: Work<S, D>, S, D>(
+    starts: &[Begun<S>],
+    got: &[D],
+    ticks: &[bool],
+) -> Result<(), CrewFault>
+    requires { IsTicked starts.now ticks.now (map J.ended_from got.now) }
+    ensures { MatchResult result (λ _. IsEachOnce starts.now (map J.ended_from got.now))
+        (λ fault. IsCollectFault starts.now (map J.ended_from got.now) fault) }
+{
+    if !all_there::<J, S, D>(starts, got, ticks) {
+        return Err(CrewFault::Lost);
+    }
+    Ok(())
+}
+
 /// Whether there is a run of each job that was handed out; else the first fault, or `Lost`.
-#[tactic(auto, using(crate::proofs::Ticks::was_ticked, crate::proofs::Ticks::fault_told))]
+#[tactic(auto, using(crate::proofs::Gathering::was_ticked, crate::proofs::Gathering::fault_told))]
 pub(crate) fn gathered_all<J: Work<S, D>, S, D>(
     starts: &[Begun<S>],
     gathered: &Gathered<J, D>,
@@ -177,7 +192,7 @@ pub(crate) fn gathered_all<J: Work<S, D>, S, D>(
 {
     match gathered.fault {
         None => {
-            all_there::<J, S, D>(starts, gathered.runs.as_slice(), gathered.ticks.as_slice())
+            none_lost::<J, S, D>(starts, gathered.runs.as_slice(), gathered.ticks.as_slice())
         }
         Some(fault) => Err(fault),
     }

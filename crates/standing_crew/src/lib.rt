@@ -7,14 +7,12 @@
 //! Layer base_: it must not know sources, alarms or files.
 #![tactic(auto)]
 
-mod assembly;
 mod gathered;
 mod message;
 mod share;
 mod standing;
-mod starts;
 mod waiting;
 
+pub use crew::{Begun, starts_of};
 pub use gathered::assemble;
 pub use standing::Standing;
-pub use starts::{Begun, starts_of};

@@ -7,14 +7,12 @@ ghost use Rattle.crew.specs.Ticks.{IsTicked};
 ghost use Rattle.standing_crew.specs.Assembled.{IsGathered, IsLost, IsMemoryOrNone};
 ghost use Rattle.standing_crew.specs.Standings.{lost_after, IsAsBefore, IsByItself, IsNew, IsRefused, IsRunFault, IsStartFault};
 
-use crate::assembly::begin_ticks;
 use crate::gathered::{Gathered, gathered_all, run_in, take_in};
 use crate::message::{Lists, Parcel, ReturnedRuns, lists_of, move_last, run_all, run_back};
 use crate::share::{LEAST_ROUND, cost_of, cut, kept, own_of, share_of};
-use crate::starts::{Begun, starts_of};
 use crate::waiting::next_of;
 use base_trace::Remembered;
-use crew::{Crew, CrewFault, Gate, Work};
+use crew::{Begun, Crew, CrewFault, Gate, Work, begin_ticks, starts_of};
 use crossbeam_channel::{Receiver, SendError, Sender};
 use std::alloc::{AllocError, Global};
 use std::marker::Model;

@@ -1,29 +1,25 @@
-use Rattle.std.proofs.Common.{refl, arith}
-use Rattle.std.proofs.lemmas.Grind.{common_steps}
-use Rattle.crew.specs.Ticks.{IsTicked}
-use Rattle.crew.proofs.Ticking.{no_stranger, no_double, lacks_there}
+use Rattle.std.proofs.Common.{◌⊎◌, List, refl}
+use Rattle.crew.specs.Runs.{IsEachOnce}
+use Rattle.crew.specs.Ticks.{HasStranger, HasDouble, LacksOne, IsTicked}
+use Rattle.crew.proofs.Ticking.{no_stranger, no_double}
+use Rattle.slice_store.specs.Starts.{Begun}
+use Rattle.slice_store.proofs.Ticks.{of_runs}
 use Rattle.slice_store.proofs.matching.match_up.Goals as goal
 
-pub returns-then-not-all_ticked : goal.returns-then-not-all_ticked
-returns-then-not-all_ticked c =
-    let t : IsTicked c.args.out.now c.tick_off.new.ticks c.args.runs.now = c.if-not-tick_off.ensures.ticked refl in
-    let off = c.if-not-all_ticked.ensures.one refl in (
-      no_stranger c.args.out.now c.args.runs.now (c.if-not-all_known.ensures.known refl),
-      no_double c.args.runs.now t.once,
-      lacks_there c.args.out.now c.args.runs.now c.tick_off.new.ticks off.0 t (omega (arith, off.1, c.if-not-tick_off.ensures.size)) off.2,
+pub misfit_of-requires : goal.misfit_of-requires
+misfit_of-requires c =
+    of_runs (λ (xs : List Begun). HasStranger c.args.out.now xs ⊎ HasDouble xs) c.args.runs.now (c.if-not-tick_off.ensures.misfit refl)
+
+pub returns-then-not-all_there : goal.returns-then-not-all_there
+returns-then-not-all_there c =
+    let out = c.args.out.now in
+    let runs = c.args.runs.now in
+    let t : IsTicked out c.tick_off.new.ticks runs = of_runs (λ (xs : List Begun). IsTicked out c.tick_off.new.ticks xs) runs (c.if-not-tick_off.ensures.ticked refl) in
+    let lacking : LacksOne out runs = of_runs (λ (xs : List Begun). LacksOne out xs) runs (c.if-not-all_there.ensures.one refl) in (
+      no_stranger out runs t.known,
+      no_double runs t.once,
+      lacking,
     )
 
-pub returns-then-not-tick_off : goal.returns-then-not-tick_off
-returns-then-not-tick_off c = grind (arith, common_steps)
-
 pub returns : goal.returns
-returns c = grind (arith, common_steps)
-
-pub returns-then-not-all_known : goal.returns-then-not-all_known
-returns-then-not-all_known c = grind (arith, common_steps)
-
-pub tick_off-requires-clause-known : goal.tick_off-requires-clause-known
-tick_off-requires-clause-known c = grind (arith, common_steps)
-
-pub tick_off-requires-clause-distinct : goal.tick_off-requires-clause-distinct
-tick_off-requires-clause-distinct c = grind (arith, common_steps)
+returns c = of_runs (λ (xs : List Begun). IsEachOnce c.args.out.now xs) c.args.runs.now (c.if-not-all_there.ensures.all refl)

@@ -4,7 +4,7 @@ use Rattle.crew.specs.Runs.{IsDistinct, IsEachOnce}
 use Rattle.crew.proofs.Same.{distinct}
 use Rattle.standing_crew.specs.Standings.{IsRunFault}
 use Rattle.standing_crew.proofs.RunFaults.{shared_fault}
-use Rattle.standing_crew.proofs.Ticks.{parted}
+use Rattle.standing_crew.proofs.Gathering.{parted}
 use Rattle.standing_crew.proofs.standing.Standing.round.Goals as goal
 
 pub run_shared-requires : goal.run_shared-requires

@@ -4,7 +4,7 @@ use Rattle.std.proofs.lemmas.Grind.{common_steps}
 use Rattle.crew.specs.Runs.{IsDistinct, IsEachOnce}
 use Rattle.standing_crew.specs.Assembled.{IsCollectFault}
 use Rattle.standing_crew.specs.Standings.{IsRefused}
-use Rattle.standing_crew.proofs.Ticks.{handed_gathered, if_ok, joined_once, second_distinct}
+use Rattle.standing_crew.proofs.Gathering.{handed_gathered, if_ok, joined_once, second_distinct}
 use Rattle.standing_crew.proofs.standing.Standing.run_shared.Goals as goal
 
 pub gather-requires-clause-distinct : goal.gather-requires-clause-distinct

@@ -1,6 +1,0 @@
-use Rattle.std.proofs.Common.{arith}
-use Rattle.std.proofs.lemmas.Grind.{common_steps}
-use Rattle.standing_crew.proofs.assembly.place_of.Goals as goal
-
-pub returns-then-is_run_of : goal.returns-then-is_run_of
-returns-then-is_run_of g c = grind (arith, common_steps)
