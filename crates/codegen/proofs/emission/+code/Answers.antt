@@ -14,6 +14,7 @@ use Rattle.st_tree.proofs.Depth.{size-If, size-Case, size-For}
 use Rattle.st_tree.proofs.Views.{view_stmt-Store, view_stmt-Call, view_stmt-If, view_stmt-Case, view_stmt-For, view_branch_is, view_choice_is}
 use Rattle.plant_types.specs.Values.{Path}
 use Rattle.logic_walk.specs.declared.frame.Base.{Base}
+use Rattle.logic_walk.specs.declared.frame.Frame.{Frame}
 use Rattle.logic_walk.specs.Frames.{InTurn, frame_paths, routine_paths}
 use Rattle.logic_walk.proofs.Firsts.{paths_is}
 use Rattle.logic_walk.proofs.Ranks.{frame_at, frame_less}
@@ -106,8 +107,8 @@ emit_enter-returns-in-Standard t c =
     let at = seat_at c.args.scope.now.seats.now c.args.instance c.in-Some.seat.now (sym c.in-Some.ensures.lookup.0) c.in-Some.ensures.lookup.1 in
     subst (λ z. IfOk c.emit_standard.result (λ x. c.emit_standard.new.out.items ≡ c.args.out.now.items ++ z)) (entered_standard c.args.scope.now c.args.place c.args.instance c.in-Some.seat.now c.args.pc at c.in-Standard.of c.in-Standard.is) c.emit_standard.ensures
 
-pub emit_enter-overflow_add-scope : goal.emit_enter-overflow_add-scope
-emit_enter-overflow_add-scope t c =
+pub emit_enter-overflow_add-placed : goal.emit_enter-overflow_add-placed
+emit_enter-overflow_add-placed t c =
     let s = c.args.scope.now in
     let seat = c.in-Some.seat.now in
     let at = seat_at s.seats.now c.args.instance seat (sym c.in-Some.ensures.lookup.0) c.in-Some.ensures.lookup.1 in
@@ -156,42 +157,50 @@ emit_enter-returns-in-None t c =
 pub emit_frame-emit_body-requires : goal.emit_frame-emit_body-requires
 emit_frame-emit_body-requires t c =
     let p = c.args.placed.now in
+    let frame = c.index-placed-placed.result in
+    let is = c.index-placed-placed.is in
+    let seats : c.deref.result.now ≡ frame.seats.items = c.deref.ensures.value ∙ ap (λ (f : Frame). f.seats.items) (sym is) in
+    let body : c.deref-2.result.now ≡ frame.body.items = c.deref-2.ensures.value ∙ ap (λ (f : Frame). f.body.items) (sym is) in
     let frames = p.frames.now in
     let inside : p.number < length frames = let w = c.requires.placed.lines.within in let h = c.requires.placed.there in omega arith in
-    let less = frame_less frames p.limit p.number c.index.result c.deref-2.result.now c.requires.placed.there inside c.index.is c.deref-2.ensures.value in
-    let at = frame_at frames p.number c.index.result inside c.index.is in
-    let all = ap (λ (l : List Path). length l) (paths_is frames p.limit p.number c.index.result c.requires.placed.there at) in
-    let own = ap (λ seats. length (routine_paths (frame_paths frames p.number) seats)) c.deref.ensures.value in
+    let less = frame_less frames p.limit p.number frame c.deref-2.result.now c.requires.placed.there inside is body in
+    let at = frame_at frames p.number frame inside is in
+    let all = ap (λ (l : List Path). length l) (paths_is frames p.limit p.number frame c.requires.placed.there at) in
+    let own = ap (λ s. length (routine_paths (frame_paths frames p.number) s)) seats in
     let front = take p.number p.table.now in
     let long =
-    (λ i. body_lines (c.deref.ensures.value i) (lines_at front) (view_body (c.deref-2.ensures.value i)))
-    ∙ frame_long frames p.limit p.number c.index.result c.requires.placed.there at front (front_lines frames p.limit p.number p.table.now c.requires.placed.there c.requires.placed.lines) in
+    (λ i. body_lines (seats i) (lines_at front) (view_body (body i)))
+    ∙ frame_long frames p.limit p.number frame c.requires.placed.there at front (front_lines frames p.limit p.number p.table.now c.requires.placed.there c.requires.placed.lines) in
     let inner = frame_there fits fits p.globals frames p.number in
     let names =
-    (λ i. body_known (there fits fits p.globals inner (c.deref.ensures.value i) p.base) (view_body (c.deref-2.ensures.value i)))
-    ∙ ap (λ (f : Base → Bool). f p.base) (sym (reached_is fits fits p.globals frames p.limit p.number c.index.result c.requires.placed.there at)) ∙ c.requires.placed.named in (
+    (λ i. body_known (there fits fits p.globals inner (seats i) p.base) (view_body (body i)))
+    ∙ ap (λ (f : Base → Bool). f p.base) (sym (reached_is fits fits p.globals frames p.limit p.number frame c.requires.placed.there at)) ∙ c.requires.placed.named in (
       omega (arith, less),
       (
         record {
           lines = laid_before frames p.limit p.number p.table.now c.requires.placed.there c.requires.placed.lines;
           bases = (omega (arith, c.requires.placed.there, c.requires.placed.bases.0), omega (arith, c.requires.placed.there, c.requires.placed.bases.1));
           paths = omega (arith, all, own, c.requires.placed.paths);
-          own = subst (InTurn (frame_paths frames p.number)) (sym c.deref.ensures.value) (c.requires.placed.in_turn p.number c.index.result at);
+          own = subst (InTurn (frame_paths frames p.number)) (sym seats) (c.requires.placed.in_turn p.number frame at);
           in_turn = c.requires.placed.in_turn;
           steady = c.requires.placed.steady;
         },
-        (subst (λ x. SteadyBody (view_body x)) (sym c.deref-2.ensures.value) (c.requires.placed.steady p.number c.index.result at), (names, omega (arith, long, c.requires.long))),
+        (subst (λ x. SteadyBody (view_body x)) (sym body) (c.requires.placed.steady p.number frame at), (names, omega (arith, long, c.requires.long))),
       ),
     )
 
 pub emit_frame-returns : goal.emit_frame-returns
 emit_frame-returns t c =
     let p = c.args.placed.now in
+    let frame = c.index-placed-placed.result in
+    let is = c.index-placed-placed.is in
+    let seats : c.deref.result.now ≡ frame.seats.items = c.deref.ensures.value ∙ ap (λ (f : Frame). f.seats.items) (sym is) in
+    let body : c.deref-2.result.now ≡ frame.body.items = c.deref-2.ensures.value ∙ ap (λ (f : Frame). f.body.items) (sym is) in
     let inside : p.number < length p.frames.now = let w = c.requires.placed.lines.within in let h = c.requires.placed.there in omega arith in
-    let at = frame_at p.frames.now p.number c.index.result inside c.index.is in
-    let coded = frame_coded p.frames.now p.limit p.number p.table.now c.requires.placed.there c.requires.placed.lines p.globals c.index.result p.base p.path c.args.pc at in
+    let at = frame_at p.frames.now p.number frame inside is in
+    let coded = frame_coded p.frames.now p.limit p.number p.table.now c.requires.placed.there c.requires.placed.lines p.globals frame p.base p.path c.args.pc at in
     let same =
-    (λ i. codes.body_code p.globals (c.deref.ensures.value i) (lines_at (take p.number p.table.now)) (coders p.globals p.frames.now p.number) p.base p.path (view_body (c.deref-2.ensures.value i)) c.args.pc) ∙ coded in
+    (λ i. codes.body_code p.globals (seats i) (lines_at (take p.number p.table.now)) (coders p.globals p.frames.now p.number) p.base p.path (view_body (body i)) c.args.pc) ∙ coded in
     subst (λ z. IfOk c.emit_body.result (λ x. c.emit_body.new.out.items ≡ c.args.out.now.items ++ z)) same c.emit_body.ensures
 
 pub emit_stmt-emit_branches-requires : goal.emit_stmt-emit_branches-requires
