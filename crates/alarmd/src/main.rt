@@ -16,6 +16,7 @@ mod greeting;
 mod missing;
 mod plants;
 mod prints;
+mod shelves;
 mod telling;
 mod watching;
 mod words;

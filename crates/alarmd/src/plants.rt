@@ -64,6 +64,7 @@ pub fn check<R: Files + Print + Eprint + Threads + AllocGlobal + Sync>(
     let mut sink = Writing::new(io::writer(rt));
     let mut telling = Telling::new(
         rt,
+        path,
         if is_terminal {
             OfAccepted::Listing
         } else {
@@ -109,7 +110,7 @@ fn serve_by<
     let mut ends = Ends {
         feed: Reading::new(rt.reader()),
         sink: Watching::new(rt, Writing::new(io::writer(rt)), looker),
-        listener: Telling::new(rt, of_served(&kept, "scan 0", is_terminal)),
+        listener: Telling::new(rt, path, of_served(&kept, "scan 0", is_terminal)),
     };
     let files = PlantFiles {
         folder: &Disk { files: rt },
@@ -162,7 +163,7 @@ pub fn serve_example<R: Files + Input + Print + Eprint + Threads + Wait + AllocG
     let mut ends = Ends {
         feed: Reading::new(rt.reader()),
         sink: Watching::new(rt, Writing::new(io::writer(rt)), looker),
-        listener: Telling::new(rt, of_served(&kept, "scan 0 a=5", is_terminal)),
+        listener: Telling::new(rt, "", of_served(&kept, "scan 0 a=5", is_terminal)),
     };
     let run = run(rt, rt.alloc(), &mut Alone, &texts, &mut ends);
     ended(rt, run, ends.feed.error(), ends.sink.to.error())

@@ -1,10 +1,14 @@
 //! What a person is told of a plant on standard error.
 
+ghost use Rattle.std.specs.Prelude.{◌≢◌};
+ghost use Rattle.plant_config.specs.declared.fault.ConfigFault.TheVariants as config_fault;
+
 use crate::copies::KeptSources;
 use crate::greeting::greet;
 use crate::missing::why_missing;
+use crate::shelves::Ordinary;
 use explain_listing::listing;
-use explain_plant::{Warner, explain_all, warn};
+use explain_plant::{Warner, explain_all, explain_from, explain_missing, warn};
 use explain_statements::statement_table;
 use plant_config::{ConfigFault, Observer, Plant, Unit};
 use serve_runs::{Folder, Listener, PlantTexts};
@@ -44,12 +48,32 @@ fn told_of_plant(
     Ok(text)
 }
 
+/// Why a plant is refused that is read from files: where its own file is, also what is wrong in those that it lists.
+fn told_of_files<R: Files>(
+    rt: &R,
+    alloc: Global,
+    texts: &PlantTexts<'_>,
+    fault: &ConfigFault,
+) -> Result<String, AllocError>
+    requires { fault.now ≢ config_fault.Memory }
+{
+    match fault {
+        ConfigFault::NotToml(_) | ConfigFault::PlantFile(_) => {
+            let shelf = Ordinary { files: rt };
+            explain_from(alloc, &shelf, texts.path, texts.plant, fault)
+        }
+        _ => explain_all(alloc, texts, fault),
+    }
+}
+
 /// A listener that keeps what a person is to be told of a plant, until the plant's line has been written: why it is refused, or where that is asked for,
 /// what there is in an accepted one, and what is likely to be wrong in it. How to begin it tells at once, since no line is written for a plant that is served;
 /// and so it does why a plant is refused that is to take the place of the one that is served.
 #[derive(Drop)]
 pub struct Telling<'a, R: Files> {
     rt: &'a R,
+    /// The path of the plant file, where the plant is read from files.
+    path: &'a str,
     of_accepted: OfAccepted<'a>,
     /// Whether a plant has been accepted, which is served if that was asked for.
     has_accepted: bool,
@@ -62,10 +86,12 @@ pub struct Telling<'a, R: Files> {
 }
 
 impl<'a, R: Files> Telling<'a, R> {
-    /// A listener that has heard nothing. Of an accepted plant it tells what is asked for here.
-    pub fn new(rt: &'a R, of_accepted: OfAccepted<'a>) -> Telling<'a, R> {
+    /// A listener that has heard nothing, of a plant that is read from files by the path of its plant file; an empty one where it isn't. Of an accepted plant it
+    /// tells what is asked for here.
+    pub fn new(rt: &'a R, path: &'a str, of_accepted: OfAccepted<'a>) -> Telling<'a, R> {
         Telling {
             rt,
+            path,
             of_accepted,
             has_accepted: false,
             warner: None,
@@ -112,13 +138,21 @@ impl<'a, R: Files + Eprint> Listener for Telling<'a, R> {
     }
 
     fn refused(&mut self, alloc: Global, texts: &PlantTexts<'_>, fault: &ConfigFault) {
-        self.text = explain_all(alloc, texts, fault).ok();
         if self.has_accepted {
+            self.text = explain_all(alloc, texts, fault).ok();
             tell_text(self.rt, &self.text);
+        } else {
+            self.text = told_of_files(self.rt, alloc, texts, fault).ok();
         }
     }
 
     fn missing<F: Folder>(&mut self, alloc: Global, _folder: &F, path: &str, name: &str) {
-        self.text = why_missing(self.rt, alloc, path, name).ok();
+        let mut told = why_missing(self.rt, alloc, path, name).ok();
+        let shelf = Ordinary { files: self.rt };
+        let rest = explain_missing(alloc, &shelf, self.path, name);
+        if let (Some(text), Ok(rest)) = (told.as_mut(), rest) {
+            let _ = text.push_str(rest.as_str());
+        }
+        self.text = told;
     }
 }

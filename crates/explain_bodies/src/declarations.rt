@@ -45,10 +45,11 @@ impl<'t> Teller<'t> {
 
     /// Tells of a VAR_EXTERNAL whose global isn't there or is of another kind.
     fn external(&mut self, name: &'t Text, number: usize, sort: &Sort) {
-        if self.plant.doubts(name) {
+        let is_global = self.body.scope.is_global(name);
+        if self.plant.doubts(name) || !is_global && self.plant.unknown.globals {
             return;
         }
-        if !self.body.scope.is_global(name) {
+        if !is_global {
             let entries = self.plant.entries.as_slice();
             let hint = nearest_global(entries, name.as_str(), None).hint();
             let texts = ["no global is called @, which VAR_EXTERNAL names", hint.0];
@@ -70,7 +71,7 @@ impl<'t> Teller<'t> {
 
     /// Tells of a word in the place of a block or a kind that names neither.
     fn tell_no_type(&mut self, word: &'t Text, number: usize) {
-        if self.plant.doubts(word) || !self.takes(NAMES) {
+        if self.plant.doubts(word) || self.plant.unknown.blocks || !self.takes(NAMES) {
             return;
         }
         let hint = type_hint(self.plant, word.as_str());
@@ -89,7 +90,7 @@ impl<'t> Teller<'t> {
         } else if has_value {
             let why = "is a block, and its instances have no initial value";
             self.say_at(KINDS, number, why);
-        } else if self.told.refused == BrokenRule::Blocks {
+        } else {
             self.circle(word, number);
         }
     }
@@ -97,8 +98,14 @@ impl<'t> Teller<'t> {
     /// Tells of a block whose instances lead back to the block that declares one.
     fn circle(&mut self, word: &'t Text, number: usize) {
         let (name, block) = (self.body.name, word.as_str());
+        let is_sought = self.told.refused == Some(BrokenRule::Blocks) || self.blocks_left > 0;
+        if !is_sought || !self.is_block || !self.takes(CIRCLES) {
+            return;
+        }
         let leads = leads_back(self.plant, word, name);
-        if self.told.got(leads) != Some(true) {
+        let (is_circle, blocks) = self.told.got(leads).unwrap_or((false, 0));
+        self.blocks_left = self.blocks_left.saturating_sub(blocks);
+        if !is_circle {
             return;
         }
         let text = if same_word(name.as_bytes(), block.as_bytes()) {

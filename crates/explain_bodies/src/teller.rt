@@ -43,6 +43,8 @@ pub struct Teller<'t> {
     pub cursor: Cursor<'t>,
     /// The names of the unit.
     pub body: Body<'t>,
+    /// Whether the unit is a block.
+    pub is_block: bool,
     /// The variables of the FORs around the statement.
     pub controls: Vec<&'t Text>,
     /// The names that the unit uses and that aren't there, and the number of the mistake at which each is told.
@@ -51,6 +53,8 @@ pub struct Teller<'t> {
     /// The inputs and outputs that the call names.
     pub given: Names,
     pub told: Told,
+    /// How many more blocks are looked at for circles, where the plant isn't refused for one.
+    pub blocks_left: usize,
 }
 
 impl<'t> Teller<'t> {

@@ -2,17 +2,20 @@
 
 use crate::teller::Teller;
 use base_words::Names;
-use explain_trees::{Body, BrokenRule, Cursor, Mistake, Source, Told, Trees, steps_of};
+use explain_trees::{Body, BrokenRule, Cursor, Mistake, Parsed, Told, Trees, steps_of};
 use st_names::SharedNames;
-use st_parser::{Pou, Section, Unit};
+use st_parser::{Pou, PouKind, Section, Unit};
 use std::alloc::{AllocError, Global};
+
+/// So many blocks are looked at for circles, where the plant isn't refused for one.
+const MOST_BLOCKS: usize = 20_000;
 
 impl<'t> Teller<'t> {
     /// Begins a unit of a name that declares these sections itself.
-    fn begin(&mut self, name: &'t str, sections: &'t [Section]) {
+    fn begin(&mut self, name: &'t str, sections: &'t [Section], is_open: bool) {
         self.missing = Names::new(self.alloc);
         self.kept.clear();
-        let body = Body::new(self.plant, name, sections);
+        let body = Body::new(self.plant, name, sections, is_open);
         if let Some(body) = self.told.got(body) {
             self.body = body;
         }
@@ -22,7 +25,9 @@ impl<'t> Teller<'t> {
     fn pou(&mut self, pou: &'t Pou) {
         let number = self.cursor.pass_name(&pou.name);
         self.shared_name(&pou.name, number);
-        self.begin(pou.name.as_str(), &pou.sections);
+        let is_open = self.plant.unknown.has_owner(self.source);
+        self.is_block = matches!(pou.kind, PouKind::Block);
+        self.begin(pou.name.as_str(), &pou.sections, is_open);
         self.sections(&pou.sections);
         let steps = steps_of(self.alloc, &pou.body);
         if let Some(steps) = self.told.got(steps) {
@@ -34,7 +39,7 @@ impl<'t> Teller<'t> {
 
     /// Walks the globals of a source and its blocks and programs, these until as many mistakes are found as are told.
     fn unit(&mut self, unit: &'t Unit) {
-        self.begin("VAR_GLOBAL", &[]);
+        self.begin("VAR_GLOBAL", &[], false);
         self.sections(&unit.globals);
         for pou in &unit.pous {
             if self.told.is_full() {
@@ -46,19 +51,24 @@ impl<'t> Teller<'t> {
 }
 
 /// The mistakes of a plant's units.
-fn mistakes_in<'t>(plant: &'t Trees<'t>, refused: BrokenRule) -> Result<Vec<Mistake>, AllocError> {
+fn mistakes_in<'t>(
+    plant: &'t Trees<'t>,
+    refused: Option<BrokenRule>,
+) -> Result<Vec<Mistake>, AllocError> {
     let alloc = plant.alloc;
     let mut teller = Teller {
         alloc,
         plant,
         source: 0,
         cursor: Cursor::new(b"", &[]),
-        body: Body::new(plant, "", &[])?,
+        body: Body::new(plant, "", &[], false)?,
+        is_block: false,
         controls: Vec::new(alloc),
         missing: Names::new(alloc),
         kept: Vec::new(alloc),
         given: Names::new(alloc),
         told: Told::new(alloc, refused),
+        blocks_left: MOST_BLOCKS,
     };
     for (number, source) in plant.sources.iter().enumerate() {
         if let Some(unit) = plant.units.get(number) {
@@ -74,24 +84,22 @@ fn mistakes_in<'t>(plant: &'t Trees<'t>, refused: BrokenRule) -> Result<Vec<Mist
 /// The mistakes of units whose names are known.
 fn in_units(
     alloc: Global,
-    sources: &[Source<'_>],
-    units: &[Unit],
+    parsed: Parsed<'_>,
     shared: &SharedNames<'_>,
-    refused: BrokenRule,
+    refused: Option<BrokenRule>,
 ) -> Result<Vec<Mistake>, AllocError> {
     let standard = SharedNames::new(alloc, &[])?;
-    let plant = Trees::new(alloc, sources, units, shared, &standard)?;
+    let plant = Trees::new(alloc, parsed, shared, &standard)?;
     mistakes_in(&plant, refused)
 }
 
-/// What is wrong in the units of the sources of a plant, that is refused by a rule: first the first mistake that breaks this rule, and then the others in
-/// order of text, 20 in all at most.
+/// What is wrong in the units of the sources of a plant, as far as these are known, in order of text, 20 mistakes in all at most. Where the plant is refused by
+/// a rule, the first mistake that breaks this rule comes first.
 pub fn mistakes(
     alloc: Global,
-    sources: &[Source<'_>],
-    units: &[Unit],
-    refused: BrokenRule,
+    parsed: Parsed<'_>,
+    refused: Option<BrokenRule>,
 ) -> Result<Vec<Mistake>, AllocError> {
-    let shared = SharedNames::new(alloc, units)?;
-    in_units(alloc, sources, units, &shared, refused)
+    let shared = SharedNames::new(alloc, parsed.units)?;
+    in_units(alloc, parsed, &shared, refused)
 }

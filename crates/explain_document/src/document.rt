@@ -287,7 +287,10 @@ impl<'t> Document<'t> {
     fn in_text_of(&mut self, mut text: Vec<u8>) -> Result<(), AllocError> {
         for _ in 0..MOST_LINES {
             let unread = match read(self.alloc, text.as_slice()) {
-                Ok(_) => return Ok(()),
+                Ok(file) => {
+                    drop(file);
+                    return self.in_keys_of(text.as_slice(), &[], false);
+                }
                 Err(PlantFileFault::Memory) => return Err(AllocError),
                 Err(PlantFileFault::Wrong(mistakes)) => return self.in_keys_of(
                     text.as_slice(),

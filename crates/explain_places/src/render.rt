@@ -2,28 +2,22 @@
 
 use crate::place::{TextPlace, line_around, place_of, text_of};
 use explain_tokens::{FileOf, Spot, part};
-use plant_config::Plant;
 use plant_folder::PlantTexts;
-use plant_types::Text;
 use std::alloc::{AllocError, Global};
 
 /// A line with more bytes isn't shown.
 const LONGEST_LINE: usize = 200;
 
-/// The name of a file: the plant file's path as given, another's as the plant file has it.
-fn name_of(alloc: Global, texts: &PlantTexts<'_>, file: FileOf) -> Result<Text, AllocError> {
-    let name = match file {
+/// The name of a file: the plant file's path as given, that of the alarm database, or a source's.
+fn name_of<'t>(texts: &PlantTexts<'t>, alarms: &'t str, file: FileOf) -> &'t str {
+    match file {
         FileOf::Plant => texts.path,
         FileOf::Source(number) => texts
             .sources
             .get(number)
             .map_or("source", |source| source.0),
-        FileOf::Alarms => match Plant::files(alloc, texts.plant) {
-            Ok(files) => return Ok(files.alarms),
-            Err(_) => "alarms",
-        },
-    };
-    Text::from_str(alloc, name)
+        FileOf::Alarms => alarms,
+    }
 }
 
 /// How many characters bytes of UTF-8 are.
@@ -53,10 +47,15 @@ fn excerpt(
     )
 }
 
-/// What is shown of a spot: its file and place with what is said, and the line there with the mark. Control characters are blanks.
-pub fn shown(alloc: Global, texts: &PlantTexts<'_>, spot: &Spot) -> Result<String, AllocError> {
-    let name = name_of(alloc, texts, spot.file)?;
-    let (name, said) = (name.as_str(), spot.cause.said.as_str());
+/// What is shown of a spot, where the alarm database has this name: its file and place with what is said, and the line there with the mark. Control characters
+/// are blanks.
+pub fn shown(
+    alloc: Global,
+    texts: &PlantTexts<'_>,
+    alarms: &str,
+    spot: &Spot,
+) -> Result<String, AllocError> {
+    let (name, said) = (name_of(texts, alarms, spot.file), spot.cause.said.as_str());
     let text = match (spot.cause.mark, place_of(texts, spot)) {
         (Some(mark), Some(TextPlace { line, column })) => {
             let lines = excerpt(alloc, text_of(texts, spot.file), line, mark)?;

@@ -14,11 +14,13 @@
 mod alarms;
 mod fields;
 mod limits;
+mod readable;
 mod rows;
 mod sources;
 mod telling;
 mod warnings;
 
+pub use explain_document::{Shelf, Shelved};
 pub use plant_folder::PlantTexts;
-pub use telling::explain_all;
+pub use telling::{explain_all, explain_from, explain_missing};
 pub use warnings::{Warner, warn};

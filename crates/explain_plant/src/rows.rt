@@ -5,10 +5,10 @@ use crate::fields::{field_of, fields_of_row, last_of};
 use crate::telling::{MOST_FAULTS, Refused};
 use alarm_db::{Column, DatabaseRow, Examined, RowFault, RowMistake, Version, examine};
 use base_words::Names;
-use explain_document::Mark;
+use explain_document::{Mark, areas_of};
 use explain_tokens::part;
 use explain_trees::{entries_of, sources_of, units_of};
-use plant_file::{PlantFileFault, TextSet, read};
+use plant_file::TextSet;
 use plant_types::Kind;
 use st_parser::{Sort, Unit};
 use std::alloc::{AllocError, Global};
@@ -19,7 +19,8 @@ const MOST_COLUMNS: usize = 9;
 /// What the rows of a plant may name.
 #[derive(Drop)]
 struct Known {
-    areas: TextSet,
+    /// The areas; none where they aren't known.
+    areas: Option<TextSet>,
     /// The BOOL globals; none where they aren't known.
     bools: Option<Names>,
 }
@@ -44,8 +45,10 @@ impl Known {
             bools.all(|bools| bools.find(name).is_some())
         };
         let suppress = row.suppress.as_ref();
+        let mut areas = self.areas.iter();
+        let is_area = areas.all(|areas| areas.number(row.area.as_str()).is_some());
         [
-            (Column::Area, self.areas.number(row.area.as_str()).is_none()),
+            (Column::Area, !is_area),
             (Column::Condition, !is_bool(row.condition.as_str())),
             (
                 Column::Suppress,
@@ -236,36 +239,37 @@ impl<'t> Refused<'t> {
         self.tell_rows(units, known, mistakes.as_slice())
     }
 
-    /// What the rows of the plant may name, whose units are right, or spelled rightly; none where the plant file isn't right.
-    fn known(&self, units: &[Unit], are_right: bool) -> Result<Option<Known>, AllocError> {
-        let file = match read(self.alloc, self.plant) {
-            Ok(file) => file,
-            Err(PlantFileFault::Memory) => return Err(AllocError),
-            Err(_) => return Ok(None),
-        };
+    /// What the rows of the plant may name, whose units are right, or spelled rightly.
+    fn known(&self, units: &[Unit], are_right: bool) -> Result<Known, AllocError> {
         let bools = match units {
             [] => None,
             _ => Some(bools_of(self.alloc, units, are_right)?),
         };
-        let areas = file.area_set(self.alloc)?;
-        Ok(Some(Known { areas, bools }))
+        let areas = areas_of(self.alloc, self.plant)?;
+        Ok(Known { areas, bools })
     }
 
     /// Tells what is wrong in the rows of a plant of units that are spelled rightly, but at fault; of what the rows name only the areas where there are no units.
     pub fn in_rows_beside(&mut self, units: &[Unit]) -> Result<(), AllocError> {
-        match self.known(units, false)? {
-            Some(known) => self.in_all_rows(units, &known),
-            None => Ok(()),
+        if !self.has_alarms {
+            return Ok(());
         }
+        let known = self.known(units, false)?;
+        self.in_all_rows(units, &known)
+    }
+
+    /// Tells what is wrong in the rows of a plant whose sources are right but for a limit.
+    pub fn in_rows_of_right(&mut self) -> Result<(), AllocError> {
+        let sources = sources_of(self.alloc, self.sources)?;
+        let units = units_of(self.alloc, sources.as_slice())?;
+        self.in_rows_beside(units.as_slice())
     }
 
     /// Tells of the mistakes in rows for which the plant is refused, whose sources are right; where the header is wrong, also of those below it.
     pub fn in_rows(&mut self, mistakes: &[RowMistake]) -> Result<(), AllocError> {
         let sources = sources_of(self.alloc, self.sources)?;
         let units = units_of(self.alloc, sources.as_slice())?;
-        let Some(known) = self.known(units.as_slice(), true)? else {
-            return Err(AllocError);
-        };
+        let known = self.known(units.as_slice(), true)?;
         match mistakes.first().map(|first| first.fault) {
             Some(RowFault::NoHeader) => self.in_all_rows(units.as_slice(), &known),
             _ => self.tell_rows(units.as_slice(), &known, mistakes),

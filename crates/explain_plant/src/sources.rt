@@ -1,18 +1,29 @@
 //! What is wrong in the sources: in their spelling and their grammar (C4, C5), or in their units (C6 to C9); and behind that in the rows of the alarm database
 //! (C11 to C14).
 
+use crate::readable::Readable;
 use crate::telling::{MOST_FAULTS, REFUSALS, Refused};
 use explain_bodies::{BrokenRule, Mistake, mistakes};
+use explain_document::Mark;
 use explain_limits::too_long;
 use explain_sources::{Reading, misspelled_at, tell, ungrammatical};
 use explain_tokens::{Cause, FileOf, Spot, byte_at, cause_of, part};
-use explain_trees::{sources_of, units_of};
+use explain_trees::{Parsed, Unknown, sources_of, units_of};
 use explain_uses::{OpenComment, swallower};
 use plant_types::Text;
 use std::alloc::{AllocError, Global};
 
 /// So many tokens are read at least, and one more for each byte of the sources.
 const LEAST_TOKENS: usize = 100_000;
+
+/// No source has so many bytes.
+const LONGEST_SOURCE: usize = 16_777_218;
+
+/// The same cause once more.
+fn copy_of(alloc: Global, cause: &Cause) -> Result<Cause, AllocError> {
+    let said = String::from_str(alloc, cause.said.as_str())?;
+    Ok(Cause { said, ..*cause })
+}
 
 impl<'t> Refused<'t> {
     pub fn source_of(&self, name: &Text) -> FileOf {
@@ -32,8 +43,8 @@ impl<'t> Refused<'t> {
         }
     }
 
-    /// Tells what is wrong in the spelling and the grammar of the sources of a plant that is refused for it: first at the place of the refusal, by a line and a
-    /// byte of the line, then in order of text, as far as it is certain, and behind these in the rows of the alarm database.
+    /// Tells what is wrong in the sources of a plant that is refused for their spelling or their grammar: first at the place of the refusal, by a line and a byte
+    /// of the line, and then what `in_all_sources` tells.
     pub fn in_sources(
         &mut self,
         (name, line, column): (&Text, usize, usize),
@@ -49,43 +60,109 @@ impl<'t> Refused<'t> {
         };
         let first = (file, cause.mark);
         self.tell(file, cause)?;
-        let mut starts = Vec::new(alloc);
+        self.in_all_sources(Some(first))
+    }
+
+    /// Tells what is wrong in the spelling and the grammar of the sources, in order of text, as far as it is certain, but for what stands at a place of which it
+    /// is told already; behind these in the units that can be read, and in the rows of the alarm database.
+    pub fn in_all_sources(
+        &mut self,
+        first: Option<(FileOf, Option<Mark>)>,
+    ) -> Result<(), AllocError> {
+        let comments = self.swallowers()?;
+        let mut readable = Readable::new(self.alloc, self.are_all);
         let (causes, tokens) = (MOST_FAULTS, LEAST_TOKENS);
         let mut left = Reading { causes, tokens };
+        let mut found = Vec::new(self.alloc);
         for (number, source) in self.sources.iter().enumerate() {
             left.tokens = left.tokens.saturating_add(source.1.len());
-            let told = tell(alloc, source.1, left)?;
+            let told = tell(self.alloc, source.1, left)?;
             left = told.left;
-            starts.push(told.units)?;
-            let mut causes = told.causes;
-            if let Some(comment) = swallower(alloc, source.1)? {
-                causes.push(comment.cause)?;
-                causes.sort_by_key(|cause: &Cause| cause.mark.map_or(0, |mark| mark.0))?;
-            }
-            for cause in causes {
+            readable.add(number, *source, told.parts)?;
+            for cause in told.causes {
                 let file = FileOf::Source(number);
-                if (file, cause.mark) != first {
-                    self.tell(file, cause)?;
+                if first != Some((file, cause.mark)) {
+                    found.push(Spot { file, cause })?;
                 }
             }
         }
-        self.in_rows_behind(starts.as_slice())
+        let is_wrong = first.is_some() || !found.is_empty();
+        if is_wrong {
+            self.add_comments(comments.as_slice(), &mut found)?;
+        }
+        for spot in found {
+            self.told.push(spot)?;
+        }
+        self.in_readable(&readable, comments.as_slice(), is_wrong)
     }
 
-    /// Tells what is wrong in the rows, whatever the blocks and programs say, which begin at these bytes of the sources; where that isn't certain, or the globals
-    /// may be at fault themselves, nothing of the names in the rows.
-    fn in_rows_behind(&mut self, starts: &[Option<usize>]) -> Result<(), AllocError> {
-        let mut heads = Vec::new(self.alloc);
-        for (source, start) in self.sources.iter().zip(starts) {
-            heads.push((source.0, part(source.1, 0, start.unwrap_or(0))))?;
+    /// Adds the comments that swallow what follows to what was found in sources, in order of text.
+    fn add_comments(
+        &self,
+        comments: &[(usize, OpenComment<'t>)],
+        found: &mut Vec<Spot>,
+    ) -> Result<(), AllocError> {
+        for (number, comment) in comments {
+            let file = FileOf::Source(*number);
+            let cause = copy_of(self.alloc, &comment.cause)?;
+            found.push(Spot { file, cause })?;
         }
-        let sources = sources_of(self.alloc, heads.as_slice())?;
-        let units = units_of(self.alloc, sources.as_slice())?;
-        let are_known = units.len() == heads.len() && !starts.contains(&None);
-        if are_known {
-            return self.in_rows_beside(units.as_slice());
+        found.sort_by_key(|spot: &Spot| {
+            let at = spot.cause.mark.map_or(0, |mark| mark.0);
+            match spot.file {
+                FileOf::Source(number) => number.saturating_mul(LONGEST_SOURCE).saturating_add(at),
+                _ => at,
+            }
+        })?;
+        Ok(())
+    }
+
+    /// Tells what is wrong in the units that can be read, as far as it is certain, and in the rows: not what may be wrong only since something around it can't
+    /// be read, or by comments that swallow what follows, which are told too, unless they are (`is_told`).
+    fn in_readable(
+        &mut self,
+        readable: &Readable<'t>,
+        comments: &[(usize, OpenComment<'t>)],
+        is_told: bool,
+    ) -> Result<(), AllocError> {
+        let parsed = readable.parsed();
+        let found = mistakes(self.alloc, parsed, None)?;
+        let mut names = found.iter();
+        if !is_told && names.any(|mistake| mistake.rule == BrokenRule::Names) {
+            self.add_comments_told(comments)?;
+        }
+        for told in found {
+            let mut mistake = told;
+            let (source, is_mended) = readable.origin(mistake.source);
+            mistake.source = source;
+            let is_open = is_mended && mistake.rule == BrokenRule::Constants;
+            let is_hidden = self.is_hidden(comments, &mistake);
+            if !is_open && !is_hidden && !readable.has_gap(source, mistake.cause.mark) {
+                self.tell(FileOf::Source(source), mistake.cause)?;
+            }
+        }
+        for (part, cause) in too_long(self.alloc, parsed.sources, parsed.units)? {
+            let (source, _) = readable.origin(part);
+            if !readable.has_gap(source, cause.mark) {
+                self.tell(FileOf::Source(source), cause)?;
+            }
+        }
+        if comments.is_empty() && !readable.unknown.globals {
+            return self.in_rows_beside(parsed.units);
         }
         self.in_rows_beside(&[])
+    }
+
+    /// Tells of the comments that swallow what follows.
+    fn add_comments_told(
+        &mut self,
+        comments: &[(usize, OpenComment<'t>)],
+    ) -> Result<(), AllocError> {
+        for (number, comment) in comments {
+            let cause = copy_of(self.alloc, &comment.cause)?;
+            self.tell(FileOf::Source(*number), cause)?;
+        }
+        Ok(())
     }
 
     /// The comments that swallow what follows, the first of each source, by the source's number.
@@ -120,7 +197,13 @@ impl<'t> Refused<'t> {
     ) -> Result<(), AllocError> {
         let sources = sources_of(self.alloc, self.sources)?;
         let units = units_of(self.alloc, sources.as_slice())?;
-        let found = mistakes(self.alloc, sources.as_slice(), units.as_slice(), rule)?;
+        let unknown = Unknown::nothing(self.alloc);
+        let parsed = Parsed {
+            sources: sources.as_slice(),
+            units: units.as_slice(),
+            unknown: &unknown,
+        };
+        let found = mistakes(self.alloc, parsed, Some(rule))?;
         let comments = match rule {
             BrokenRule::Names => self.swallowers()?,
             _ => Vec::new(self.alloc),

@@ -6,11 +6,13 @@ ghost use Rattle.plant_folder.specs.Verdicts.{refusal_line};
 ghost use Rattle.explain_plant.specs.Told.{BeginsWith};
 
 use explain_bodies::BrokenRule;
-use explain_document::{Mark, no_document, wrong_epoch, wrong_keys};
+use explain_document::{
+    Gathered, Mark, Shelf, Shelved, listed, no_document, wrong_epoch, wrong_keys,
+};
 use explain_places::shown;
 use explain_tokens::{Cause, FileOf, Spot, cause_of};
 use explain_trees::filled;
-use plant_config::ConfigFault;
+use plant_config::{ConfigFault, Limit, Plant};
 use plant_folder::PlantTexts;
 use std::alloc::{AllocError, Global};
 
@@ -27,6 +29,11 @@ pub struct Refused<'t> {
     /// The names and texts of the sources.
     pub sources: &'t [(&'t str, &'t [u8])],
     pub alarms: &'t [u8],
+    /// Whether these sources are all, and whether there is an alarm database.
+    pub are_all: bool,
+    pub has_alarms: bool,
+    /// The files that were gathered for what is wrong in them, where the plant file is refused or one of them is missing.
+    gathered: Option<&'t Gathered>,
     pub told: Vec<Spot>,
 }
 
@@ -56,18 +63,53 @@ impl<'t> Refused<'t> {
         Ok(())
     }
 
+    /// Tells which files can't be read, and what is wrong in the others, where the plant file is refused or a file of it is missing.
+    fn in_gathered(&mut self) -> Result<(), AllocError> {
+        let Some(gathered) = self.gathered else {
+            return Ok(());
+        };
+        for missing in &gathered.missing {
+            let has_control = missing.name.chars().any(|c| c.is_control());
+            let more = if has_control {
+                "; in double quotes '\\' begins a sign of its own, and a path is written with '/'"
+            } else {
+                ""
+            };
+            let path = missing.path.as_str();
+            let said = format!(in self.alloc; "this file can't be read: {path}{more}")?;
+            let (mark, page) = (Some(missing.mark), "docs/PLANT.md, \"Reading the files\"");
+            self.tell(FileOf::Plant, Cause { mark, said, page })?;
+        }
+        self.in_all_sources(None)
+    }
+
+    /// Tells where a limit isn't kept, and what is wrong behind that.
+    fn in_limit(&mut self, limit: Limit) -> Result<(), AllocError> {
+        self.past(limit)?;
+        match limit {
+            Limit::Areas | Limit::Consoles => self.in_all_sources(None),
+            Limit::Sources | Limit::Text | Limit::Alarms => Ok(()),
+            _ => self.in_rows_of_right(),
+        }
+    }
+
     /// Tells what is wrong, as far as it is found.
     fn find(&mut self, fault: &ConfigFault) -> Result<(), AllocError> {
         match fault {
             ConfigFault::Memory => Ok(()),
             ConfigFault::NotToml(unread) => {
-                self.in_document(no_document(self.alloc, self.plant, unread)?)
+                self.in_document(no_document(self.alloc, self.plant, unread)?)?;
+                self.in_gathered()
             }
             ConfigFault::PlantFile(mistakes) => {
-                self.in_document(wrong_keys(self.alloc, self.plant, mistakes.as_slice())?)
+                self.in_document(wrong_keys(self.alloc, self.plant, mistakes.as_slice())?)?;
+                self.in_gathered()
             }
-            ConfigFault::Epoch => self.in_document(wrong_epoch(self.alloc, self.plant)?),
-            ConfigFault::Limit(limit) => self.past(*limit),
+            ConfigFault::Epoch => {
+                self.in_document(wrong_epoch(self.alloc, self.plant)?)?;
+                self.in_all_sources(None)
+            }
+            ConfigFault::Limit(limit) => self.in_limit(*limit),
             ConfigFault::Spelling { file, line, column } => {
                 self.in_sources((file, *line, *column), true)
             }
@@ -94,23 +136,36 @@ impl<'t> Refused<'t> {
     }
 }
 
-/// The fault of a refused plant, and further ones that are found with it, 20 at most: of the plant file and of rows in order of text, of sources first the one
-/// for which it is refused, and then the others in order of text, and behind these those of rows.
-fn find_all(
+/// A refused plant of which nothing is told yet, whose files were gathered, or not.
+fn untold<'t>(
     alloc: Global,
-    texts: &PlantTexts<'_>,
-    fault: &ConfigFault,
-) -> Result<Vec<Spot>, AllocError>
-    ensures least { IfOk result (λ found. 1 ≤ length found.items) }
-    ensures most { IfOk result (λ found. length found.items ≤ 20) }
-{
-    let mut refused = Refused {
+    texts: &PlantTexts<'t>,
+    gathered: Option<&'t Gathered>,
+) -> Refused<'t> {
+    Refused {
         alloc,
         plant: texts.plant,
         sources: texts.sources,
         alarms: texts.alarms,
+        are_all: gathered.is_none_or(|gathered| gathered.are_all),
+        has_alarms: gathered.is_none_or(|gathered| gathered.alarms.is_some()),
+        gathered,
         told: Vec::new(alloc),
-    };
+    }
+}
+
+/// The fault of a refused plant, and further ones that are found with it, 20 at most: of the plant file and of rows in order of text, of sources first the one
+/// for which it is refused, and then the others in order of text, and behind these those of rows.
+fn find_all<'t>(
+    alloc: Global,
+    texts: &PlantTexts<'t>,
+    fault: &ConfigFault,
+    gathered: Option<&'t Gathered>,
+) -> Result<Vec<Spot>, AllocError>
+    ensures least { IfOk result (λ found. 1 ≤ length found.items) }
+    ensures most { IfOk result (λ found. length found.items ≤ 20) }
+{
+    let mut refused = untold(alloc, texts, gathered);
     refused.find(fault)?;
     let mut spots = refused.told;
     if spots.is_empty() {
@@ -122,18 +177,38 @@ fn find_all(
     Ok(spots)
 }
 
-/// What is said of faults, each with its place in these texts, and where to read on behind the first one of a page; and how many they are.
-fn all_shown(alloc: Global, texts: &PlantTexts<'_>, spots: &[Spot]) -> Result<String, AllocError> {
+/// The name of the alarm database of a plant file, as far as that can be read.
+pub fn alarms_name(alloc: Global, plant: &[u8]) -> Result<String, AllocError> {
+    match Plant::files(alloc, plant) {
+        Ok(files) => String::from_str(alloc, files.alarms.as_str()),
+        Err(ConfigFault::Memory) => Err(AllocError),
+        Err(_) => {
+            let alarms = listed(alloc, plant)?.alarms;
+            let name = alarms.as_ref().map_or("alarms", |file| file.name.as_str());
+            String::from_str(alloc, name)
+        }
+    }
+}
+
+/// What is said of faults, each with its place in these texts, and where to read on behind the first one of a page; and how many they are with those that were
+/// told before.
+fn all_shown(
+    alloc: Global,
+    texts: &PlantTexts<'_>,
+    spots: &[Spot],
+    before: usize,
+) -> Result<String, AllocError> {
     let mut told = String::new(alloc);
     let mut page = "";
+    let alarms = alarms_name(alloc, texts.plant)?;
     for spot in spots {
-        told.push_str(shown(alloc, texts, spot)?.as_str())?;
+        told.push_str(shown(alloc, texts, alarms.as_str(), spot)?.as_str())?;
         if spot.cause.page != page {
             page = spot.cause.page;
             told.push_str(format!(in alloc; "read on: {page}\n")?.as_str())?;
         }
     }
-    let count = spots.len();
+    let count = spots.len().saturating_add(before);
     let more = match count {
         0 | 1 => return Ok(told),
         MOST_FAULTS => ", and there may be more",
@@ -165,7 +240,77 @@ pub fn explain_all(
     ensures { IfOk result (λ text. BeginsWith (refusal_line fault.now) (string_bytes text)) }
 {
     let line = fault.line(alloc)?;
-    let spots = find_all(alloc, texts, fault)?;
-    let rest = all_shown(alloc, texts, spots.as_slice())?;
+    let spots = find_all(alloc, texts, fault, None)?;
+    let rest = all_shown(alloc, texts, spots.as_slice(), 0)?;
     under(alloc, line.as_str(), rest.as_str())
+}
+
+/// The faults of a plant whose own file is refused, and of the files that it lists, shown.
+fn shown_from<S: Shelf>(
+    alloc: Global,
+    (shelf, path): (&S, &str),
+    plant: &[u8],
+    fault: &ConfigFault,
+) -> Result<String, AllocError> {
+    let gathered = Gathered::of(alloc, (shelf, path), plant)?;
+    let sources = gathered.lent(alloc)?;
+    let texts = PlantTexts {
+        path,
+        plant,
+        sources: sources.as_slice(),
+        alarms: gathered
+            .alarms
+            .as_ref()
+            .map_or(b"".as_slice(), |text| text.as_slice()),
+    };
+    let spots = find_all(alloc, &texts, fault, Some(&gathered))?;
+    all_shown(alloc, &texts, spots.as_slice(), 0)
+}
+
+/// As `explain_all`, of a plant whose own file is refused before others are read. What is certainly wrong in the files that it lists is told too: as far as the
+/// plant file can be read, they are read from a shelf for this, beside the path of the plant file.
+pub fn explain_from<S: Shelf>(
+    alloc: Global,
+    shelf: &S,
+    path: &str,
+    plant: &[u8],
+    fault: &ConfigFault,
+) -> Result<String, AllocError>
+    requires { fault.now ≢ config_fault.Memory }
+    ensures { IfOk result (λ text. BeginsWith (refusal_line fault.now) (string_bytes text)) }
+{
+    let line = fault.line(alloc)?;
+    let told = shown_from(alloc, (shelf, path), plant, fault)?;
+    under(alloc, line.as_str(), told.as_str())
+}
+
+/// What else is wrong in a plant of which a file of a name is missing: further files that are, and what is certainly wrong in the others; and how many faults are
+/// told with the missing file. Nothing where a shelf hasn't the plant file itself by its path.
+pub fn explain_missing<S: Shelf>(
+    alloc: Global,
+    shelf: &S,
+    path: &str,
+    name: &str,
+) -> Result<String, AllocError> {
+    let plant = match shelf.text(alloc, path)? {
+        Shelved::Text(plant) => plant,
+        Shelved::Missing | Shelved::Unread => return Ok(String::new(alloc)),
+    };
+    let mut gathered = Gathered::of(alloc, (shelf, path), plant.as_slice())?;
+    gathered.forget(name);
+    let sources = gathered.lent(alloc)?;
+    let texts = PlantTexts {
+        path,
+        plant: plant.as_slice(),
+        sources: sources.as_slice(),
+        alarms: gathered
+            .alarms
+            .as_ref()
+            .map_or(b"".as_slice(), |text| text.as_slice()),
+    };
+    let mut refused = untold(alloc, &texts, Some(&gathered));
+    refused.in_gathered()?;
+    let mut spots = refused.told;
+    spots.truncate(MOST_FAULTS.saturating_sub(1));
+    all_shown(alloc, &texts, spots.as_slice(), 1)
 }

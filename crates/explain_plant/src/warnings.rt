@@ -1,6 +1,7 @@
 //! What is likely to be wrong in a plant that is accepted.
 
 use crate::fields::Rows;
+use crate::telling::alarms_name;
 use alarm_db::{Column, Version};
 use base_words::Names;
 use explain_places::shown;
@@ -98,10 +99,11 @@ pub fn warn(
     let found = warner.found.ok_or(AllocError)?;
     let mut alarms = Alarms { rows, found };
     alarms.go_through(alloc, plant)?;
+    let name = alarms_name(alloc, texts.plant)?;
     let mut told = String::new(alloc);
     for (source, cause) in alarms.found.end(texts.sources)? {
         let file = source.map_or(FileOf::Alarms, FileOf::Source);
-        told.push_str(shown(alloc, texts, &Spot { file, cause })?.as_str())?;
+        told.push_str(shown(alloc, texts, name.as_str(), &Spot { file, cause })?.as_str())?;
     }
     Ok(told)
 }

@@ -5,6 +5,8 @@
 //! put in, and the unit is read anew. So each further cause stands behind the one before it, in tokens that are those of the source. Where it isn't certain how
 //! to go on, the rest of the unit isn't read. What a byte that begins no token leads to isn't told again.
 //!
+//! The units that can be read then, perhaps with something left out or put in, are kept with their trees (`Parts`), for what else is wrong in them.
+//!
 //! No clause says what is told; that is tried on examples.
 //!
 //! Layer explain_: it must not know events or commands.
@@ -13,11 +15,13 @@
 mod grammar;
 mod holes;
 mod mend;
+mod parts;
 mod rules;
 mod spelling;
 mod told;
 mod words;
 
 pub use grammar::ungrammatical;
+pub use parts::{Part, Parts};
 pub use spelling::misspelled_at;
 pub use told::{Reading, Told, tell};

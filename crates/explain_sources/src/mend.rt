@@ -39,7 +39,7 @@ pub fn statement_start(place: TokenPlace<'_>) -> usize {
 }
 
 /// The first keyword from a token on with which something else begins or ends, or the first `;`; else the place behind the last token.
-fn next_end(place: TokenPlace<'_>) -> TokenPlace<'_> {
+pub fn next_end(place: TokenPlace<'_>) -> TokenPlace<'_> {
     place.ahead(if place.is_declared() {
         ";|OUTER"
     } else {

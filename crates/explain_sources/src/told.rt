@@ -3,10 +3,11 @@
 use crate::grammar::cause_at_token;
 use crate::holes::{Lexed, tokens_with_holes};
 use crate::mend::{Mend, statement_start, way_on};
+use crate::parts::Parts;
 use crate::spelling::misspelled_at;
 use explain_tokens::{Cause, TokenPlace, fits, tokens_of};
 use st_lexer::Token;
-use st_parser::{ParseFault, parse};
+use st_parser::{ParseFault, Unit, parse};
 use std::alloc::{AllocError, Global};
 
 /// A unit is read at most so often.
@@ -54,8 +55,24 @@ pub struct Told {
     pub causes: Vec<Cause>,
     /// What is left to be told and to be read.
     pub left: Reading,
-    /// The byte at which its blocks and programs begin, above which all its globals stand, spelled rightly; `None` where that isn't certain.
-    pub units: Option<usize>,
+    /// What of it can be read.
+    pub parts: Parts,
+}
+
+/// What comes of reading the tokens of a unit once.
+#[derive(Drop)]
+enum Once {
+    /// They aren't read, since no more are.
+    Unread,
+    /// They can't go on with the token of a number.
+    Stops(usize),
+    Whole(Unit),
+}
+
+/// Whether the tokens from one to before another are those of a program, which has nothing that others have.
+fn is_program(first: TokenPlace<'_>, end: TokenPlace<'_>) -> bool {
+    let closing = first.ahead("END_PROGRAM|END_FUNCTION_BLOCK");
+    first.sign() == "PROGRAM" && closing.next().number == end.number
 }
 
 impl Told {
@@ -66,26 +83,26 @@ impl Told {
         Ok(())
     }
 
-    /// Reads the tokens of a unit once: the number of the one with which it can't go on; `None` where it ends, or no more is read.
-    fn stop_of(
+    /// Reads the tokens of a unit once.
+    fn read_once(
         &mut self,
         alloc: Global,
         text: &[u8],
         unit: &[Token],
-    ) -> Result<Option<usize>, AllocError> {
+    ) -> Result<Once, AllocError> {
         if self.left.tokens < unit.len() {
-            return Ok(None);
+            return Ok(Once::Unread);
         }
         self.left.tokens = self.left.tokens.saturating_sub(unit.len());
         match parse(alloc, text, unit) {
-            Ok(_) => Ok(None),
+            Ok(unit) => Ok(Once::Whole(unit)),
             Err(ParseFault::Memory) => Err(AllocError),
-            Err(ParseFault::At { token }) => Ok(Some(token)),
+            Err(ParseFault::At { token }) => Ok(Once::Stops(token)),
         }
     }
 
-    /// Reads a unit, whose tokens stand before some that follow it, as often as it is mended; whether it ends before these. What is behind its end isn't told
-    /// where the unit above has none (`is_apart`).
+    /// Reads a unit, whose tokens stand before some that follow it, as often as it is mended, and keeps its tree, where it comes to have one; whether it ends
+    /// before these. What is behind its end isn't told where the unit above has none (`is_apart`).
     fn read_unit(
         &mut self,
         alloc: Global,
@@ -94,11 +111,18 @@ impl Told {
         (ahead, is_apart): (usize, bool),
     ) -> Result<bool, AllocError> {
         let mut last = None;
+        let mut lacks = self.parts.add_holes(lexed, tokens.as_slice())?;
         for _ in 0..MOST_READINGS {
             let len = tokens.len().saturating_sub(ahead);
             let unit = tokens.as_slice().get(..len).unwrap_or(&[]);
-            let Some(number) = self.stop_of(alloc, lexed.text, unit)? else {
-                return Ok(true);
+            let number = match self.read_once(alloc, lexed.text, unit)? {
+                Once::Unread => return Ok(true),
+                Once::Stops(number) => number,
+                Once::Whole(unit) => {
+                    tokens.truncate(len);
+                    self.parts.keep(tokens, unit, (last.is_some(), lacks))?;
+                    return Ok(true);
+                }
             };
             let place = TokenPlace::new(lexed.text, tokens.as_slice(), number);
             if number >= len && (ahead > 0 || !lexed.is_cut) {
@@ -113,6 +137,8 @@ impl Told {
                 self.tell(alloc, place)?;
             }
             last = Some(at);
+            lacks = lacks || place.is_declared() || place.stand() == "head";
+            self.parts.gaps.push((from, until))?;
             match mend {
                 Some(mend) if self.left.causes > 0 => {
                     tokens = mended(alloc, tokens.as_slice(), mend)?;
@@ -123,16 +149,21 @@ impl Told {
         Ok(true)
     }
 
-    /// Tells what is wrong in the units and the sections of globals, each of which begins with its keyword.
+    /// Tells what is wrong in the units and the sections of globals, each of which begins with its keyword, and keeps their trees.
     fn read_units(&mut self, alloc: Global, lexed: &Lexed<'_>) -> Result<(), AllocError> {
         let tokens = lexed.tokens.as_slice();
         let mut first = TokenPlace::new(lexed.text, tokens, 0);
         let mut is_closed = true;
         let mut has_units = false;
         for _ in 0..tokens.len() {
-            if first.number >= tokens.len() || self.left.causes == 0 {
+            if first.number >= tokens.len() {
                 return Ok(());
             }
+            if self.left.causes == 0 {
+                self.parts.lose();
+                return Ok(());
+            }
+            let kept = self.parts.list.len();
             let end = first.next().ahead("UNIT|VAR_GLOBAL");
             let are_globals = first.sign() == "VAR_GLOBAL";
             if are_globals && has_units && is_closed {
@@ -145,6 +176,9 @@ impl Told {
                 is_closed = self.read_unit(alloc, lexed, unit, (ahead, is_closed))?;
             }
             has_units = has_units || fits("UNIT", first.sign());
+            if self.parts.list.len() == kept && !is_program(first, end) {
+                self.parts.lose();
+            }
             first = end;
         }
         Ok(())
@@ -154,16 +188,15 @@ impl Told {
 /// What is wrong in the spelling and the grammar of a source, as far as that is left to be told and to be read.
 pub fn tell(alloc: Global, text: &[u8], left: Reading) -> Result<Told, AllocError> {
     let lexed = tokens_with_holes(alloc, text)?;
-    let first = TokenPlace::new(text, lexed.tokens.as_slice(), 0).ahead("UNIT");
-    let start = first.mark().0;
-    let are_above = first.ahead("VAR_GLOBAL").sign().is_empty();
-    let is_certain = are_above && !lexed.is_cut && !lexed.has_hole(0, start);
     let mut told = Told {
         causes: Vec::new(alloc),
         left,
-        units: is_certain.then_some(start),
+        parts: Parts::none(alloc),
     };
     told.read_units(alloc, &lexed)?;
+    if lexed.is_cut {
+        told.parts.lose();
+    }
     for hole in lexed.holes.as_slice() {
         told.causes.push(misspelled_at(alloc, text, hole.0)?)?;
     }

@@ -114,7 +114,7 @@ pub fn told_of_fault(
     };
     let sources = sources_of(alloc, texts.sources)?;
     match spot_of_fault(alloc, sources.as_slice(), told)? {
-        Some(spot) => shown(alloc, texts, &spot),
+        Some(spot) => shown(alloc, texts, "alarms", &spot),
         None => Ok(String::new(alloc)),
     }
 }

@@ -24,6 +24,8 @@ pub struct Body<'t> {
     pub scope: BodyScope<'t>,
     /// Its own names of which it isn't certain what they are.
     doubts: Names,
+    /// Whether it may declare more.
+    is_open: bool,
 }
 
 /// Whether it isn't certain what a declared name is: the block of an instance isn't there, or the instance or the array can't stand there, or a VAR_EXTERNAL
@@ -58,11 +60,12 @@ fn doubts_of(plant: &Trees<'_>, scope: &BodyScope<'_>) -> Result<Names, AllocErr
 }
 
 impl<'t> Body<'t> {
-    /// The unit of a name that declares these sections itself.
+    /// The unit of a name that declares these sections itself, or more, where it is open.
     pub fn new(
         plant: &'t Trees<'t>,
         name: &'t str,
         sections: &'t [Section],
+        is_open: bool,
     ) -> Result<Body<'t>, AllocError> {
         let scope = BodyScope::new(plant.alloc, plant.shared, sections)?;
         let doubts = doubts_of(plant, &scope)?;
@@ -71,6 +74,7 @@ impl<'t> Body<'t> {
             name,
             scope,
             doubts,
+            is_open,
         })
     }
 
@@ -81,6 +85,8 @@ impl<'t> Body<'t> {
         }
         match self.scope.find(name) {
             Some(declared) if !matches!(declared.section(), SectionKind::Global) => false,
+            _ if self.is_open => true,
+            None if self.plant.unknown.globals => true,
             _ => self.plant.doubts(name),
         }
     }

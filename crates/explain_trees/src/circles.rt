@@ -28,21 +28,25 @@ fn add_held<'t>(
     Ok(())
 }
 
-/// Whether instances of a block lead to the block of a name.
-pub fn leads_back<'t>(plant: &Trees<'t>, word: &'t Text, name: &str) -> Result<bool, AllocError> {
+/// Whether instances of a block lead to the block of a name; and how many blocks were looked at for this.
+pub fn leads_back<'t>(
+    plant: &Trees<'t>,
+    word: &'t Text,
+    name: &str,
+) -> Result<(bool, usize), AllocError> {
     let mut names = Names::new(plant.alloc);
     let mut words = Vec::new(plant.alloc);
     words.push(word)?;
     for number in 0..MOST_BLOCKS {
         let Some(word) = words.get(number).copied() else {
-            return Ok(false);
+            return Ok((false, number));
         };
         if same_word(word.as_bytes(), name.as_bytes()) {
-            return Ok(true);
+            return Ok((true, number));
         }
         if let Some(pou) = plant.block(word) {
             add_held(plant, pou, &mut names, &mut words)?;
         }
     }
-    Ok(false)
+    Ok((false, MOST_BLOCKS))
 }

@@ -11,8 +11,8 @@ const LONGEST_QUOTE: usize = 48;
 /// What is sought among tokens.
 #[derive(Clone, Copy, Drop)]
 pub enum Sought {
-    /// What stands at a byte, or behind it.
-    At(usize),
+    /// A name that stands at a byte, and whether it is empty, as one is that was put in where a part of the text can't be read.
+    Name(usize, bool),
     Literal,
     /// NOT, or a minus before its operand.
     Prefix,
@@ -26,7 +26,7 @@ pub enum Sought {
 fn is_sought(sought: Sought, token: &Token) -> bool {
     let sign = sign_of(token.kind);
     match sought {
-        Sought::At(at) => token.from >= at,
+        Sought::Name(at, is_empty) => token.from >= at && (token.from >= token.until) == is_empty,
         Sought::Literal => matches!(sign, "TRUE" | "FALSE" | "int" | "literal"),
         Sought::Prefix => matches!(sign, "NOT" | "-"),
         Sought::Infix => sign != ")",
@@ -79,7 +79,7 @@ impl<'t> Cursor<'t> {
 
     /// Goes past a name of the tree, and returns the number of its token.
     pub fn pass_name(&mut self, name: &Text) -> usize {
-        self.pass(Sought::At(name.at() as usize))
+        self.pass(Sought::Name(name.at() as usize, name.as_bytes().is_empty()))
     }
 
     /// Goes past a label of a CASE, and returns the number of its first literal.

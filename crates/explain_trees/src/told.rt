@@ -43,16 +43,16 @@ fn push_more(alloc: Global, mistake: &mut Mistake) -> Result<(), AllocError> {
 /// memory was refused, no more are told.
 #[derive(Drop)]
 pub struct Told {
-    /// The rule by which the plant is refused.
-    pub refused: BrokenRule,
+    /// The rule by which the plant is refused; none where it is refused for something else.
+    pub refused: Option<BrokenRule>,
     list: Vec<Mistake>,
     /// Whether memory was refused.
     is_short: bool,
 }
 
 impl Told {
-    /// No mistakes, of a plant that is refused by a rule.
-    pub fn new(alloc: Global, refused: BrokenRule) -> Told {
+    /// No mistakes, of a plant that is refused by a rule, or for something else.
+    pub fn new(alloc: Global, refused: Option<BrokenRule>) -> Told {
         Told {
             refused,
             list: Vec::new(alloc),
@@ -75,19 +75,19 @@ impl Told {
     fn first(&self) -> Option<usize> {
         self.list
             .iter()
-            .position(|mistake| mistake.rule == self.refused)
+            .position(|mistake| Some(mistake.rule) == self.refused)
     }
 
     /// Whether a mistake that breaks a rule would be told: one place is kept for the first that breaks the rule by which the plant is refused.
     pub fn takes(&self, rule: BrokenRule) -> bool {
-        let is_open = self.first().is_none();
+        let is_open = self.refused.is_some() && self.first().is_none();
         let has_room = self.list.len() < MOST_MISTAKES.saturating_sub(usize::from(is_open));
-        !self.is_short && (has_room || (is_open && rule == self.refused))
+        !self.is_short && (has_room || (is_open && Some(rule) == self.refused))
     }
 
     /// Whether no more mistakes would be told.
     pub fn is_full(&self) -> bool {
-        !self.takes(self.refused)
+        !self.takes(self.refused.unwrap_or(BrokenRule::Names))
     }
 
     /// Takes a mistake that is told, and returns its number.

@@ -1,6 +1,7 @@
 //! The sources of a plant, and their trees.
 
 use crate::entries::{DeclaredName, Form, entries_of};
+use crate::unknown::{Parsed, Unknown};
 use base_words::Names;
 use explain_tokens::tokens_of;
 use plant_types::Text;
@@ -23,6 +24,7 @@ pub struct Trees<'t> {
     pub alloc: Global,
     pub sources: &'t [Source<'t>],
     pub units: &'t [Unit],
+    pub unknown: &'t Unknown,
     pub shared: &'t SharedNames<'t>,
     /// The names of no source: it knows the blocks that are there from the start, and no other.
     standard: &'t SharedNames<'t>,
@@ -84,8 +86,13 @@ fn is_mixed(alloc: Global, pou: &Pou) -> Result<bool, AllocError> {
 }
 
 /// Whether it isn't certain what is declared first by an entry.
-fn is_doubtful(alloc: Global, entry: &DeclaredName<'_>) -> Result<bool, AllocError> {
+fn is_doubtful(
+    alloc: Global,
+    entry: &DeclaredName<'_>,
+    unknown: &Unknown,
+) -> Result<bool, AllocError> {
     match &entry.form {
+        Form::Block(_) if unknown.has_owner(entry.source) => Ok(true),
         Form::Block(pou) => is_mixed(alloc, pou),
         Form::Program(_) => Ok(false),
         Form::Declared(declared) => Ok(matches!(declared.sort(), Sort::Block(_))),
@@ -96,18 +103,18 @@ impl<'t> Trees<'t> {
     /// The trees of sources with their units, whose names are known.
     pub fn new(
         alloc: Global,
-        sources: &'t [Source<'t>],
-        units: &'t [Unit],
+        parsed: Parsed<'t>,
         shared: &'t SharedNames<'t>,
         standard: &'t SharedNames<'t>,
     ) -> Result<Trees<'t>, AllocError> {
         let mut trees = Trees {
             alloc,
-            sources,
-            units,
+            sources: parsed.sources,
+            units: parsed.units,
+            unknown: parsed.unknown,
             shared,
             standard,
-            entries: entries_of(alloc, units)?,
+            entries: entries_of(alloc, parsed.units)?,
             names: Names::new(alloc),
             firsts: Vec::new(alloc),
         };
@@ -122,7 +129,8 @@ impl<'t> Trees<'t> {
                 continue;
             }
             if self.names.add(self.alloc, entry.name.as_str())? {
-                self.firsts.push((number, is_doubtful(self.alloc, entry)?))?;
+                let is_doubtful = is_doubtful(self.alloc, entry, self.unknown)?;
+                self.firsts.push((number, is_doubtful))?;
             } else if let Some(first) = self.names.find(entry.name.as_str()) {
                 if let Some(known) = self.firsts.get_mut(first) {
                     known.1 = true;

@@ -31,7 +31,8 @@
 //! A plant of which a person is told is a line `plant NAME`, its files, each a line `file NAME` and its text, and a line `run`. Where it has
 //! no `plant.toml` or `alarms.csv` of its own, one stands in its place that is right (in `src/plants.rt`). Then a line `as C6 p.st p` says
 //! how it is refused, or `as accepted` that it is accepted; that it is so, try_plants and the sources above try. Its name is printed, all
-//! that is told, and an empty line. `as lines` asks for the lines of its statements, `as FAULT 10 p 1 DIVZERO` for what is told of that line.
+//! that is told, and an empty line. `as files` says that its plant file is refused before other files are read, and `as FILE p.st` that this file is missing:
+//! then what is told of its other files is asked for too, those that it has being read for this. `as lines` asks for the lines of its statements, `as FAULT 10 p 1 DIVZERO` for what is told of that line.
 //! A plant may have more sources: they are all its files whose names end in `.st`, in their order. Where a file has a line `..`, that alone
 //! is printed which each line `with x := 1;` asks: the line, and what is told with this text in place of `..`.
 //!
@@ -42,6 +43,7 @@ mod faults;
 mod judged;
 mod plants;
 mod rows;
+mod shelf;
 mod spelled;
 mod tree;
 

@@ -1,6 +1,7 @@
 //! The files of a plant, and what is told of it.
 
 use crate::faults::{fault_of, is_of_tables};
+use crate::shelf::{told_from, told_missing};
 use explain_plant::{PlantTexts, Warner, explain_all, warn};
 use explain_statements::{statement_table, told_of_fault};
 use plant_config::{ConfigFault, Plant};
@@ -74,6 +75,12 @@ fn told<H: Threads + Sync>(
     }
     if line.starts_with("FAULT ") {
         return told_of_fault(alloc, texts, line);
+    }
+    if line == "files" {
+        return told_from(alloc, texts);
+    }
+    if let Some(name) = line.strip_prefix("FILE ") {
+        return told_missing(alloc, texts, name);
     }
     match fault_for(rt, alloc, texts, line)? {
         ConfigFault::Memory => Ok(String::new(alloc)),

@@ -1,0 +1,82 @@
+//! What of a plant's sources can be read, where a part of them can't.
+
+use explain_document::Mark;
+use explain_sources::Parts;
+use explain_trees::{Parsed, Source, Unknown};
+use st_parser::Unit;
+use std::alloc::{AllocError, Global};
+
+/// The blocks, programs and sections of globals of a plant that can be read, each as a source by itself.
+#[derive(Drop)]
+pub struct Readable<'t> {
+    sources: Vec<Source<'t>>,
+    pub units: Vec<Unit>,
+    /// Of each the number of its source, and whether something was left out of it or put in.
+    origins: Vec<(usize, bool)>,
+    /// The bytes around what can't be read, by the numbers of their sources.
+    gaps: Vec<(usize, Mark)>,
+    pub unknown: Unknown,
+}
+
+impl<'t> Readable<'t> {
+    /// Nothing yet, of a plant whose sources are all there, or not.
+    pub fn new(alloc: Global, are_all: bool) -> Readable<'t> {
+        Readable {
+            sources: Vec::new(alloc),
+            units: Vec::new(alloc),
+            origins: Vec::new(alloc),
+            gaps: Vec::new(alloc),
+            unknown: Unknown {
+                globals: !are_all,
+                blocks: !are_all,
+                owners: Vec::new(alloc),
+            },
+        }
+    }
+
+    /// Adds the parts of the source of a number.
+    pub fn add(
+        &mut self,
+        number: usize,
+        (name, text): (&'t str, &'t [u8]),
+        parts: Parts,
+    ) -> Result<(), AllocError> {
+        let unknown = &mut self.unknown;
+        unknown.globals = unknown.globals || parts.lacks_globals;
+        unknown.blocks = unknown.blocks || parts.lacks_blocks;
+        for gap in parts.gaps {
+            self.gaps.push((number, gap))?;
+        }
+        for part in parts.list {
+            if part.lacks {
+                self.unknown.owners.push(self.units.len())?;
+            }
+            self.origins.push((number, part.is_mended))?;
+            self.units.push(part.unit)?;
+            let tokens = part.tokens;
+            self.sources.push(Source { name, text, tokens })?;
+        }
+        Ok(())
+    }
+
+    /// All that can be read.
+    pub fn parsed(&self) -> Parsed<'_> {
+        Parsed {
+            sources: self.sources.as_slice(),
+            units: self.units.as_slice(),
+            unknown: &self.unknown,
+        }
+    }
+
+    /// The number of the source of a part, and whether something was left out of the part or put in.
+    pub fn origin(&self, part: usize) -> (usize, bool) {
+        self.origins.get(part).copied().unwrap_or((part, true))
+    }
+
+    /// Whether bytes of the source of a number touch those around what can't be read.
+    pub fn has_gap(&self, number: usize, mark: Option<Mark>) -> bool {
+        let (from, until) = mark.unwrap_or((0, 0));
+        let mut gaps = self.gaps.iter();
+        gaps.any(|(source, gap)| *source == number && gap.0 <= until && from <= gap.1)
+    }
+}

@@ -1,0 +1,99 @@
+//! What of a source can be read, where a part of it can't.
+
+use crate::holes::Lexed;
+use crate::mend::{next_end, statement_start};
+use explain_tokens::{TokenPlace, start_of};
+use st_lexer::Token;
+use st_parser::Unit;
+use std::alloc::{AllocError, Global};
+
+/// A block, a program or a section of globals with its tree.
+#[derive(Drop)]
+pub struct Part {
+    /// Its tokens, and among them those that were put in, which have no bytes.
+    pub tokens: Vec<Token>,
+    pub unit: Unit,
+    /// Whether something was left out or put in.
+    pub is_mended: bool,
+    /// Whether it may declare more than its tree has.
+    pub lacks: bool,
+}
+
+/// The parts of a source that can be read, perhaps with something left out or put in.
+#[derive(Drop)]
+pub struct Parts {
+    /// In order of text.
+    pub list: Vec<Part>,
+    /// The bytes around what can't be read, each time from one number to another.
+    pub gaps: Vec<(usize, usize)>,
+    /// Whether the source may have globals that no part has.
+    pub lacks_globals: bool,
+    /// Whether the source may have blocks that no part has.
+    pub lacks_blocks: bool,
+}
+
+/// The number of the first of some tokens that begins at a byte, or behind it.
+fn token_at(tokens: &[Token], at: usize) -> usize {
+    let number = tokens.iter().position(|token| token.from >= at);
+    number.unwrap_or(tokens.len())
+}
+
+impl Parts {
+    /// No parts.
+    pub(crate) fn none(alloc: Global) -> Parts {
+        Parts {
+            list: Vec::new(alloc),
+            gaps: Vec::new(alloc),
+            lacks_globals: false,
+            lacks_blocks: false,
+        }
+    }
+
+    /// Takes a part, in which something may have been left out or put in, and which may lack declarations.
+    pub(crate) fn keep(
+        &mut self,
+        tokens: Vec<Token>,
+        unit: Unit,
+        (is_mended, lacks): (bool, bool),
+    ) -> Result<(), AllocError> {
+        let has_globals = !unit.globals.is_empty();
+        self.lacks_globals = self.lacks_globals || lacks && has_globals;
+        self.list.push(Part {
+            tokens,
+            unit,
+            is_mended,
+            lacks,
+        })?;
+        Ok(())
+    }
+
+    /// Notes that something can't be read that others may name.
+    pub(crate) fn lose(&mut self) {
+        self.lacks_globals = true;
+        self.lacks_blocks = true;
+    }
+
+    /// Notes the statements and declarations among the tokens of a unit in which bytes begin no token; whether one of them is a declaration.
+    pub(crate) fn add_holes(
+        &mut self,
+        lexed: &Lexed<'_>,
+        tokens: &[Token],
+    ) -> Result<bool, AllocError> {
+        let (from, until) = match (tokens.first(), tokens.last()) {
+            (Some(first), Some(last)) => (first.from, last.until),
+            _ => return Ok(false),
+        };
+        let mut lacks = false;
+        for hole in lexed.holes.as_slice() {
+            if hole.1 < from || until < hole.0 {
+                continue;
+            }
+            let place = TokenPlace::new(lexed.text, tokens, token_at(tokens, hole.0));
+            let first = start_of(lexed.text, tokens, statement_start(place)).min(hole.0);
+            self.gaps
+                .push((first, next_end(place).mark().1.max(hole.1)))?;
+            lacks = lacks || place.is_declared() || place.stand() == "head";
+        }
+        Ok(lacks)
+    }
+}
