@@ -28,8 +28,9 @@ fn closed_len(bytes: &[u8], mark: u8) -> usize {
     if is_closed { len.saturating_add(2) } else { 1 }
 }
 
-/// How many bytes belong together that begin no token, and what may stand in their place; `None` where what follows can't be told.
-fn hole_of(bytes: &[u8]) -> Option<(usize, &'static str)> {
+/// How many bytes belong together from the one of a number on that begin no token, and what may stand in their place; `None` where what follows can't be told: a
+/// comment isn't closed, or the text looks like UTF-16.
+fn hole_of(at: usize, bytes: &[u8]) -> Option<(usize, &'static str)> {
     let len = run_len(bytes);
     match bytes {
         [b't' | b'T', b'#', ..] if bytes.get(len) == Some(&b',') => {
@@ -41,7 +42,8 @@ fn hole_of(bytes: &[u8]) -> Option<(usize, &'static str)> {
             let len = run_len(part(bytes, 1, bytes.len())).saturating_add(1);
             Some((len, if len > 2 { "%M0" } else { "" }))
         }
-        [b'(' | b'/', b'*', ..] | [0xFF, 0xFE, ..] | [0xFE, 0xFF, ..] | [0, ..] | [] => None,
+        [b'(' | b'/', b'*', ..] | [] => None,
+        [0xFF, 0xFE, ..] | [0xFE, 0xFF, ..] | [0, ..] if at < 2 => None,
         [mark @ (b'\'' | b'"'), ..] => {
             let len = closed_len(bytes, *mark);
             Some((len, if len > 2 { " 0" } else { "" }))
@@ -73,7 +75,7 @@ pub fn tokens_with_holes(alloc: Global, text: &[u8]) -> Result<Lexed<'_>, AllocE
         };
         read.extend_from_slice(part(rest, 0, byte_at(rest, line, column)))?;
         let at = read.len();
-        let Some((len, put)) = hole_of(part(text, at, text.len())) else {
+        let Some((len, put)) = hole_of(at, part(text, at, text.len())) else {
             holes.push((at, text.len()))?;
             break;
         };
