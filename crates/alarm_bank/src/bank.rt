@@ -419,6 +419,7 @@ impl Bank {
             (AreMovesBefore (min ((index + 1) * 64) (length self.now.alarms))
             (S.conditions signals.now) (S.suppressions signals.now) moment self.now.alarms moves.new) }
     {
+        let _ = &self.sites;
         let words = marks.words();
         let mut left = words[index];
         while left != 0 {
