@@ -11,7 +11,7 @@ use std::alloc::{AllocError, Global};
 pub struct Readable<'t> {
     sources: Vec<Source<'t>>,
     pub units: Vec<Unit>,
-    /// Of each the number of its source, and whether something was left out of it or put in.
+    /// Of each the number of its source, and whether it isn't certain which FORs stand around its statements.
     origins: Vec<(usize, bool)>,
     /// The bytes around what can't be read, by the numbers of their sources.
     gaps: Vec<(usize, Mark)>,
@@ -51,7 +51,7 @@ impl<'t> Readable<'t> {
             if part.lacks {
                 self.unknown.owners.push(self.units.len())?;
             }
-            self.origins.push((number, part.is_mended))?;
+            self.origins.push((number, part.blurs_loops))?;
             self.units.push(part.unit)?;
             let tokens = part.tokens;
             self.sources.push(Source { name, text, tokens })?;
@@ -68,7 +68,7 @@ impl<'t> Readable<'t> {
         }
     }
 
-    /// The number of the source of a part, and whether something was left out of the part or put in.
+    /// The number of the source of a part, and whether it isn't certain which FORs stand around the statements of the part.
     pub fn origin(&self, part: usize) -> (usize, bool) {
         self.origins.get(part).copied().unwrap_or((part, true))
     }

@@ -133,9 +133,9 @@ impl<'t> Refused<'t> {
         }
         for told in found {
             let mut mistake = told;
-            let (source, is_mended) = readable.origin(mistake.source);
+            let (source, blurs_loops) = readable.origin(mistake.source);
             mistake.source = source;
-            let is_open = is_mended && mistake.rule == BrokenRule::Constants;
+            let is_open = blurs_loops && mistake.rule == BrokenRule::Constants;
             let is_hidden = self.is_hidden(comments, &mistake);
             if !is_open && !is_hidden && !readable.has_gap(source, mistake.cause.mark) {
                 self.tell(FileOf::Source(source), mistake.cause)?;

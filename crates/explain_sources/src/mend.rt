@@ -2,8 +2,9 @@
 
 use crate::grammar::{has_nested, unopened};
 use crate::words::misnomer;
-use explain_tokens::{TokenPlace, closing_of, fits, opens_section, sign_of};
+use explain_tokens::{TokenPlace, closing_of, fits, opens_section, sign_at, sign_of};
 use plant_types::same_word;
+use st_lexer::Token;
 use std::cmp::Ordering;
 
 /// What is left out of tokens, from the one of a number to before another, and what is put in its place, as it is written.
@@ -12,6 +13,15 @@ pub struct Mend {
     pub from: usize,
     pub until: usize,
     pub put: &'static str,
+}
+
+impl Mend {
+    /// Whether it isn't certain any more which FORs stand around what, where it is done to tokens: it puts in a FOR's head or end, or leaves one out.
+    pub fn blurs_loops(self, tokens: &[Token]) -> bool {
+        let mut left_out = (self.from..self.until).map(|number| sign_at(tokens, number));
+        let is_put = self.put == "END_FOR" || self.put.ends_with("DO");
+        is_put || left_out.any(|sign| fits("FOR|END_FOR", sign))
+    }
 }
 
 /// Puts what is written in the place of tokens.

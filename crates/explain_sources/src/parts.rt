@@ -13,8 +13,8 @@ pub struct Part {
     /// Its tokens, and among them those that were put in, which have no bytes.
     pub tokens: Vec<Token>,
     pub unit: Unit,
-    /// Whether something was left out or put in.
-    pub is_mended: bool,
+    /// Whether it isn't certain which FORs stand around its statements.
+    pub blurs_loops: bool,
     /// Whether it may declare more than its tree has.
     pub lacks: bool,
 }
@@ -49,19 +49,19 @@ impl Parts {
         }
     }
 
-    /// Takes a part, in which something may have been left out or put in, and which may lack declarations.
+    /// Takes a part, of which it may not be certain which FORs stand around its statements, and which may lack declarations.
     pub(crate) fn keep(
         &mut self,
         tokens: Vec<Token>,
         unit: Unit,
-        (is_mended, lacks): (bool, bool),
+        (blurs_loops, lacks): (bool, bool),
     ) -> Result<(), AllocError> {
         let has_globals = !unit.globals.is_empty();
         self.lacks_globals = self.lacks_globals || lacks && has_globals;
         self.list.push(Part {
             tokens,
             unit,
-            is_mended,
+            blurs_loops,
             lacks,
         })?;
         Ok(())

@@ -5,7 +5,7 @@ use crate::holes::{Lexed, tokens_with_holes};
 use crate::mend::{Mend, statement_start, way_on};
 use crate::parts::Parts;
 use crate::spelling::misspelled_at;
-use explain_tokens::{Cause, TokenPlace, fits, tokens_of};
+use explain_tokens::{Cause, TokenPlace, fits, part, tokens_of};
 use st_lexer::Token;
 use st_parser::{ParseFault, Unit, parse};
 use std::alloc::{AllocError, Global};
@@ -25,12 +25,28 @@ pub struct Reading {
     pub tokens: usize,
 }
 
-/// The bytes around a token at which a unit stops: from where its statement or its declaration begins to where that is left out.
-fn around(place: TokenPlace<'_>, mend: Option<Mend>) -> (usize, usize) {
+/// The numbers of the first and the last token around one at which a unit stops: from where its statement or its declaration begins to where that is left out.
+fn numbers_around(place: TokenPlace<'_>, mend: Option<Mend>) -> (usize, usize) {
     let start = statement_start(place).min(place.number);
     let (from, until) = mend.map_or((start, 0), |mend| (mend.from.min(start), mend.until));
-    let last = place.at(place.number.max(until.saturating_sub(1)));
-    (place.at(from).mark().0, last.mark().1)
+    (from, place.number.max(until.saturating_sub(1)))
+}
+
+/// The bytes around a token at which a unit stops.
+fn around(place: TokenPlace<'_>, mend: Option<Mend>) -> (usize, usize) {
+    let (first, last) = numbers_around(place, mend);
+    (place.at(first).mark().0, place.at(last).mark().1)
+}
+
+/// Whether what can't be read around a token may be declarations: it has a `:`, or a word that begins or ends a section, also one of another dialect.
+fn may_declare(place: TokenPlace<'_>, mend: Option<Mend>) -> bool {
+    let (first, last) = numbers_around(place, mend);
+    let mut tokens = (first..last.saturating_add(1)).map(|number| place.at(number));
+    let is_of_section = |place: TokenPlace<'_>| {
+        let word = part(place.word().as_bytes(), 0, 3);
+        fits(":|END_VAR", place.sign()) || word.eq_ignore_ascii_case(b"VAR")
+    };
+    place.is_declared() || place.stand() == "head" || tokens.any(is_of_section)
 }
 
 /// The tokens of a unit with a mend at one of them.
@@ -110,7 +126,7 @@ impl Told {
         mut tokens: Vec<Token>,
         (ahead, is_apart): (usize, bool),
     ) -> Result<bool, AllocError> {
-        let mut last = None;
+        let (mut last, mut blurs) = (None, false);
         let mut lacks = self.parts.add_holes(lexed, tokens.as_slice())?;
         for _ in 0..MOST_READINGS {
             let len = tokens.len().saturating_sub(ahead);
@@ -120,7 +136,7 @@ impl Told {
                 Once::Stops(number) => number,
                 Once::Whole(unit) => {
                     tokens.truncate(len);
-                    self.parts.keep(tokens, unit, (last.is_some(), lacks))?;
+                    self.parts.keep(tokens, unit, (blurs, lacks))?;
                     return Ok(true);
                 }
             };
@@ -137,7 +153,8 @@ impl Told {
                 self.tell(alloc, place)?;
             }
             last = Some(at);
-            lacks = lacks || place.is_declared() || place.stand() == "head";
+            blurs = blurs || mend.is_some_and(|mend| mend.blurs_loops(tokens.as_slice()));
+            lacks = lacks || may_declare(place, mend);
             self.parts.gaps.push((from, until))?;
             match mend {
                 Some(mend) if self.left.causes > 0 => {
