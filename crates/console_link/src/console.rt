@@ -24,7 +24,7 @@ pub struct Link<O, R> {
 #[derive(Drop)]
 pub struct FinishedLink<O, R> {
     pub(crate) number: u32,
-    pub(crate) orders: rtrb::FinishedLink<O>,
+    pub(crate) orders: rtrb::Finished<O>,
     pub(crate) answers: Consumer<Answer<O, R>>,
     /// How many events it saw, as its owner says.
     pub(crate) seen: u64,
