@@ -3,21 +3,21 @@ use Rattle.std.specs.Prelude.{◌≡◌, ℕ, ◌≤◌, List, [], false, Option
 use mathlib.Core.List.{IsPrefix}
 use Rattle.rtrb.specs.Ring.{sent, received, known_free, known_items, IsPair, all_sent, Finishes, IsFinishedOf, SameProducer, SameConsumer}
 use Rattle.console_link.specs.declared.answer.Answer.{Answer}
-use Rattle.console_link.specs.declared.console.Link.{Link}
-use Rattle.console_link.specs.declared.console.FinishedLink.{FinishedLink}
+use Rattle.console_link.specs.declared.console.ConsoleRings.{ConsoleRings}
+use Rattle.console_link.specs.declared.console.FinishedRings.{FinishedRings}
 use Rattle.console_link.specs.declared.lane.Lane.{Lane}
 
 module _ {O R : Type 0} where
   -- every order that the console submitted, in order
-  abbrev pub submitted : Link O R → List O
+  abbrev pub submitted : ConsoleRings O R → List O
   submitted c = sent c.orders
 
   -- every answer that it took, in order
-  abbrev pub taken : Link O R → List (Answer O R)
+  abbrev pub taken : ConsoleRings O R → List (Answer O R)
   taken c = received c.answers
 
   -- how many places for orders it knows to be free
-  abbrev pub known_room : Link O R → ℕ
+  abbrev pub known_room : ConsoleRings O R → ℕ
   known_room c = known_free c.orders
 
   -- every order that the owner took, in order
@@ -49,29 +49,29 @@ module _ {O R : Type 0} where
   seen_by l = if l.ended then Some l.seen else None
 
   -- the same number, the same two rings, and the same log
-  abbrev pub SameConsole : Link O R → Link O R → Type 0
+  abbrev pub SameConsole : ConsoleRings O R → ConsoleRings O R → Type 0
   SameConsole a b = (b.number ≡ a.number) × (SameProducer a.orders b.orders × SameConsumer a.answers b.answers) × (b.log ≡ a.log)
 
   abbrev pub SameLane : Lane O R → Lane O R → Type 0
   SameLane a b = (b.number ≡ a.number) × (SameConsumer a.orders b.orders × SameProducer a.answers b.answers) × (b.log ≡ a.log)
 
   -- the lane is the owner's end of this console's rings
-  abbrev pub IsConsoleOf : Link O R → Lane O R → Type 0
+  abbrev pub IsConsoleOf : ConsoleRings O R → Lane O R → Type 0
   IsConsoleOf c l = (l.number ≡ c.number) × (IsPair c.orders l.orders × IsPair l.answers c.answers) × (l.log ≡ c.log)
 
   -- the lane is the owner's end of the rings of this console, which has ended
-  abbrev pub IsEndOf : FinishedLink O R → Lane O R → Type 0
+  abbrev pub IsEndOf : FinishedRings O R → Lane O R → Type 0
   IsEndOf f l = (l.number ≡ f.number) × (IsFinishedOf f.orders l.orders × IsPair l.answers f.answers) × (l.log ≡ f.log)
 
   -- every order that a console submitted, and every answer that it took, before it ended
-  abbrev pub all_submitted : FinishedLink O R → List O
+  abbrev pub all_submitted : FinishedRings O R → List O
   all_submitted f = all_sent f.orders
 
-  abbrev pub all_taken : FinishedLink O R → List (Answer O R)
+  abbrev pub all_taken : FinishedRings O R → List (Answer O R)
   all_taken f = received f.answers
 
   -- the console ended as this one, with the same number, the same rings and the same log
-  abbrev pub Ends : Link O R → FinishedLink O R → Type 0
+  abbrev pub Ends : ConsoleRings O R → FinishedRings O R → Type 0
   Ends c f = (f.number ≡ c.number) × (Finishes c.orders f.orders × (f.answers ≡ c.answers)) × (f.log ≡ c.log)
 
   -- nothing was taken or given, and no more is known than before

@@ -8,7 +8,7 @@ use rtrb::{Consumer, Producer, PushError};
 
 /// A console: it submits orders and takes their answers. It may go to a thread of its own.
 #[derive(Drop)]
-pub struct Link<O, R> {
+pub struct ConsoleRings<O, R> {
     pub(crate) number: u32,
     pub(crate) orders: Producer<O>,
     pub(crate) answers: Consumer<Answer<O, R>>,
@@ -22,7 +22,7 @@ pub struct Link<O, R> {
 
 /// A console that has ended: it submits and takes nothing more.
 #[derive(Drop)]
-pub struct FinishedLink<O, R> {
+pub struct FinishedRings<O, R> {
     pub(crate) number: u32,
     pub(crate) orders: rtrb::Finished<O>,
     pub(crate) answers: Consumer<Answer<O, R>>,
@@ -32,7 +32,7 @@ pub struct FinishedLink<O, R> {
     pub(crate) log: LogName,
 }
 
-impl<O: Drop, R: Drop> Link<O, R> {
+impl<O: Drop, R: Drop> ConsoleRings<O, R> {
     ghost use Rattle.std.specs.Prelude.{◌≡◌, ◌<◌, ◌≤◌, ◌+◌, [], ◌∷◌, ◌++◌, length, OnOk, IfErr, IfSome, IsOk, IfNone};
     ghost use Rattle.console_link.specs.Seats.{submitted, taken, known_room, SameConsole, all_submitted, all_taken, Ends};
 
@@ -93,12 +93,12 @@ impl<O: Drop, R: Drop> Link<O, R> {
 
     /// Ends the console, which saw so many events. `None` where the order ring can't be ended; then nothing is known of the orders that are left
     /// in it.
-    pub fn finish(self, seen: u64) -> Option<FinishedLink<O, R>>
+    pub fn finish(self, seen: u64) -> Option<FinishedRings<O, R>>
         ensures rings { IfSome result (λ f. Ends self f × (all_submitted f ≡ submitted self)
             × (all_taken f ≡ taken self)) }
         ensures seen { IfSome result (λ f. f.seen ≡ seen) }
     {
-        let Link {
+        let ConsoleRings {
             number,
             orders,
             answers,
@@ -106,7 +106,7 @@ impl<O: Drop, R: Drop> Link<O, R> {
             log,
         } = self;
         let orders = orders.finish()?;
-        Some(FinishedLink {
+        Some(FinishedRings {
             number,
             orders,
             answers,
@@ -116,7 +116,7 @@ impl<O: Drop, R: Drop> Link<O, R> {
     }
 }
 
-impl<O: Drop, R: Drop> FinishedLink<O, R> {
+impl<O: Drop, R: Drop> FinishedRings<O, R> {
     ghost use Rattle.std.specs.Prelude.{◌≡◌};
 
     /// The number that its console had.

@@ -3,7 +3,7 @@ ghost use Rattle.std.specs.Prelude.{◌≡◌, [], IfOk};
 ghost use Rattle.console_link.specs.Seats.{submitted, taken, known_room, orders_taken, answers_given, answer_room, IsConsoleOf, IsOpen};
 
 use crate::answer::Answer;
-use crate::console::{FinishedLink, Link};
+use crate::console::{ConsoleRings, FinishedRings};
 use console_log::{LogName, Mark};
 use rtrb::{Consumer, Producer, RingBuffer};
 use std::alloc::{AllocError, Global};
@@ -27,7 +27,7 @@ pub fn open<O: Drop, R: Drop, E>(
     alloc: Global,
     number: u32,
     mark: &Mark<E>,
-) -> Result<(Link<O, R>, Lane<O, R>), AllocError>
+) -> Result<(ConsoleRings<O, R>, Lane<O, R>), AllocError>
     ensures pair { IfOk result (λ r. IsConsoleOf r.0 r.1) }
     ensures console { IfOk result (λ r. (r.0.number ≡ number) × (submitted r.0 ≡ []) × (taken r.0 ≡ [])
         × (known_room r.0 ≡ 64) × (r.0.log ≡ mark.now.log)) }
@@ -36,7 +36,7 @@ pub fn open<O: Drop, R: Drop, E>(
 {
     let (submits, orders) = RingBuffer::new(alloc, 64)?;
     let (answers, takes) = RingBuffer::new(alloc, 64)?;
-    let console = Link {
+    let console = ConsoleRings {
         number,
         orders: submits,
         answers: takes,
@@ -102,7 +102,7 @@ impl<O: Copy + Drop, R: Copy + Drop> Lane<O, R> {
 
     /// Joins the ends of both rings, once the console has ended: the orders that were taken, followed by those that are left, are all that it
     /// submitted, each once and in order; the answers that it took are the first of those that were given.
-    pub fn end(&mut self, console: FinishedLink<O, R>)
+    pub fn end(&mut self, console: FinishedRings<O, R>)
         requires { IsEndOf console self.old }
         ensures lane { SameLane self.old self.new }
         ensures same { (orders_taken self.new ≡ orders_taken self.old)
@@ -111,7 +111,7 @@ impl<O: Copy + Drop, R: Copy + Drop> Lane<O, R> {
         ensures answers { IsPrefix (all_taken console) (answers_given self.new) }
         ensures seen { seen_by self.new ≡ Some console.seen }
     {
-        let FinishedLink {
+        let FinishedRings {
             number: _,
             orders: mut ended,
             answers: mut takes,

@@ -4,7 +4,7 @@ use Rattle.std.proofs.lemmas.Bool.{cases_Bool}
 use Rattle.std.proofs.lemmas.Bool.Decides.{nat_tests}
 use Rattle.std.proofs.lemmas.List.Elements.{All-nil, All-head, All-tail, All-cons}
 use mathlib.Core.List.{IsPrefix}
-use Rattle.console_link.specs.declared.console.FinishedLink.{FinishedLink}
+use Rattle.console_link.specs.declared.console.FinishedRings.{FinishedRings}
 use Rattle.console_link.specs.declared.lane.Lane.{Lane}
 use Rattle.engine_history.specs.declared.event.Event.{Event}
 use Rattle.alarm_orders.specs.declared.order.Order.{Order}
@@ -70,7 +70,7 @@ pub is_beginning : (plant : PlainPlant) (history : List Event) (fs : List F) (n 
     → within ≡ has_seen_within (length history) (finished_of n (links_in fs)) → within ≡ true → IsPrefix f.mark.entries (entries_of plant history)
 is_beginning plant history fs n f within all found exact is =
     let theirs = found_ended (λ (g : F). IsPrefix g.mark.entries all.one) n fs f all.theirs found in
-    let le : nat_le f.link.seen (length history) ≡ true = sym (ap (λ (o : Option (FinishedLink Order Reply)). has_seen_within (length history) o) (links_found n fs f found)) ∙ (sym exact ∙ is) in
+    let le : nat_le f.link.seen (length history) ≡ true = sym (ap (λ (o : Option (FinishedRings Order Reply)). has_seen_within (length history) o) (links_found n fs f found)) ∙ (sym exact ∙ is) in
     let not_longer : length f.mark.entries ≤ length (entries_of plant history) = omega (arith, f.counted, few f.link.seen (length history) le, length_of plant history) in
     prefix_of_both f.mark.entries (entries_of plant history) all.one theirs all.own not_longer
 

@@ -7,8 +7,8 @@ use Rattle.std.proofs.lemmas.Bool.{cases_Bool, eqb-false}
 use Rattle.rtrb.specs.Ring.{known_items}
 use Rattle.logbook.specs.Pages.{Book}
 use Rattle.console_link.specs.declared.answer.Answer.{Answer}
-use Rattle.console_link.specs.declared.console.Link.{Link}
-use Rattle.console_link.specs.declared.console.FinishedLink.{FinishedLink}
+use Rattle.console_link.specs.declared.console.ConsoleRings.{ConsoleRings}
+use Rattle.console_link.specs.declared.console.FinishedRings.{FinishedRings}
 use Rattle.console_link.specs.declared.lane.Lane.{Lane}
 use Rattle.console_link.specs.Seats.{SameConsole, SameLane, Ends, IsConsoleOf, IsEndOf, left_of, seen_by, orders_taken, answers_given, all_taken}
 use Rattle.engine_history.specs.declared.event.Event.{Event}
@@ -34,10 +34,10 @@ abbrev L : Type 0
 L = Lane Order Reply
 
 abbrev C : Type 0
-C = Link Order Reply
+C = ConsoleRings Order Reply
 
 abbrev F : Type 0
-F = FinishedLink Order Reply
+F = FinishedRings Order Reply
 
 -- the same lane is the owner's end of the same console's rings
 console_stays : (c : C) (a b : L) → SameLane a b → IsConsoleOf c a → IsConsoleOf c b

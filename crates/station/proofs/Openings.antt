@@ -6,7 +6,7 @@ use Rattle.std.proofs.lemmas.List.{map-append}
 use Rattle.std.proofs.lemmas.List.Elements.{All-nil, All-cons, All-weaker, All-push}
 use Rattle.std.proofs.lemmas.Bool.{cases_Bool}
 use Rattle.logbook.specs.Pages.{Book}
-use Rattle.console_link.specs.declared.console.Link.{Link}
+use Rattle.console_link.specs.declared.console.ConsoleRings.{ConsoleRings}
 use Rattle.console_link.specs.declared.lane.Lane.{Lane}
 use Rattle.console_link.specs.Seats.{IsConsoleOf}
 use Rattle.alarm_orders.specs.declared.order.Order.{Order}
@@ -24,7 +24,7 @@ abbrev L : Type 0
 L = Lane Order Reply
 
 abbrev C : Type 0
-C = Link Order Reply
+C = ConsoleRings Order Reply
 
 abbrev O : Type 0
 O = Console Order Reply

@@ -1,7 +1,7 @@
 -- The lanes of a station's consoles: each is found by its number.
 use Rattle.std.specs.Prelude.{◌≡◌, ℕ, ◌==◌, Bool, true, false, List, [], ◌∷◌, length, map, nat_eq, nat_le, Option, Some, None, All, MatchBool, if◌then◌else◌}
-use Rattle.console_link.specs.declared.console.Link.{Link}
-use Rattle.console_link.specs.declared.console.FinishedLink.{FinishedLink}
+use Rattle.console_link.specs.declared.console.ConsoleRings.{ConsoleRings}
+use Rattle.console_link.specs.declared.console.FinishedRings.{FinishedRings}
 use Rattle.console_link.specs.declared.lane.Lane.{Lane}
 use Rattle.console_link.specs.Seats.{orders_taken, answers_given, submitted, taken as answers_taken, known_room, IsConsoleOf, IsEndOf, IsOpen, left_of, seen_by}
 use Rattle.alarm_orders.specs.declared.order.Order.{Order}
@@ -32,12 +32,12 @@ abbrev pub HasNoTwin : List ℕ → Type 0
 HasNoTwin numbers = repeats nat_eq numbers ≡ false
 
 -- the lane of a console's number is the owner's end of its rings
-abbrev pub IsConsoleIn : List (Lane Order Reply) → Link Order Reply → Type 0
+abbrev pub IsConsoleIn : List (Lane Order Reply) → ConsoleRings Order Reply → Type 0
 IsConsoleIn [] c = ⊥
 IsConsoleIn (lane ∷ lanes) c = MatchBool (lane.number == c.number) (IsConsoleOf c lane) (IsConsoleIn lanes c)
 
 -- and of the rings of a console that has ended
-abbrev pub IsLinkEndIn : List (Lane Order Reply) → FinishedLink Order Reply → Type 0
+abbrev pub IsLinkEndIn : List (Lane Order Reply) → FinishedRings Order Reply → Type 0
 IsLinkEndIn [] f = ⊥
 IsLinkEndIn (lane ∷ lanes) f = MatchBool (lane.number == f.number) (IsEndOf f lane) (IsLinkEndIn lanes f)
 
@@ -50,11 +50,11 @@ abbrev pub IsOfLog : Book → Lane Order Reply → Type 0
 IsOfLog log lane = lane.log ≡ log
 
 -- the rings of consoles that have ended
-abbrev pub links_in : List (Ended Order Reply) → List (FinishedLink Order Reply)
+abbrev pub links_in : List (Ended Order Reply) → List (FinishedRings Order Reply)
 links_in consoles = map (λ (f : Ended Order Reply). f.link) consoles
 
 -- each console has its lane, in the same order
-abbrev pub ArePairs : List (Link Order Reply) → List (Lane Order Reply) → Type 0
+abbrev pub ArePairs : List (ConsoleRings Order Reply) → List (Lane Order Reply) → Type 0
 ArePairs [] [] = Unit {0}
 ArePairs [] (lane ∷ lanes) = ⊥
 ArePairs (c ∷ consoles) [] = ⊥
@@ -67,14 +67,14 @@ pub record IsUnused (lane : Lane Order Reply) : Type 0 where
   pub is_open : IsOpen lane
 
 -- a console before it submits its first order
-pub record IsFresh (c : Link Order Reply) : Type 0 where
+pub record IsFresh (c : ConsoleRings Order Reply) : Type 0 where
   pub none_submitted : submitted c ≡ []
   pub none_taken : answers_taken c ≡ []
   pub room : known_room c ≡ 64
 
 -- a console and a lane for each of these numbers, in order, before the first order
-pub record AreOpened (numbers : List ℕ) (consoles : List (Link Order Reply)) (lanes : List (Lane Order Reply)) : Type 0 where
-  pub console_numbers : map (λ (c : Link Order Reply). c.number) consoles ≡ numbers
+pub record AreOpened (numbers : List ℕ) (consoles : List (ConsoleRings Order Reply)) (lanes : List (Lane Order Reply)) : Type 0 where
+  pub console_numbers : map (λ (c : ConsoleRings Order Reply). c.number) consoles ≡ numbers
   pub lane_numbers : numbers_in lanes ≡ numbers
   pub pairs : ArePairs consoles lanes
   pub fresh : All IsFresh consoles
@@ -82,11 +82,11 @@ pub record AreOpened (numbers : List ℕ) (consoles : List (Link Order Reply)) (
 
 -- each console of the one is a console of the other, also where it has ended
 pub record KeepsConsoles (before after : List (Lane Order Reply)) : Type 0 where
-  pub consoles : (c : Link Order Reply) → IsConsoleIn before c → IsConsoleIn after c
-  pub ended : (f : FinishedLink Order Reply) → IsLinkEndIn before f → IsLinkEndIn after f
+  pub consoles : (c : ConsoleRings Order Reply) → IsConsoleIn before c → IsConsoleIn after c
+  pub ended : (f : FinishedRings Order Reply) → IsLinkEndIn before f → IsLinkEndIn after f
 
 -- the ends of the consoles' rings
-abbrev pub links_of : List (Console Order Reply) → List (Link Order Reply)
+abbrev pub links_of : List (Console Order Reply) → List (ConsoleRings Order Reply)
 links_of consoles = map (λ (c : Console Order Reply). c.link) consoles
 
 -- each of the consoles is one of the station with these lanes
@@ -123,12 +123,12 @@ is_within number events [] = false
 is_within number events (lane ∷ lanes) = if lane.number == number then saw_within events (seen_by lane) else is_within number events lanes
 
 -- and a console that has ended, if it has
-abbrev pub has_seen_within : ℕ → Option (FinishedLink Order Reply) → Bool
+abbrev pub has_seen_within : ℕ → Option (FinishedRings Order Reply) → Bool
 has_seen_within events None = false
 has_seen_within events (Some f) = nat_le f.seen events
 
 -- the first of a list of ended rings that has this number
-abbrev pub finished_of : ℕ → List (FinishedLink Order Reply) → Option (FinishedLink Order Reply)
+abbrev pub finished_of : ℕ → List (FinishedRings Order Reply) → Option (FinishedRings Order Reply)
 finished_of number [] = None
 finished_of number (f ∷ consoles) = if f.number == number then Some f else finished_of number consoles
 

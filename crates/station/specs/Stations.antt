@@ -5,7 +5,7 @@ use mathlib.Core.List.{IsPrefix}
 use Rattle.logbook.specs.Pages.{Book}
 use Rattle.plant_types.specs.Pairs.{PlainPair}
 use Rattle.console_link.specs.declared.answer.Answer.{Answer}
-use Rattle.console_link.specs.declared.console.FinishedLink.{FinishedLink}
+use Rattle.console_link.specs.declared.console.FinishedRings.{FinishedRings}
 use Rattle.console_link.specs.declared.lane.Lane.{Lane}
 use Rattle.console_link.specs.contracts.lane.Lane as lane_row
 use Rattle.console_link.specs.Seats.{orders_taken, answers_given, IsOpen, all_submitted, all_taken}
@@ -107,7 +107,7 @@ module _ {C : Type 0} where
     pub refusals : new.refusals ≡ old.refusals
 
 -- what is known of a console once its station is closed: the orders that the history has of it, followed by those that are left, are what it submitted, each once and in order; the answers that it took are the first of those that the history has of it. Nothing is left of one whose end wasn't handed in
-abbrev pub IsClosed : List (Answer Order Reply) → List Order → Option (FinishedLink Order Reply) → Type 0
+abbrev pub IsClosed : List (Answer Order Reply) → List Order → Option (FinishedRings Order Reply) → Type 0
 IsClosed answers left None = left ≡ []
 IsClosed answers left (Some f) = (orders_in answers ++ left ≡ all_submitted f) × IsPrefix (all_taken f) answers
 

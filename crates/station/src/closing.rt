@@ -6,7 +6,7 @@ ghost use Rattle.station.specs.Lanes.{left_in, is_within, numbers_in, links_in, 
 ghost use Rattle.station.specs.Closings.{EndedOne, AreEnded};
 
 use console_boards::BoardEntry;
-use console_link::{FinishedLink, Lane};
+use console_link::{FinishedRings, Lane};
 use console_log::Mark;
 use engine::{Engine, Order, Reply};
 use std::marker::Model;
@@ -39,7 +39,7 @@ impl<C> Model for Closing<C> {
 }
 
 /// Joins the rings of a console that has ended with the lane of its number.
-fn end_lane(lanes: &mut [Lane<Order, Reply>], console: FinishedLink<Order, Reply>)
+fn end_lane(lanes: &mut [Lane<Order, Reply>], console: FinishedRings<Order, Reply>)
     requires { IsLinkEndIn lanes.old console }
     ensures { EndedOne console lanes.old lanes.new }
 {
@@ -57,7 +57,7 @@ fn end_lane(lanes: &mut [Lane<Order, Reply>], console: FinishedLink<Order, Reply
 pub(crate) fn end_lanes(
     lanes: &mut [Lane<Order, Reply>],
     mark: &mut Mark<BoardEntry>,
-    mut finished: Vec<console_operator::FinishedLink<Order, Reply>>,
+    mut finished: Vec<console_operator::Finished<Order, Reply>>,
 )
     requires once { HasNoTwin (numbers_in lanes.old) }
     requires ends { All (IsEndIn lanes.old) finished.items }

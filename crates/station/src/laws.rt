@@ -1,8 +1,8 @@
 //! Laws of a station's consoles. These functions do nothing; they have the laws as their contracts.
 
 ghost use Rattle.std.specs.Prelude.{List};
-ghost use Rattle.console_link.specs.declared.console.Link.{Link};
-ghost use Rattle.console_link.specs.declared.console.FinishedLink.{FinishedLink};
+ghost use Rattle.console_link.specs.declared.console.ConsoleRings.{ConsoleRings};
+ghost use Rattle.console_link.specs.declared.console.FinishedRings.{FinishedRings};
 ghost use Rattle.console_link.specs.declared.lane.Lane.{Lane};
 ghost use Rattle.console_link.specs.Seats.{SameConsole, Ends};
 ghost use Rattle.alarm_orders.specs.declared.order.Order.{Order};
@@ -16,9 +16,9 @@ ghost use Rattle.station.specs.Stations.{AnswersAreShown, EndsTellWhatWasSeen};
 /// A console of a station is one after each of its own calls, and where it has ended it is an ended console of that station: so `close` may be
 /// called with it.
 pub fn consoles_stay()
-    ensures stays { (lanes : List (Lane Order Reply)) (c d : Link Order Reply) → IsConsoleIn lanes c
+    ensures stays { (lanes : List (Lane Order Reply)) (c d : ConsoleRings Order Reply) → IsConsoleIn lanes c
         → SameConsole c d → IsConsoleIn lanes d }
-    ensures ends { (lanes : List (Lane Order Reply)) (c : Link Order Reply) (f : FinishedLink Order Reply)
+    ensures ends { (lanes : List (Lane Order Reply)) (c : ConsoleRings Order Reply) (f : FinishedRings Order Reply)
         → IsConsoleIn lanes c → Ends c f → IsLinkEndIn lanes f }
     ensures ended { (lanes : List (Lane Order Reply)) (c : Operator Order Reply) (f : Ended Order Reply)
         → IsConsoleIn lanes c.link → EndsAs c f → IsEndIn lanes f }

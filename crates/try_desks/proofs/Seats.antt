@@ -1,7 +1,7 @@
 -- Consoles go to their threads and come back, and stay those of their station.
 use Rattle.std.proofs.Common.{◌≡◌, List, [], ◌∷◌, ◌++◌, All, Option, Some, None, IfSome, refl, sym, ◌∙◌, subst}
 use Rattle.std.proofs.lemmas.List.Elements.{All-nil, All-cons, All-head, All-tail, All-append, All-weaker}
-use Rattle.console_link.specs.declared.console.Link.{Link}
+use Rattle.console_link.specs.declared.console.ConsoleRings.{ConsoleRings}
 use Rattle.console_link.specs.declared.lane.Lane.{Lane}
 use Rattle.console_link.specs.Seats.{SameConsole, Ends}
 use Rattle.alarm_orders.specs.declared.order.Order.{Order}
@@ -18,7 +18,7 @@ abbrev C : Type 0
 C = Console Order Reply
 
 abbrev K : Type 0
-K = Link Order Reply
+K = ConsoleRings Order Reply
 
 abbrev F : Type 0
 F = Finished Order Reply

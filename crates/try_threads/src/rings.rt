@@ -1,11 +1,11 @@
 //! Full rings.
 use crate::turns::{opened, submit, take, turn};
-use console_link::{Lane, Link};
+use console_link::{Lane, ConsoleRings};
 use std::process::Abort;
 use std::test::*;
 
 /// Whether rings have room for 64 orders, and hand the next one back.
-fn hand_back(console: &mut Link<u32, u8>) -> bool {
+fn hand_back(console: &mut ConsoleRings<u32, u8>) -> bool {
     console.room() == 64
         && submit(console, 0, 64) == 64
         && console.room() == 0
@@ -13,7 +13,7 @@ fn hand_back(console: &mut Link<u32, u8>) -> bool {
 }
 
 /// Whether the orders of full rings are taken, and 64 more only where the answers to the first were taken.
-fn take_turns(console: &mut Link<u32, u8>, lane: &mut Lane<u32, u8>) -> bool {
+fn take_turns(console: &mut ConsoleRings<u32, u8>, lane: &mut Lane<u32, u8>) -> bool {
     turn(lane) == 64
         && submit(console, 64, 128) == 64
         && turn(lane) == 0

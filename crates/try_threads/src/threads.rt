@@ -1,6 +1,6 @@
 //! Consoles in threads of their own.
 use crate::turns::{opened, turn};
-use console_link::{Lane, Link};
+use console_link::{Lane, ConsoleRings};
 use std::process::Abort;
 use std::rt::Clock;
 use std::sync::Wait;
@@ -15,7 +15,7 @@ const LOOKS: u64 = 1_000_000_000;
 const TURNS: u32 = 100_000;
 
 /// Submits 100 orders, and tells whether each was answered once and in order.
-fn submit_hundred(console: Link<u32, u8>) -> bool {
+fn submit_hundred(console: ConsoleRings<u32, u8>) -> bool {
     let mut console = console;
     let mut submitted = 0u32;
     let mut answered = 0u32;

@@ -1,10 +1,10 @@
 //! A console's part of a turn.
-use console_link::{Lane, Link, open};
+use console_link::{Lane, ConsoleRings, open};
 use console_log::Log;
 use std::alloc::{AllocError, Global};
 
 /// A console of a number, and the owner's ends of its rings; where memory is refused they are made once more.
-pub fn opened(alloc: Global, number: u32) -> Result<(Link<u32, u8>, Lane<u32, u8>), AllocError> {
+pub fn opened(alloc: Global, number: u32) -> Result<(ConsoleRings<u32, u8>, Lane<u32, u8>), AllocError> {
     let log = Log::<u32>::new();
     match open(alloc, number, &log.mark()) {
         Ok(ends) => Ok(ends),
@@ -24,7 +24,7 @@ pub fn turn(lane: &mut Lane<u32, u8>) -> u32 {
 }
 
 /// Submits the orders from one number on up to another, and tells how many were submitted.
-pub fn submit(console: &mut Link<u32, u8>, from: u32, until: u32) -> u32 {
+pub fn submit(console: &mut ConsoleRings<u32, u8>, from: u32, until: u32) -> u32 {
     let mut count = 0u32;
     for order in from..until {
         if console.submit(order).is_ok() {
@@ -35,7 +35,7 @@ pub fn submit(console: &mut Link<u32, u8>, from: u32, until: u32) -> u32 {
 }
 
 /// Takes the answers to the orders from one number on up to another, and tells whether they came in this order.
-pub fn take(console: &mut Link<u32, u8>, from: u32, until: u32) -> bool {
+pub fn take(console: &mut ConsoleRings<u32, u8>, from: u32, until: u32) -> bool {
     for order in from..until {
         match console.answer() {
             Some(answer) => {

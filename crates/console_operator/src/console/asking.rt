@@ -11,7 +11,7 @@ use console_link::Answer;
 
 impl<O: Drop, R: Drop> Console<O, R> {
     /// A console with these rings and this reader of the board, which has its marks in the log that the rings tell.
-    pub fn new(link: console_link::Link<O, R>, reader: BoardReader) -> Console<O, R>
+    pub fn new(link: console_link::ConsoleRings<O, R>, reader: BoardReader) -> Console<O, R>
         requires log { link.log ≡ log_of reader }
         ensures rings { result.link ≡ link }
         ensures seen { (story_seen result ≡ seen reader) × (story_told result ≡ told reader) }

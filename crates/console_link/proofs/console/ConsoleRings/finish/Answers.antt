@@ -1,6 +1,6 @@
 use Rattle.std.proofs.Common.{arith}
 use Rattle.std.proofs.lemmas.Grind.{common_steps}
-use Rattle.console_link.proofs.console.Link.finish.Goals as goal
+use Rattle.console_link.proofs.console.ConsoleRings.finish.Goals as goal
 
 pub returns-in_err-orders-clause-rings : goal.returns-in_err-orders-clause-rings
 returns-in_err-orders-clause-rings c = grind (arith, common_steps)
