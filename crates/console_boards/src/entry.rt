@@ -29,7 +29,7 @@ pub enum BoardEntry {
 #[derive(Drop)]
 pub enum Operation {
     /// An entry is taken in, if it may come next.
-    BoardEntry(BoardEntry),
+    Entry(BoardEntry),
     /// The board is marked anew.
     Mark(Mark<BoardEntry>),
 }
