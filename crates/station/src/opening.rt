@@ -50,7 +50,7 @@ pub(crate) type Lanes = Vec<Lane<Order, Reply>>;
 /// A console and a lane for each that a plant lists, in order. Each console's reader is told of the board as it is.
 pub(crate) fn open_lanes(
     alloc: Global,
-    listed: &[engine::Console],
+    listed: &[engine::ListedConsole],
     board: &mut BoardWriter,
 ) -> Result<(Consoles, Lanes), StationFault>
     ensures same { (published board.new ≡ published board.old) × (laid board.new ≡ laid board.old)

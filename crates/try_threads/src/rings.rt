@@ -1,6 +1,6 @@
 //! Full rings.
 use crate::turns::{opened, submit, take, turn};
-use console_link::{Lane, ConsoleRings};
+use console_link::{ConsoleRings, Lane};
 use std::process::Abort;
 use std::test::*;
 

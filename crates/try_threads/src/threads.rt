@@ -1,6 +1,6 @@
 //! Consoles in threads of their own.
 use crate::turns::{opened, turn};
-use console_link::{Lane, ConsoleRings};
+use console_link::{ConsoleRings, Lane};
 use std::process::Abort;
 use std::rt::Clock;
 use std::sync::Wait;

@@ -1,10 +1,13 @@
 //! A console's part of a turn.
-use console_link::{Lane, ConsoleRings, open};
+use console_link::{ConsoleRings, Lane, open};
 use console_log::Log;
 use std::alloc::{AllocError, Global};
 
 /// A console of a number, and the owner's ends of its rings; where memory is refused they are made once more.
-pub fn opened(alloc: Global, number: u32) -> Result<(ConsoleRings<u32, u8>, Lane<u32, u8>), AllocError> {
+pub fn opened(
+    alloc: Global,
+    number: u32,
+) -> Result<(ConsoleRings<u32, u8>, Lane<u32, u8>), AllocError> {
     let log = Log::<u32>::new();
     match open(alloc, number, &log.mark()) {
         Ok(ends) => Ok(ends),
