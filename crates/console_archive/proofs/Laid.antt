@@ -1,22 +1,16 @@
 -- The entry that is laid by is that of the event that was made ready.
-use Rattle.std.proofs.Common.{◌≡◌, ℕ, ℤ, map, Bool, true, List, [], ◌∷◌, ◌++◌, Result, Ok, Err, MatchResult, ap, sym, ◌∙◌, subst}
-use Rattle.logic_cells.specs.Cells.{PlainCells, value_at}
-use Rattle.logic_frames.specs.Stands.{StandFor}
+use Rattle.std.proofs.Common.{◌≡◌, true, List, [], ◌∷◌, ◌++◌, Result, Ok, Err, MatchResult, ap, sym, ◌∙◌}
+use Rattle.alarm_machine.specs.Alarms.{PlainAlarm}
 use Rattle.alarm_bank.specs.declared.event.BankEvent.{BankEvent}
-use Rattle.alarm_bank.specs.declared.event.BankEvent.TheVariants as bank_event
-use Rattle.alarm_delays.specs.Delays.{PlainDelays, delayed_each, since_of}
-use Rattle.alarm_delays.proofs.DelayLaws.{counts_scans}
+use Rattle.alarm_bank.specs.Moves.{put_all}
 use Rattle.engine_history.specs.declared.event.Event.{Event}
 use Rattle.engine_history.specs.declared.event.Event.TheVariants as event
-use Rattle.plant_config.specs.declared.rows.AlarmRow.{AlarmRow}
-use Rattle.plant_config.specs.Plants.{PlainPlant, IsPlant}
-use Rattle.plant_config.specs.Names.{globals_of}
+use Rattle.plant_config.specs.Plants.{PlainPlant}
 use Rattle.engine_system.specs.declared.event.Reply.{Reply}
-use Rattle.engine_system.specs.Programs.{global_in}
-use Rattle.engine_system.specs.States.{PlainPrepared, PlainPreparedOrder, delays_in}
-use Rattle.engine_system.specs.System.{system, opening_system, after_event, conditions, delays_of, suppressions, scanned_by}
-use Rattle.engine_system.proofs.CellWorlds.{SameGlobals, conditions_same, values_stand}
-use Rattle.engine.specs.Engines.{PlainEngine, state_of, Fits, FitsOrder, LeavesState}
+use Rattle.engine_system.specs.States.{PlainPrepared, PlainPreparedOrder}
+use Rattle.engine_system.specs.System.{system, opening_system, after_event, after_scan_event}
+use Rattle.engine_system.proofs.Systems.{alarms_there}
+use Rattle.engine.specs.Engines.{PlainEngine, state_of, Fits, FitsOrder, LeavesAlarms}
 use Rattle.console_boards.specs.declared.entry.BoardEntry.{BoardEntry}
 use Rattle.console_boards.specs.declared.entry.BoardEntry.TheVariants as entry
 use Rattle.console_boards.specs.declared.picture.Picture.{Picture}
@@ -27,28 +21,18 @@ use Rattle.console_boards.specs.Replies.{after, allows}
 use Rattle.console_boards.specs.Readers.{laid}
 use Rattle.console_archive.specs.Entries.{board_reply, picture_of, entry_of, entries_of}
 use Rattle.console_archive.specs.Showing.{HasHistory}
-use Rattle.console_archive.proofs.Scans.{suppressions_same}
+use Rattle.console_archive.proofs.Scans.{given_to, given_after}
 use Rattle.console_archive.proofs.Steps.{history_more, next_may, alarms_next}
 
--- what a scan gives, by the cells that it leaves and what is kept of the delays before it
-abbrev pub given_from : (ℕ → ℤ) → ℕ → List AlarmRow → PlainDelays → BankEvent
-given_from now t rows d = bank_event.Scan t (delayed_each (conditions now rows) t d.delays d.since) (suppressions now rows)
-
-pub scan_entry : (e : PlainEngine) (p : PlainPrepared) (rows : List AlarmRow) (d : PlainDelays) → Fits e p → LeavesState e p → IsPlant ((state_of e).plant) → rows ≡ (state_of e).plant.alarms → d ≡ delays_in (state_of e)
-    → entry.Scan (given_from (value_at p.effect.cells) p.report.moment rows d) ≡ entry_of (state_of e) p.event
-scan_entry e p rows d fits leaves is same kept =
+pub scan_entry : (e : PlainEngine) (p : PlainPrepared) (alarms : List PlainAlarm) → Fits e p → LeavesAlarms e p → alarms ≡ (state_of e).alarms
+    → entry.Scan (given_to p.report.moment (put_all alarms p.effect.moved)) ≡ entry_of (state_of e) p.event
+scan_entry e p alarms fits leaves same =
     let sys = state_of e in
     let t = p.report.moment in
-    let world = (scanned_by sys fits.image t).world in
-    let f = value_at p.effect.cells in
-    let g = global_in (globals_of sys.plant) world in
-    let left : StandFor sys.plant.source leaves.state.cells world = subst (λ (x : Event). StandFor ((after_event sys x).plant.source) leaves.state.cells ((after_event sys x).world)) fits.event_is leaves.state_is.world_stands in
-    let stands : StandFor sys.plant.source p.effect.cells world = subst (λ (cells : PlainCells). StandFor sys.plant.source cells world) leaves.cells_are left in
-    let globals : SameGlobals sys.plant.source f g = values_stand sys.plant.source p.effect.cells world stands in
-    let mine = sys.plant.alarms in
-    (λ i. entry.Scan (given_from f t (same i) (kept i)))
-    ∙ (λ i. entry.Scan (bank_event.Scan t (delayed_each (conditions_same sys.plant f g mine globals is.alarms i) t (delays_of mine) (map since_of sys.scans)) (suppressions_same sys.plant f g mine globals is.alarms i)))
-    ∙ ap (λ (cs : List Bool). entry.Scan (bank_event.Scan t cs (suppressions g mine))) (sym (counts_scans (conditions g mine) t (delays_of mine) sys.scans))
+    let left : put_all alarms p.effect.moved ≡ (after_scan_event sys fits.image t).alarms =
+    ap (λ (l : List PlainAlarm). put_all l p.effect.moved) same ∙ leaves ∙ ap (λ (x : Event). (after_event sys x).alarms) fits.event_is in
+    ap (λ (l : List PlainAlarm). entry.Scan (given_to t l)) left
+    ∙ ap (λ (b : BankEvent). entry.Scan b) (given_after sys fits.image t (alarms_there e.plant e.history))
     ∙ ap (λ (x : Event). entry_of sys x) (sym fits.event_is)
 
 pub order_entry : (e : PlainEngine) (p : PlainPreparedOrder) → FitsOrder e p → entry.Order p.console (record { order = p.order; reply = board_reply p.reply }) ≡ entry_of (state_of e) (event.Order p.console p.order)

@@ -1,4 +1,5 @@
 pub mod Crews
+pub mod Flags
 pub mod Laid
 pub mod Numbered
 pub mod Orders

@@ -1,23 +1,21 @@
 -- A scan's entry does to a board's alarms what the scan does to the system's.
-use Rattle.std.proofs.Common.{◌≡◌, ℕ, ℤ, ◌==◌, ◌≤◌, Bool, true, ◌&&◌, if◌then◌else◌, nat_le, List, [], ◌∷◌, length, map, All, Option, Some, None, IfSome, refl, ap, sym, ◌∙◌, eq-eqb}
+use Rattle.std.proofs.Common.{◌≡◌, ℕ, ℤ, ◌==◌, ◌≤◌, Bool, true, ◌&&◌, if◌then◌else◌, nat_le, List, length, map, ap, sym, ◌∙◌, eq-eqb}
 use Rattle.std.proofs.lemmas.List.{length-map}
-use Rattle.std.proofs.lemmas.List.Elements.{All-head, All-tail}
 use Rattle.std.proofs.lemmas.Bool.{le-leb}
-use Rattle.plant_types.specs.Values.{is_true}
 use Rattle.plant_types.specs.declared.values.Value.{Value}
-use Rattle.logic_source.specs.Source.{Source}
+use Rattle.alarm_machine.specs.Alarms.{PlainAlarm}
 use Rattle.alarm_machine.specs.declared.limits.TheConstants.{LAST_MOMENT}
+use Rattle.alarm_bank.specs.declared.event.BankEvent.{BankEvent}
 use Rattle.alarm_bank.specs.declared.event.BankEvent.TheVariants as bank_event
 use Rattle.alarm_bank.specs.Banks.{PlainBank, scan_each, after_event}
+use Rattle.alarm_bank.proofs.BankLaws.{conditions_scanned, suppressions_scanned}
 use Rattle.alarm_watch.specs.Watched.{suppression}
 use Rattle.plant_config.specs.declared.rows.AlarmRow.{AlarmRow}
-use Rattle.plant_config.specs.Plants.{PlainPlant, IsAlarmRow, IsBoolGlobal}
 use Rattle.plant_config.specs.Names.{globals_of}
 use Rattle.engine_system.specs.Programs.{global_in}
 use Rattle.engine_system.specs.System.{System, suppressions, scanned_by, scans_after, after_scan_event}
 use Rattle.engine_system.proofs.Systems.{HasAlarms, length-scans_after}
 use Rattle.alarm_delays.specs.Delays.{counts}
-use Rattle.engine_system.proofs.CellWorlds.{SameGlobals}
 use Rattle.console_archive.specs.Entries.{given_by, bank_of}
 
 both : (a b : Bool) → a ≡ true → b ≡ true → (a && b) ≡ true
@@ -30,21 +28,31 @@ scan_taken cs ss t b h k few =
     ap (λ (fits : Bool). if fits then record b { alarms = scan_each cs ss t b.alarms; moment = t } else b)
     (both (length cs == length b.alarms && length ss == length b.alarms) (nat_le t LAST_MOMENT) (both (length cs == length b.alarms) (length ss == length b.alarms) (eq-eqb (length cs) (length b.alarms) h) (eq-eqb (length ss) (length b.alarms) k)) (le-leb t LAST_MOMENT few))
 
+-- a scan has a condition that counts, and a suppression, for each alarm
+conditions_each : (now : ℕ → ℤ) (t : ℕ) (sys : System) → HasAlarms sys → length (map counts (scans_after now t sys.plant.alarms sys.scans)) ≡ length sys.alarms
+conditions_each now t sys each =
+    let scans = scans_after now t sys.plant.alarms sys.scans in
+    length-map scans counts ∙ length-scans_after now t sys.plant.alarms sys.scans each.1 ∙ sym each.0
+
+suppressions_each : (now : ℕ → ℤ) (sys : System) → HasAlarms sys → length (suppressions now sys.plant.alarms) ≡ length sys.alarms
+suppressions_each now sys each = length-map sys.plant.alarms (λ (row : AlarmRow). suppression now row.suppress) ∙ sym each.0
+
 pub scan_after : (sys : System) (image : List (ℕ × Value)) (t : ℕ) → HasAlarms sys → t ≤ LAST_MOMENT → after_event (given_by sys image t) (bank_of sys) ≡ bank_of (after_scan_event sys image t)
 scan_after sys image t each few =
     let now = global_in (globals_of sys.plant) (scanned_by sys image t).world in
     let rows = sys.plant.alarms in
-    let scans = scans_after now t rows sys.scans in
-    scan_taken (map counts scans) (suppressions now rows) t (bank_of sys) (length-map scans counts ∙ length-scans_after now t rows sys.scans each.1 ∙ sym each.0) (length-map rows (λ (row : AlarmRow). suppression now row.suppress) ∙ sym each.0) few
+    scan_taken (map counts (scans_after now t rows sys.scans)) (suppressions now rows) t (bank_of sys) (conditions_each now t sys each) (suppressions_each now sys each) few
 
-suppression_same : (source : Source) (f g : ℕ → ℤ) (suppress : Option ℕ) → SameGlobals source f g → IfSome suppress (IsBoolGlobal source.globals) → suppression f suppress ≡ suppression g suppress
-suppression_same source f g None same is = refl
-suppression_same source f g (Some n) same is = ap is_true (same n is.within)
+-- what a scan gives that leaves alarms: the condition and the suppression that each has then
+abbrev pub given_to : ℕ → List PlainAlarm → BankEvent
+given_to t alarms = bank_event.Scan t (map (λ (a : PlainAlarm). a.condition) alarms) (map (λ (a : PlainAlarm). a.suppressed) alarms)
 
--- alarms watch only globals
-pub suppressions_same : (plant : PlainPlant) (f g : ℕ → ℤ) (rows : List AlarmRow) → SameGlobals plant.source f g → All (IsAlarmRow plant) rows → suppressions f rows ≡ suppressions g rows
-suppressions_same plant f g [] same all = refl
-suppressions_same plant f g (row ∷ rows) same all =
-    let is = All-head (IsAlarmRow plant) row rows all in
-    ap (λ s. s ∷ suppressions f rows) (suppression_same plant.source f g row.suppress same is.suppress)
-    ∙ ap (λ l. suppression g row.suppress ∷ l) (suppressions_same plant f g rows same (All-tail (IsAlarmRow plant) row rows all))
+-- each alarm has after a scan the condition and the suppression that the scan gives it
+pub given_after : (sys : System) (image : List (ℕ × Value)) (t : ℕ) → HasAlarms sys → given_to t (after_scan_event sys image t).alarms ≡ given_by sys image t
+given_after sys image t each =
+    let now = global_in (globals_of sys.plant) (scanned_by sys image t).world in
+    let cs = map counts (scans_after now t sys.plant.alarms sys.scans) in
+    let ss = suppressions now sys.plant.alarms in
+    let conditions = conditions_scanned cs ss t sys.alarms (conditions_each now t sys each) (suppressions_each now sys each) in
+    let suppressed = suppressions_scanned cs ss t sys.alarms (conditions_each now t sys each) (suppressions_each now sys each) in
+    λ i. bank_event.Scan t (conditions i) (suppressed i)

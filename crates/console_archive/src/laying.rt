@@ -1,13 +1,9 @@
 //! How the entry of an event is laid by.
 
-ghost use Rattle.std.specs.Prelude.{◌≡◌, [], ◌∷◌, ◌++◌, length, map, IfOk, MatchResult};
+ghost use Rattle.std.specs.Prelude.{◌≡◌, [], ◌∷◌, ◌++◌, map, slice_set, IfOk, MatchResult};
 ghost use Rattle.alarm_bank.specs.declared.event.BankEvent.TheVariants.{Scan};
+ghost use Rattle.alarm_bank.specs.Moves.{put_all};
 ghost use Rattle.engine_history.specs.declared.event.Event.TheVariants.{Order, Reload};
-ghost use Rattle.alarm_delays.specs.Delays.{delayed_each};
-ghost use Rattle.logic_cells.specs.Cells.{value_at};
-ghost use Rattle.plant_types.specs.Values.{is_true};
-ghost use Rattle.alarm_watch.specs.Watched.{suppression};
-ghost use Rattle.engine_system.specs.System.{conditions, suppressions};
 ghost use Rattle.engine.specs.Engines.{Fits, FitsOrder, state_of};
 ghost use Rattle.engine.specs.Lawful.{IsTaken};
 ghost use Rattle.console_boards.specs.Readers.{published, log_kept};
@@ -15,70 +11,54 @@ ghost use Rattle.console_archive.specs.Entries.{board_reply};
 ghost use Rattle.console_archive.specs.Showing.{HasHistory};
 
 use alarm_bank::BankEvent;
-use alarm_delays::Delays;
-use alarm_watch::value_at;
+use alarm_machine::Alarm;
 use console_boards::{AnsweredOrder, BoardEntry, BoardWriter, OrderOutcome};
 use engine::{Engine, Prepared, PreparedOrder};
 use engine_system::{Reply, news_of};
-use logic_cells::Cells;
-use plant_config::{AlarmRow, Plant};
+use plant_config::Plant;
 use plant_types::Items;
 use std::alloc::{AllocError, Global};
 
-fn is_met(cells: &Cells, row: &AlarmRow) -> bool
-    ensures { result ≡ is_true (value_at cells.now row.now.condition) }
+/// The condition and the suppression of each alarm.
+fn flags_of(alloc: Global, alarms: &[Alarm]) -> Result<(Vec<bool>, Vec<bool>), AllocError>
+    ensures conditions { IfOk result (λ flags. flags.0.items ≡ map (λ a. a.condition) alarms.now) }
+    ensures suppressions { IfOk result (λ flags. flags.1.items ≡ map (λ a. a.suppressed) alarms.now) }
 {
-    value_at(cells, row.condition) != 0
-}
-
-/// The condition of each alarm, by cells.
-fn conditions(alloc: Global, rows: &[AlarmRow], cells: &Cells) -> Result<Vec<bool>, AllocError>
-    ensures { IfOk result (λ flags. flags.items ≡ conditions (value_at cells.now) rows.now) }
-{
-    let mut flags = Vec::with_capacity(alloc, rows.len())?;
-    for row in rows {
-        flags.push(is_met(cells, row))?;
+    let mut conds = Vec::with_capacity(alloc, alarms.len())?;
+    let mut sups = Vec::with_capacity(alloc, alarms.len())?;
+    for alarm in alarms {
+        conds.push(alarm.condition())?;
+        sups.push(alarm.suppressed())?;
     }
-    Ok(flags)
+    Ok((conds, sups))
 }
 
-fn is_suppressed(cells: &Cells, row: &AlarmRow) -> bool
-    ensures { result ≡ suppression (value_at cells.now) row.now.suppress }
+/// Puts a flag in the place of the one of a number. A number that isn't there changes nothing.
+fn put_flag(flags: &mut Vec<bool>, number: u32, flag: bool)
+    ensures { flags.new.items ≡ slice_set flags.old.items number flag }
 {
-    match row.suppress {
-        Some(global) => value_at(cells, global) != 0,
-        None => false,
+    let at = number as usize;
+    if at < flags.len() {
+        flags[at] = flag;
     }
 }
 
-/// The suppression of each alarm, by cells.
-fn suppressions(alloc: Global, rows: &[AlarmRow], cells: &Cells) -> Result<Vec<bool>, AllocError>
-    ensures { IfOk result (λ flags. flags.items ≡ suppressions (value_at cells.now) rows.now) }
-{
-    let mut flags = Vec::with_capacity(alloc, rows.len())?;
-    for row in rows {
-        flags.push(is_suppressed(cells, row))?;
-    }
-    Ok(flags)
-}
-
-/// What a scan gives to alarms with these delays that leaves these cells.
+/// What a scan gives to alarms of which it moves some: the condition and the suppression that each has then.
 fn given(
     alloc: Global,
-    rows: &[AlarmRow],
-    delays: &Delays,
-    cells: &Cells,
+    alarms: &[Alarm],
+    moved: &[(u32, Alarm)],
     moment: u64,
 ) -> Result<BankEvent, AllocError>
-    requires { length delays.now.delays ≡ length rows.now }
     ensures { IfOk result (λ event. event
-        ≡ Scan moment
-        (delayed_each (conditions (value_at cells.now) rows.now) moment delays.now.delays
-        delays.now.since) (suppressions (value_at cells.now) rows.now)) }
+        ≡ Scan moment (map (λ a. a.condition) (put_all alarms.now moved.now))
+        (map (λ a. a.suppressed) (put_all alarms.now moved.now))) }
 {
-    let mut conds = conditions(alloc, rows, cells)?;
-    delays.which_count(conds.as_mut_slice(), moment);
-    let sups = suppressions(alloc, rows, cells)?;
+    let (mut conds, mut sups) = flags_of(alloc, alarms)?;
+    for (number, alarm) in moved {
+        put_flag(&mut conds, *number, alarm.condition());
+        put_flag(&mut sups, *number, alarm.suppressed());
+    }
     Ok(BankEvent::Scan {
         moment,
         conds: Items::from_vec(conds),
@@ -110,12 +90,10 @@ pub fn lay_scan(
         (λ _. HasHistory engine.now.plant (engine.now.history ++ prepared.now.event ∷ []) board.new)
         (λ _. HasHistory engine.now.plant engine.now.history board.new) }
 {
-    engine.leaves_a_state(prepared);
-    let rows = engine.plant().alarm_rows();
+    engine.leaves_alarms(prepared);
     let scan = &*prepared.scan;
-    let delays = engine.delays();
-    let cells = &scan.effect.cells;
-    let given = given(alloc, rows, delays, cells, scan.report.moment)?;
+    let moved = scan.effect.listed.moves.moved.as_slice();
+    let given = given(alloc, engine.alarms(), moved, scan.report.moment)?;
     board.lay(BoardEntry::Scan(given))
 }
 

@@ -7,6 +7,7 @@ use Rattle.journal_core.specs.declared.row.Row.{Row}
 use Rattle.plant_config.specs.Plants.{PlainPlant, IsPlant}
 use Rattle.plant_config.specs.Code.{plant_code}
 use Rattle.alarm_machine.specs.declared.limits.TheConstants.{LAST_MOMENT}
+use Rattle.alarm_bank.specs.Moves.{put_all}
 use Rattle.engine_history.specs.declared.event.Event.{Event}
 use Rattle.engine_history.specs.declared.event.Event.TheVariants as event
 use Rattle.engine_history.specs.contracts.event.Event as event_row
@@ -54,11 +55,9 @@ pub record Fits (e : PlainEngine) (p : PlainPrepared) : Type 0 where
   pub taken : IsTaken (state_of e) p.event
   pub row_room : length p.report.faults + length p.report.changes ≤ e.row_room
 
--- the cells that a scan leaves which was made ready are those of a state of the system after it
-pub record LeavesState (e : PlainEngine) (p : PlainPrepared) : Type 0 where
-  pub state : PlainState
-  pub state_is : IsState (after_event (state_of e) p.event) state
-  pub cells_are : state.cells ≡ p.effect.cells
+-- the alarms, with those in their places that a scan moves which was made ready, are those of the system after it
+abbrev pub LeavesAlarms : PlainEngine → PlainPrepared → Type 0
+LeavesAlarms e p = put_all (state_of e).alarms p.effect.moved ≡ (after_event (state_of e) p.event).alarms
 
 -- an engine may commit an order that was made ready: there is room for two rows, that is what the order does in this engine's state, and the order was taken there
 pub record FitsOrder (e : PlainEngine) (p : PlainPreparedOrder) : Type 0 where

@@ -9,14 +9,13 @@ ghost use Rattle.engine_system.specs.Orders.{restart_of};
 ghost use Rattle.engine_system.specs.System.{scan_event, order_event, reload_event, reply_to, outputs_of, summary_of};
 ghost use Rattle.engine.specs.Lawful.{IsLawfulHistory};
 ghost use Rattle.engine.specs.Journal.{IsJournal, IsLine, added_entries, journal_of};
-ghost use Rattle.engine.specs.Engines.{state_of, Fits, FitsOrder, FitsReload, IsEngine, IsReloadRefusal, LeavesState, TakesScan, TellsReload};
-ghost use Rattle.engine_system.specs.States.{IsReport, delays_in};
+ghost use Rattle.engine.specs.Engines.{state_of, Fits, FitsOrder, FitsReload, IsEngine, IsReloadRefusal, LeavesAlarms, TakesScan, TellsReload};
+ghost use Rattle.engine_system.specs.States.{IsReport};
 
 use crate::journal::{keep_names, line_text, push_order, push_scan, row_count};
 use crate::reload::{PreparedReload, ReloadRefused, Reloaded};
 use alarm_bank::{Marks, Summary};
-use alarm_delays::Delays;
-use alarm_machine::{AlarmState, Verb};
+use alarm_machine::{Alarm, AlarmState, Verb};
 use alarm_orders::Order;
 use base_names::NameList;
 use base_trace::Shown;
@@ -166,11 +165,11 @@ impl Engine {
         self.state.bank.summary()
     }
 
-    /// The delays of the alarms, and since when their conditions have been met.
-    pub fn delays(&self) -> &Delays
-        ensures { result.now ≡ delays_in (state_of self.now) }
+    /// The alarms, in the order of the database.
+    pub fn alarms(&self) -> &[Alarm]
+        ensures { result.now ≡ (state_of self.now).alarms }
     {
-        &self.state.delays
+        self.state.bank.alarms()
     }
 
     /// How many reloads there were. An order is for the plant after so many.
@@ -327,10 +326,10 @@ impl Engine {
         self.room.spare = Some(scan);
     }
 
-    /// A law, which does nothing: what a scan that was made ready leaves of the variables is what the system has after it.
-    pub fn leaves_a_state(&self, prepared: &Prepared)
+    /// A law, which does nothing: the alarms, with those in their places that a scan moves which was made ready, are those of the system after it.
+    pub fn leaves_alarms(&self, prepared: &Prepared)
         requires { Fits self.now prepared.now }
-        ensures { LeavesState self.now prepared.now }
+        ensures { LeavesAlarms self.now prepared.now }
     {
         let _kept = &self.state;
     }
