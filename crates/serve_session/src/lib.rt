@@ -10,6 +10,7 @@
 
 mod laws;
 mod reload;
+mod room;
 mod session;
 
 pub use base_streams::{Failed, Feed, Reading, Sink, Writing};

@@ -11,6 +11,7 @@ ghost use Rattle.serve_session.specs.Answers.{HasReloadedBody, MayHaveReloadedBo
 ghost use Rattle.serve_session.specs.Reloads.{texts_in, names_in, names_for, reload_answer, HasReloaded, MayHaveReloaded};
 ghost use Rattle.serve_session.specs.Session.{AsksFor, Serves, Continues};
 
+use crate::room::Room;
 use base_streams::Sink;
 use engine::{Engine, EngineFault};
 use plant_config::{ConfigFault, Files, Plant};
@@ -103,46 +104,55 @@ fn reload_plant(
     }
 }
 
-/// Reloads the plant of texts, or says why there is none, and appends the answer. It fails where memory was refused: before the plant was reloaded or
-/// after it. The listener hears of the plant first.
+/// Reloads the plant of texts, or says why there is none, and appends the answer to the text of a room. It fails where memory was refused: before the
+/// plant was reloaded or after it. The listener hears of the plant first.
 fn reload_texts<H: Threads + Sync, L: Listener>(
     rt: &H,
-    alloc: Global,
     engine: &mut Engine,
-    text: &mut Vec<u8>,
+    room: &mut Room,
     texts: &PlantTexts<'_>,
     listener: &mut L,
 ) -> Result<(), AllocError>
     ensures plant { engine.new.plant ≡ engine.old.plant }
     ensures ok { OnOk result
-        (HasReloaded texts.now engine.old engine.new text.old.items text.new.items) }
+        (HasReloaded texts.now engine.old engine.new room.old.text.items room.new.text.items) }
     ensures err { OnErr result (MayHaveReloaded texts.now engine.old engine.new) }
 {
-    let (accepted, line) = verdict(rt, alloc, texts, listener)?;
+    let (accepted, line) = verdict(rt, room.alloc, texts, listener)?;
     match accepted {
-        Some(plant) => reload_plant(alloc, engine, text, plant),
-        None => text.extend_from_slice(line.as_bytes()),
+        Some(plant) => reload_plant(room.alloc, engine, &mut room.text, plant),
+        None => room.text.extend_from_slice(line.as_bytes()),
     }
 }
 
-/// Reloads the plant whose texts a body has, and writes the answer over a text. It fails where memory was refused: before the plant was reloaded or
-/// after it.
+/// A plant that is handed in: the sizes that a `reload` line gives, and the bytes that came after the line.
+#[derive(Drop)]
+pub(crate) struct Handed<'a> {
+    pub(crate) sizes: TextSizes,
+    pub(crate) body: &'a [u8],
+}
+
+/// Reloads the plant that is handed in, and writes the answer over the text of a room. It fails where memory was refused: before the plant was
+/// reloaded or after it.
 fn reload_body<H: Threads + Sync, L: Listener>(
     rt: &H,
-    alloc: Global,
     engine: &mut Engine,
-    text: &mut Vec<u8>,
-    sizes: &TextSizes,
-    body: &[u8],
+    room: &mut Room,
+    handed: &Handed<'_>,
     listener: &mut L,
 ) -> Result<(), AllocError>
     ensures plant { engine.new.plant ≡ engine.old.plant }
-    ensures ok { OnOk result (HasReloadedBody sizes.now body.now engine.old engine.new text.new.items) }
-    ensures err { OnErr result (MayHaveReloadedBody sizes.now body.now engine.old engine.new) }
+    ensures ok { OnOk result (HasReloadedBody handed.now.sizes handed.now.body.now
+        engine.old engine.new room.new.text.items) }
+    ensures err { OnErr result
+        (MayHaveReloadedBody handed.now.sizes handed.now.body.now engine.old engine.new) }
 {
-    text.clear();
+    let alloc = room.alloc;
+    let sizes = &handed.sizes;
+    let body = handed.body;
+    room.text.clear();
     if body.len() < sizes.total() {
-        return push_refused(text, "L2");
+        return push_refused(&mut room.text, "L2");
     }
     let (plant, rest) = split_behind(body, sizes.plant());
     let (alarms, rest) = split_behind(rest, sizes.alarms());
@@ -154,26 +164,24 @@ fn reload_body<H: Threads + Sync, L: Listener>(
         sources: sources.as_slice(),
         alarms,
     };
-    reload_texts(rt, alloc, engine, text, &texts, listener)
+    reload_texts(rt, engine, room, &texts, listener)
 }
 
-/// Answers a `reload` of these sizes, with the bytes that came after its line. A listener hears of the plant that they are, before the answer is written.
+/// Answers a `reload` by the plant that is handed in, of which a listener hears before the answer is written.
 pub(crate) fn answer_reload<H: Threads + Sync, S: Sink, L: Listener>(
     rt: &H,
-    alloc: Global,
     engine: &mut Engine,
     sink: &mut S,
-    text: &mut Vec<u8>,
-    sizes: &TextSizes,
-    body: &[u8],
+    room: &mut Room,
+    handed: &Handed<'_>,
     listener: &mut L,
 ) -> Result<(), ServeFault>
     ensures continues { Continues result engine.old engine.new (S.broken sink.old) (S.broken sink.new) }
     ensures crew { is_crew result ≡ false }
-    ensures serves { (request : Request) (line : List ℕ) → reload_sizes line ≡ Some sizes.now
-        → AsksFor line body.now request
+    ensures serves { (request : Request) (line : List ℕ) → reload_sizes line ≡ Some handed.now.sizes
+        → AsksFor line handed.now.body.now request
         → Serves result (request ∷ []) engine.old engine.new (S.written sink.old) (S.written sink.new) }
 {
-    reload_body(rt, alloc, engine, text, sizes, body, listener)?;
-    put_all(sink, text.as_slice())
+    reload_body(rt, engine, room, handed, listener)?;
+    put_all(sink, room.text.as_slice())
 }

@@ -5,13 +5,14 @@ ghost use Rattle.serve_requests.specs.Splitting.{IsHeld, AsksAlike, AskAlike, Is
 ghost use Rattle.serve_faults.specs.Faults.{crew_faults, is_read, is_write};
 ghost use Rattle.serve_session.specs.Session.{AsksFor, HasReadMore, HasReadAll, HasFailed, HasDoneNothing, HasAnsweredAll, HasStopped, Serves, Takes, Continues, HasServed};
 
-use crate::reload::answer_reload;
+use crate::reload::{Handed, answer_reload};
+use crate::room::Room;
 use base_streams::{Feed, Sink, empty_piece, fill};
 use engine::{Crew, Done, Engine, Job, Start};
 use plant_folder::Listener;
 use serve_answers::{Said, answer_line, write_journal, write_list};
 use serve_faults::{ServeFault, put_all};
-use serve_lines::{Pool, reload_sizes};
+use serve_lines::reload_sizes;
 use serve_requests::{Ended, Held, Splitter, Taken};
 use std::alloc::{AllocError, Global};
 use std::marker::Model;
@@ -21,12 +22,10 @@ use std::thread::Threads;
 /// Answers a request that is a line alone, and no `reload`. Of a line that is too long its first bytes may stand for it.
 fn answer<H, C: Crew<Job, Start, Done, H>, S: Sink>(
     rt: &H,
-    alloc: Global,
     engine: &mut Engine,
     crew: &mut C,
     sink: &mut S,
-    pool: &mut Pool,
-    text: &mut Vec<u8>,
+    room: &mut Room,
     line: &[u8],
 ) -> Result<(), ServeFault>
     requires asked { C.asks }
@@ -36,22 +35,28 @@ fn answer<H, C: Crew<Job, Start, Done, H>, S: Sink>(
         → AsksFor line.now body request
         → Serves result (request ∷ []) engine.old engine.new (S.written sink.old) (S.written sink.new) }
 {
-    text.clear();
-    match answer_line(rt, alloc, engine, crew, pool, text, line)? {
-        Said::Text => put_all(sink, text.as_slice()),
-        Said::List => write_list(engine, sink, text),
-        Said::Journal => write_journal(alloc, engine, sink, text),
+    let alloc = room.alloc;
+    room.text.clear();
+    match answer_line(
+        rt,
+        alloc,
+        engine,
+        crew,
+        &mut room.pool,
+        &mut room.text,
+        line,
+    )? {
+        Said::Text => put_all(sink, room.text.as_slice()),
+        Said::List => write_list(engine, sink, &mut room.text),
+        Said::Journal => write_journal(alloc, engine, sink, &mut room.text),
     }
 }
 
-/// What is kept between two pieces of an input: the splitter, which holds the bytes of a request that hasn't ended yet, and room for an answer and
-/// for the pairs of a scan.
+/// What is kept between two pieces of an input: the splitter, which holds the bytes of a request that hasn't ended yet, and room for answers.
 #[derive(Drop)]
 struct Kept {
-    alloc: Global,
     splitter: Splitter,
-    text: Vec<u8>,
-    pool: Pool,
+    room: Room,
 }
 
 impl Kept {
@@ -76,26 +81,11 @@ impl Kept {
     {
         let (line, body) = held.request();
         match reload_sizes(line) {
-            Some(sizes) => answer_reload(
-                rt,
-                self.alloc,
-                engine,
-                sink,
-                &mut self.text,
-                &sizes,
-                body,
-                listener,
-            ),
-            None => answer(
-                rt,
-                self.alloc,
-                engine,
-                crew,
-                sink,
-                &mut self.pool,
-                &mut self.text,
-                line,
-            ),
+            Some(sizes) => {
+                let handed = Handed { sizes, body };
+                answer_reload(rt, engine, sink, &mut self.room, &handed, listener)
+            }
+            None => answer(rt, engine, crew, sink, &mut self.room, line),
         }
     }
 
@@ -120,16 +110,7 @@ impl Kept {
     {
         match ended {
             Ended::Nothing => Ok(()),
-            Ended::Line(line) => answer(
-                rt,
-                self.alloc,
-                engine,
-                crew,
-                sink,
-                &mut self.pool,
-                &mut self.text,
-                line,
-            ),
+            Ended::Line(line) => answer(rt, engine, crew, sink, &mut self.room, line),
             Ended::Held(held) => self.answer_held(rt, engine, crew, sink, &held, listener),
         }
     }
@@ -226,10 +207,8 @@ impl Session {
     {
         let piece = empty_piece(alloc)?;
         let kept = Kept {
-            alloc,
             splitter: Splitter::new(alloc),
-            text: Vec::new(alloc),
-            pool: Pool::new(alloc),
+            room: Room::new(alloc),
         };
         Ok(Session { kept, piece })
     }

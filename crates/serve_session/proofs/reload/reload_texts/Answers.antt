@@ -10,5 +10,5 @@ returns-in-Some-clause-err g c =
 pub returns-clause-ok : goal.returns-clause-ok
 returns-clause-ok g c =
     on_ok_weaker c.extend_from_slice.result
-    (λ items. told_refusal _ c.args.engine.now _ _ _ _ c.in_ok-accepted.ensures c.in-None.is (items ∙ ap (λ (xs : List ℕ). c.args.text.now.items ++ xs) c.as_bytes.ensures.value))
-    (added_ok c.extend_from_slice.result c.extend_from_slice.new.self.items c.args.text.now.items c.as_bytes.result.now c.extend_from_slice.ensures.items)
+    (λ items. told_refusal _ c.args.engine.now _ _ _ _ c.in_ok-accepted.ensures c.in-None.is (items ∙ ap (λ (xs : List ℕ). c.args.room.now.text.items ++ xs) c.as_bytes.ensures.value))
+    (added_ok c.extend_from_slice.result c.extend_from_slice.new.self.items c.args.room.now.text.items c.as_bytes.result.now c.extend_from_slice.ensures.items)
