@@ -1,6 +1,6 @@
 //! Commands by workers that are gone: what the engine's own calls answer, and how the server ends.
 
-use crate::sessions::push_session;
+use crate::sessions::{PlantInput, push_session};
 use crate::steps::push_step;
 use engine::{Crew, Done, Engine, Job, Start};
 use plant_config::Plant;
@@ -42,7 +42,11 @@ pub fn run_gone<H: Threads + Wait + Sync, C: Crew<Job, Start, Done, H>>(
     match Engine::new(alloc, plant) {
         Ok(mut engine) => {
             give(rt, alloc, &mut engine, crew, page, lines);
-            push_session(rt, alloc, crew, page, engine.plant(), lines.as_bytes());
+            let given = PlantInput {
+                plant: engine.plant(),
+                input: lines.as_bytes(),
+            };
+            push_session(rt, alloc, crew, page, &given);
             drop(engine);
         }
         Err(_) => page.refuse(),

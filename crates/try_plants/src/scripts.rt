@@ -6,7 +6,7 @@ use crate::crews::Crews;
 use crate::folders::{push_checked, push_ran};
 use crate::gone::run_gone;
 use crate::plants::{Asked, Plan, plant_of};
-use crate::sessions::{asks_for_sessions, push_sessions};
+use crate::sessions::{PlantInput, asks_for_sessions, push_sessions};
 use crate::shown::push_shown;
 use crate::steps::push_step;
 use engine::{Alone, Crew, Done, Engine, Job, Start};
@@ -24,30 +24,35 @@ fn add_command(page: &mut Page, commands: &mut Vec<u8>, line: &str) {
     }
 }
 
+/// Who takes the commands of a run: an engine and its crew, and the programs beside it; and the commands that they haven't been given yet.
+#[derive(Drop)]
+struct Stage<'a, C> {
+    engine: &'a mut Engine,
+    crew: &'a mut C,
+    beside: &'a mut Beside,
+    commands: &'a mut Vec<u8>,
+}
+
 /// Gives an engine its commands, and adds its answers. The programs beside it take the same commands.
 fn give<H: Threads + Wait + Sync, C: Crew<Job, Start, Done, H>>(
     rt: &H,
     alloc: Global,
-    engine: &mut Engine,
-    crew: &mut C,
-    beside: &mut Beside,
-    commands: &mut Vec<u8>,
+    stage: &mut Stage<'_, C>,
     page: &mut Page,
 )
     requires { C.asks }
 {
-    push_answers(rt, alloc, page, engine, crew, commands.as_slice());
-    beside.take(alloc, page, engine, commands.as_slice());
-    commands.clear();
+    let commands = stage.commands.as_slice();
+    push_answers(rt, alloc, page, stage.engine, stage.crew, commands);
+    stage.beside.take(alloc, page, stage.engine, commands);
+    stage.commands.clear();
 }
 
 /// Gives a command so many times, and adds the answer to the last.
 fn repeat<H: Threads + Wait + Sync, C: Crew<Job, Start, Done, H>>(
     rt: &H,
     alloc: Global,
-    engine: &mut Engine,
-    crew: &mut C,
-    beside: &mut Beside,
+    stage: &mut Stage<'_, C>,
     page: &mut Page,
     words: &str,
 )
@@ -56,33 +61,33 @@ fn repeat<H: Threads + Wait + Sync, C: Crew<Job, Start, Done, H>>(
     let (times, command) = words.split_once(" ").unwrap_or((words, ""));
     let times = times.parse::<u32>().unwrap_or(0);
     let mut unseen = Page::new(alloc);
-    let mut commands = Vec::new(alloc);
     for _ in 1..times {
-        add_command(page, &mut commands, command);
+        add_command(page, stage.commands, command);
     }
-    give(rt, alloc, engine, crew, beside, &mut commands, &mut unseen);
+    give(rt, alloc, stage, &mut unseen);
     if unseen.is_short() {
         page.refuse();
     }
-    add_command(page, &mut commands, command);
-    give(rt, alloc, engine, crew, beside, &mut commands, page);
+    add_command(page, stage.commands, command);
+    give(rt, alloc, stage, page);
 }
 
-/// Gives an engine the command of a line by its own calls. The programs beside it take the same command.
+/// Gives an engine the command of a line `ready ..` or `step ..` by its own calls. The programs beside it take the same command.
 fn step<H, C: Crew<Job, Start, Done, H>>(
     rt: &H,
     alloc: Global,
-    engine: &mut Engine,
-    crew: &mut C,
-    beside: &mut Beside,
+    stage: &mut Stage<'_, C>,
     page: &mut Page,
-    is_ready: bool,
     line: &str,
 )
     requires { C.asks }
 {
-    push_step(rt, alloc, page, engine, crew, is_ready, line);
-    beside.take(alloc, page, engine, line.as_bytes());
+    let (word, command) = line.split_once(" ").unwrap_or((line, ""));
+    let is_ready = word == "ready";
+    push_step(rt, alloc, page, stage.engine, stage.crew, is_ready, command);
+    stage
+        .beside
+        .take(alloc, page, stage.engine, command.as_bytes());
 }
 
 /// Whether a line of a run is the table's own, and asks what the engine is given or shows next.
@@ -94,12 +99,11 @@ fn is_own(line: &str) -> bool {
     )
 }
 
+/// Takes a line that is the table's own. All commands before it were given.
 fn take_own<H: Threads + Wait + Sync, C: Crew<Job, Start, Done, H>>(
     rt: &H,
     alloc: Global,
-    engine: &mut Engine,
-    crew: &mut C,
-    beside: &mut Beside,
+    stage: &mut Stage<'_, C>,
     page: &mut Page,
     line: &str,
 )
@@ -107,22 +111,18 @@ fn take_own<H: Threads + Wait + Sync, C: Crew<Job, Start, Done, H>>(
 {
     let (word, words) = line.split_once(" ").unwrap_or((line, ""));
     match word {
-        "repeat" => repeat(rt, alloc, engine, crew, beside, page, words),
-        "show" => push_shown(alloc, page, engine.plant(), words),
-        "listed" => page.add_made(listing(alloc, engine.plant())),
-        "ready" => step(rt, alloc, engine, crew, beside, page, true, words),
-        "step" => step(rt, alloc, engine, crew, beside, page, false, words),
-        _ => push_seen(page, engine),
+        "repeat" => repeat(rt, alloc, stage, page, words),
+        "show" => push_shown(alloc, page, stage.engine.plant(), words),
+        "listed" => page.add_made(listing(alloc, stage.engine.plant())),
+        "ready" | "step" => step(rt, alloc, stage, page, line),
+        _ => push_seen(page, stage.engine),
     }
 }
 
 fn take<H: Threads + Wait + Sync, C: Crew<Job, Start, Done, H>>(
     rt: &H,
     alloc: Global,
-    engine: &mut Engine,
-    crew: &mut C,
-    beside: &mut Beside,
-    commands: &mut Vec<u8>,
+    stage: &mut Stage<'_, C>,
     page: &mut Page,
     line: &str,
 )
@@ -132,39 +132,32 @@ fn take<H: Threads + Wait + Sync, C: Crew<Job, Start, Done, H>>(
         return;
     }
     if asks_for_sessions(line) {
-        return push_sessions(
-            rt,
-            alloc,
-            crew,
-            page,
-            engine.plant(),
-            commands.as_slice(),
-            line,
-        );
+        let given = PlantInput {
+            plant: stage.engine.plant(),
+            input: stage.commands.as_slice(),
+        };
+        return push_sessions(rt, alloc, stage.crew, page, &given, line);
     }
     if !is_own(line) {
-        return add_command(page, commands, line);
+        return add_command(page, stage.commands, line);
     }
-    give(rt, alloc, engine, crew, beside, commands, page);
-    take_own(rt, alloc, engine, crew, beside, page, line);
+    give(rt, alloc, stage, page);
+    take_own(rt, alloc, stage, page, line);
 }
 
 fn take_all<H: Threads + Wait + Sync, C: Crew<Job, Start, Done, H>>(
     rt: &H,
     alloc: Global,
-    engine: &mut Engine,
-    crew: &mut C,
-    beside: &mut Beside,
+    stage: &mut Stage<'_, C>,
     page: &mut Page,
     lines: &str,
 )
     requires { C.asks }
 {
-    let mut commands = Vec::new(alloc);
     for line in lines.lines() {
-        take(rt, alloc, engine, crew, beside, &mut commands, page, line);
+        take(rt, alloc, stage, page, line);
     }
-    give(rt, alloc, engine, crew, beside, &mut commands, page);
+    give(rt, alloc, stage, page);
 }
 
 /// Runs an engine's plant on the lines of a run. The programs beside it are let go here alone.
@@ -181,7 +174,14 @@ fn run_beside<H: Threads + Wait + Sync, C: Crew<Job, Start, Done, H>>(
 {
     match Beside::new(alloc, engine.plant(), walker) {
         Ok(mut beside) => {
-            take_all(rt, alloc, engine, crew, &mut beside, page, lines);
+            let mut commands = Vec::new(alloc);
+            let mut stage = Stage {
+                engine,
+                crew,
+                beside: &mut beside,
+                commands: &mut commands,
+            };
+            take_all(rt, alloc, &mut stage, page, lines);
             drop(beside);
         }
         Err(_) => page.refuse(),

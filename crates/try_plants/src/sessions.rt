@@ -139,19 +139,25 @@ fn engine_of(alloc: Global, plant: &Plant) -> Result<Engine, AllocError> {
     Engine::new(alloc, plant.copy(alloc)?)
 }
 
+/// A plant, and the input that a new engine of it is served.
+#[derive(Drop)]
+pub struct PlantInput<'a> {
+    pub plant: &'a Plant,
+    pub input: &'a [u8],
+}
+
 /// Serves an input to a new engine of a plant, which is let go here alone.
 fn session<H: Threads + Wait + Sync, C: Crew<Job, Start, Done, H>>(
     rt: &H,
     alloc: Global,
     crew: &mut C,
-    plant: &Plant,
-    input: &[u8],
+    given: &PlantInput<'_>,
     ends: Ends,
 ) -> Result<Ended, AllocError>
     requires { C.asks }
 {
-    let mut engine = engine_of(alloc, plant)?;
-    let ended = served(rt, alloc, &mut engine, crew, input, ends);
+    let mut engine = engine_of(alloc, given.plant)?;
+    let ended = served(rt, alloc, &mut engine, crew, given.input, ends);
     drop(engine);
     ended
 }
@@ -186,25 +192,31 @@ fn ends_of(word: &str, calls: usize) -> Ends {
     }
 }
 
+/// Sessions that are tried: of a plant and its input, by the words of a line, and held against the whole answers.
+#[derive(Drop)]
+struct Tried<'a> {
+    given: &'a PlantInput<'a>,
+    words: &'a str,
+    whole: &'a [u8],
+}
+
 /// Adds the sessions of a plant in which the first call of a feed or sink fails, the second one, the third, and so on until none does.
 fn push_failing<H: Threads + Wait + Sync, C: Crew<Job, Start, Done, H>>(
     rt: &H,
     alloc: Global,
     crew: &mut C,
     page: &mut Page,
-    plant: &Plant,
-    input: &[u8],
-    word: &str,
-    whole: &[u8],
+    tried: &Tried<'_>,
 )
     requires { C.asks }
 {
     for calls in 0..1_000_000usize {
-        let Ok(ended) = session(rt, alloc, crew, plant, input, ends_of(word, calls)) else {
+        let ends = ends_of(tried.words, calls);
+        let Ok(ended) = session(rt, alloc, crew, tried.given, ends) else {
             return page.refuse();
         };
         page.add_number(calls as i128);
-        push_ended(page, &ended, whole);
+        push_ended(page, &ended, tried.whole);
         if ended.outcome == "DONE" {
             return;
         }
@@ -228,17 +240,14 @@ fn push_little<H: Threads + Wait + Sync, C: Crew<Job, Start, Done, H>>(
     alloc: Global,
     crew: &mut C,
     page: &mut Page,
-    plant: &Plant,
-    input: &[u8],
-    words: &str,
-    whole: &[u8],
+    tried: &Tried<'_>,
 )
     requires { C.asks }
 {
-    match session(rt, alloc, crew, plant, input, little_ends(words)) {
+    match session(rt, alloc, crew, tried.given, little_ends(tried.words)) {
         Ok(ended) => {
-            page.add(words);
-            push_ended(page, &ended, whole);
+            page.add(tried.words);
+            push_ended(page, &ended, tried.whole);
         }
         Err(_) => page.refuse(),
     }
@@ -258,12 +267,11 @@ pub fn push_session<H: Threads + Wait + Sync, C: Crew<Job, Start, Done, H>>(
     alloc: Global,
     crew: &mut C,
     page: &mut Page,
-    plant: &Plant,
-    input: &[u8],
+    given: &PlantInput<'_>,
 )
     requires { C.asks }
 {
-    match session(rt, alloc, crew, plant, input, ends_of("sink", NO_LIMIT)) {
+    match session(rt, alloc, crew, given, ends_of("sink", NO_LIMIT)) {
         Ok(ended) => push_served(page, &ended),
         Err(_) => page.refuse(),
     }
@@ -280,19 +288,23 @@ pub fn push_sessions<H: Threads + Wait + Sync, C: Crew<Job, Start, Done, H>>(
     alloc: Global,
     crew: &mut C,
     page: &mut Page,
-    plant: &Plant,
-    input: &[u8],
+    given: &PlantInput<'_>,
     line: &str,
 )
     requires { C.asks }
 {
     page.line(line);
-    let Ok(whole) = session(rt, alloc, crew, plant, input, ends_of("sink", NO_LIMIT)) else {
+    let Ok(ended) = session(rt, alloc, crew, given, ends_of("sink", NO_LIMIT)) else {
         return page.refuse();
     };
-    let answers = whole.bytes.as_slice();
-    match line.strip_prefix("little ") {
-        Some(words) => push_little(rt, alloc, crew, page, plant, input, words, answers),
-        None => push_failing(rt, alloc, crew, page, plant, input, line, answers),
+    let little = line.strip_prefix("little ");
+    let tried = Tried {
+        given,
+        words: little.unwrap_or(line),
+        whole: ended.bytes.as_slice(),
+    };
+    match little {
+        Some(_) => push_little(rt, alloc, crew, page, &tried),
+        None => push_failing(rt, alloc, crew, page, &tried),
     }
 }
