@@ -1,7 +1,7 @@
 //! The files of a plant that is refused before they are read, for what is wrong in them.
 
 use crate::keys::Mark;
-use crate::listed::{ListedFile, listed};
+use crate::listed::{ListedFile, files_listed};
 use std::alloc::{AllocError, Global};
 use std::path::Path;
 
@@ -104,7 +104,7 @@ impl Gathered {
         place: (&S, &str),
         plant: &[u8],
     ) -> Result<Gathered, AllocError> {
-        let listed = listed(alloc, plant)?;
+        let listed = files_listed(alloc, plant)?;
         let mut gathered = Gathered {
             sources: Vec::new(alloc),
             are_all: listed.are_all,

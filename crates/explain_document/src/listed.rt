@@ -170,7 +170,7 @@ fn is_document(alloc: Global, plant: &[u8]) -> Result<bool, AllocError> {
 }
 
 /// The files that a plant file lists, whether or not it is right: those that stand in a line of their key, or in the lines below it.
-pub fn listed(alloc: Global, plant: &[u8]) -> Result<Listed, AllocError> {
+pub fn files_listed(alloc: Global, plant: &[u8]) -> Result<Listed, AllocError> {
     let mut listed = Listed {
         is_document: is_document(alloc, plant)?,
         sources: Vec::new(alloc),

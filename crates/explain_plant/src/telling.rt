@@ -7,7 +7,7 @@ ghost use Rattle.explain_plant.specs.Told.{BeginsWith};
 
 use explain_bodies::BrokenRule;
 use explain_document::{
-    Gathered, Mark, Shelf, Shelved, listed, no_document, wrong_epoch, wrong_keys,
+    Gathered, Mark, Shelf, Shelved, files_listed, no_document, wrong_epoch, wrong_keys,
 };
 use explain_places::shown;
 use explain_tokens::{Cause, FileOf, Spot, cause_of};
@@ -183,7 +183,7 @@ pub fn alarms_name(alloc: Global, plant: &[u8]) -> Result<String, AllocError> {
         Ok(files) => String::from_str(alloc, files.alarms.as_str()),
         Err(ConfigFault::Memory) => Err(AllocError),
         Err(_) => {
-            let alarms = listed(alloc, plant)?.alarms;
+            let alarms = files_listed(alloc, plant)?.alarms;
             let name = alarms.as_ref().map_or("alarms", |file| file.name.as_str());
             String::from_str(alloc, name)
         }
