@@ -5,5 +5,5 @@ use Rattle.console_boards.proofs.board.taking.BoardAbsorbOperation.absorb_first.
 pub returns-in-Mark-clause-absorbed : goal.returns-in-Mark-clause-absorbed
 returns-in-Mark-clause-absorbed c = grind (arith, common_steps)
 
-pub returns-in-BoardEntry-clause-absorbed : goal.returns-in-BoardEntry-clause-absorbed
-returns-in-BoardEntry-clause-absorbed c = grind (arith, common_steps)
+pub returns-in-Entry-clause-absorbed : goal.returns-in-Entry-clause-absorbed
+returns-in-Entry-clause-absorbed c = grind (arith, common_steps)
