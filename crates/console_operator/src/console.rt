@@ -8,7 +8,7 @@ use console_log::Mark;
 
 /// A console: it submits orders, takes their answers, and looks at the board. It may go to a thread of its own.
 #[derive(Drop)]
-pub struct ConsoleRings<O, R> {
+pub struct Console<O, R> {
     pub(crate) link: console_link::ConsoleRings<O, R>,
     pub(crate) sight: Sight,
     pub ghost log_is: { link.log ≡ log_by sight },
@@ -16,7 +16,7 @@ pub struct ConsoleRings<O, R> {
 
 /// A console that has ended: it submits, takes and sees nothing more. It has a mark of the list that it saw last on the board, which is the longest.
 #[derive(Drop)]
-pub struct FinishedRings<O, R> {
+pub struct Finished<O, R> {
     pub link: console_link::FinishedRings<O, R>,
     pub mark: Mark<BoardEntry>,
     pub ghost counted: { link.seen ≡ length mark.entries },
