@@ -190,10 +190,10 @@ fn run_scan<C: Crew<Job, Start, Done, H>, H>(
         space: &mut room.space,
     };
     run_programs(rt, alloc, crew, &given, &mut changed)?;
+    let cells = &effect.cells;
     let marks = &mut room.marks;
-    let listed = &mut effect.listed;
-    step_alarms(alloc, old, cells, moment, marks, listed)?;
-    swap(&mut report.changes, &mut listed.moves.changes);
+    step_alarms(alloc, old, cells, moment, marks, &mut effect.listed)?;
+    swap(&mut report.changes, &mut effect.listed.moves.changes);
     renew(old.outputs.as_slice(), cells, &mut effect.outputs)?;
     let outputs = effect.outputs.as_slice();
     list_changed(outputs, &old.cells, cells, &mut report.outs)?;

@@ -5,7 +5,7 @@ use Rattle.engine_system.proofs.scan.prepared_scan.Goals as goal
 
 pub run_scan-requires-clause-image : goal.run_scan-requires-clause-image
 run_scan-requires-clause-image g c =
-    rw c.as_slice-image.ensures.value (taken_fits _ _ _ _ _ _ _ c.in_ok-taken_image.ensures.ok)
+    rw c.as_slice.ensures.value (taken_fits _ _ _ _ _ _ _ c.in_ok-taken_image.ensures.ok)
 
 pub returns-in-Ok-clause-ok : goal.returns-in-Ok-clause-ok
 returns-in-Ok-clause-ok g c = grind (arith, common_steps)

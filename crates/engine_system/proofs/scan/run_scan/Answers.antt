@@ -59,7 +59,7 @@ run_programs-requires-clause-cells g c =
     let plant = c.args.taken.now.before.now.plant.now in
     let old = c.args.taken.now.before.now.state.now in
     let set : c.set_inputs.new.cells ≡ fold with_cell old.cells c.args.taken.now.image.now = search rules in
-    rw c.logic-framed.ensures.source (subst (HasCells plant.source) (sym set) (inputs_have_cells plant.source old.cells c.args.taken.now.image.now c.requires.ready.sound c.requires.image c.requires.ready.values))
+    rw c.logic.ensures.source (subst (HasCells plant.source) (sym set) (inputs_have_cells plant.source old.cells c.args.taken.now.image.now c.requires.ready.sound c.requires.image c.requires.ready.values))
 
 pub step_alarms-requires-clause-each : goal.step_alarms-requires-clause-each
 step_alarms-requires-clause-each g c = grind (arith, common_steps)
