@@ -88,7 +88,8 @@ enum Once {
 /// Whether the tokens from one to before another are those of a program, which has nothing that others have.
 fn is_program(first: TokenPlace<'_>, end: TokenPlace<'_>) -> bool {
     let closing = first.ahead("END_PROGRAM|END_FUNCTION_BLOCK");
-    first.sign() == "PROGRAM" && closing.next().number == end.number
+    let is_closed = closing.sign() == "END_PROGRAM" && closing.next().number == end.number;
+    first.sign() == "PROGRAM" && is_closed
 }
 
 impl Told {
