@@ -2,12 +2,14 @@
 
 use crate::areas::strange_area;
 use crate::keys::{Keys, Mark, NOBODY, keys_of};
+use crate::listed::key_of;
 use base_stamps::Epoch;
 use explain_tokens::{Cause, part, within_one};
 use explain_trees::filled;
 use plant_file::{Mistake, PlantFileFault, Unread, Why, read};
 use std::alloc::{AllocError, Global};
 use std::str;
+use toml_parser::bytes::is_bare;
 
 /// Where it stands what a plant file is.
 const PAGE: &str = "docs/PLANT.md, \"plant.toml\"";
@@ -203,6 +205,33 @@ fn without_line(
     Ok(Some(rest))
 }
 
+/// Whether a line of a plant file may be that of a key, however it is written: it has a word that nearly is the key, or begins neither as another key does, nor
+/// as a header or a remark.
+fn may_hold(line: &[u8], key: &[u8]) -> bool {
+    let mut words = line.split(|byte| !is_bare(*byte));
+    let is_begun = matches!(
+        line.trim_ascii_start(),
+        [] | [b'#' | b'/' | b';' | b'[', ..]
+    );
+    let is_other = is_begun || key_of(line).is_some_and(|other| !other.0.is_empty());
+    words.any(|word| within_one(word, key)) || !is_other
+}
+
+/// Whether a text that has lines of a plant file left out has lost one that may be that of a key: the line has remarks in its place, or nothing.
+fn has_lost(plant: &[u8], text: &[u8], key: &[u8]) -> bool {
+    let mut from = 0usize;
+    for line in plant.split(|byte| *byte == b'\n') {
+        let until = from.saturating_add(line.len());
+        let left = part(text, from, until);
+        let is_remark = left.starts_with(b"#") && !line.starts_with(b"#");
+        if (is_remark || left.len() < line.len()) && may_hold(line, key) {
+            return true;
+        }
+        from = until.saturating_add(1);
+    }
+    false
+}
+
 /// A text with a `?` in the place of each byte that isn't of ASCII.
 fn ascii_of(alloc: Global, text: &[u8]) -> Result<Vec<u8>, AllocError> {
     let bytes = text.iter();
@@ -253,34 +282,34 @@ impl<'t> Document<'t> {
             self.say(Some(mark), text, &[])?;
             return self.in_text_of(ascii_of(self.alloc, plant)?);
         };
-        let rest = part(plant, mark.0, plant.len());
-        if rest.starts_with(b"[console]") || rest.starts_with(b"[[console]]") {
-            let keys = keys_of(self.alloc, plant)?;
-            let mark = keys.header("[console]").unwrap_or(mark);
-            return self.say(Some(mark), ONE_CONSOLE, &[]);
+        match self.unread_at(plant, mark, message)? {
+            Some(rest) if has_keys(plant) => self.in_text_of(rest),
+            _ => Ok(()),
         }
-        self.unread_at(mark, message)?;
-        if has_keys(plant) {
-            self.in_lines_behind(mark.0, message)?;
-        }
-        Ok(())
     }
 
-    /// Tells where the plant file is no TOML document any more, and why.
-    fn unread_at(&mut self, mark: Mark, message: &str) -> Result<(), AllocError> {
+    /// Tells where a text of the plant file is no TOML document any more, and why. Returns the text with which it is read on: without its consoles where the
+    /// header of one is wrong, and else without the line there, as far as that is certain.
+    fn unread_at(
+        &mut self,
+        text: &[u8],
+        mark: Mark,
+        message: &str,
+    ) -> Result<Option<Vec<u8>>, AllocError> {
+        let rest = part(text, mark.0, text.len());
+        if rest.starts_with(b"[console]") || rest.starts_with(b"[[console]]") {
+            let keys = keys_of(self.alloc, text)?;
+            let header = keys.header("[console]").unwrap_or(mark);
+            self.say(Some(header), ONE_CONSOLE, &[])?;
+            let above = Vec::from_slice(self.alloc, part(text, 0, header.0))?;
+            return Ok(Some(above));
+        }
         let mut reasons = REASONS.lines().filter_map(|line| line.split_once("| "));
         let reason = reasons.find(|reason| reason.0 == message);
         let why = reason.map_or(message, |reason| reason.1);
-        let text = "here the plant file is no TOML document any more: %";
-        self.say(Some(mark), text, &[why])
-    }
-
-    /// Tells what else is wrong in a plant file that is no document any more at a byte: it is read on without the line there, as far as that is certain.
-    fn in_lines_behind(&mut self, at: usize, reason: &str) -> Result<(), AllocError> {
-        match without_line(self.alloc, self.plant, at, reason)? {
-            Some(rest) => self.in_text_of(rest),
-            None => Ok(()),
-        }
+        let said = "here the plant file is no TOML document any more: %";
+        self.say(Some(mark), said, &[why])?;
+        without_line(self.alloc, text, mark.0, message)
     }
 
     /// Tells what is wrong in the text of the plant file, in which what was told stands no more.
@@ -289,19 +318,16 @@ impl<'t> Document<'t> {
             let unread = match read(self.alloc, text.as_slice()) {
                 Ok(file) => {
                     drop(file);
-                    return self.in_keys_of(text.as_slice(), &[], false);
+                    return self.in_keys_of(text.as_slice(), &[]);
                 }
                 Err(PlantFileFault::Memory) => return Err(AllocError),
-                Err(PlantFileFault::Wrong(mistakes)) => return self.in_keys_of(
-                    text.as_slice(),
-                    mistakes.as_slice(),
-                    false,
-                ),
+                Err(PlantFileFault::Wrong(mistakes)) => {
+                    return self.in_keys_of(text.as_slice(), mistakes.as_slice());
+                }
                 Err(PlantFileFault::NotToml(unread)) => unread,
             };
             let (mark, reason) = (unread.bytes(), unread.message().unwrap_or(""));
-            self.unread_at(mark, reason)?;
-            match without_line(self.alloc, text.as_slice(), mark.0, reason)? {
+            match self.unread_at(text.as_slice(), mark, reason)? {
                 Some(rest) => text = rest,
                 None => return Ok(()),
             }
@@ -342,16 +368,14 @@ impl<'t> Document<'t> {
         }
     }
 
-    /// Tells of the mistakes in the text of a plant file, which is whole, or has lines left out: then it isn't told that a key is missing.
-    fn in_keys_of(
-        &mut self,
-        plant: &[u8],
-        mistakes: &[Mistake],
-        is_whole: bool,
-    ) -> Result<(), AllocError> {
+    /// Tells of the mistakes in the text of the plant file, which is whole, or has lines left out: then it isn't told that a key is missing which one of these
+    /// may be. What has no place comes first, but behind what was told already.
+    fn in_keys_of(&mut self, plant: &[u8], mistakes: &[Mistake]) -> Result<(), AllocError> {
+        let placeless = if self.told.is_empty() { 0 } else { usize::MAX };
         let keys = keys_of(self.alloc, plant)?;
         for wrong in mistakes {
-            if is_whole || wrong.why != Why::MissingKey {
+            let key = wrong.key.as_str().as_bytes();
+            if wrong.why != Why::MissingKey || !has_lost(self.plant, plant, key) {
                 self.in_key(plant, &keys, mistakes, wrong)?;
             }
         }
@@ -363,7 +387,9 @@ impl<'t> Document<'t> {
             self.say(None, text, &[])?;
         }
         self.told.sort_unstable_by_key(|cause: &Cause| {
-            cause.mark.map_or(0, |mark| mark.0.saturating_add(1))
+            cause
+                .mark
+                .map_or(placeless, |mark| mark.0.saturating_add(1))
         });
         Ok(())
     }
@@ -399,7 +425,7 @@ pub fn wrong_keys(
     mistakes: &[Mistake],
 ) -> Result<Vec<Cause>, AllocError> {
     let mut document = untold(alloc, plant);
-    document.in_keys_of(plant, mistakes, true)?;
+    document.in_keys_of(plant, mistakes)?;
     Ok(document.told)
 }
 

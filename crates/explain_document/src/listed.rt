@@ -55,7 +55,7 @@ fn blanks(bytes: &[u8]) -> usize {
 }
 
 /// The key with which a line begins, and the number of the byte behind its sign.
-fn key_of(line: &[u8]) -> Option<(&[u8], usize)> {
+pub(crate) fn key_of(line: &[u8]) -> Option<(&[u8], usize)> {
     let from = blanks(line);
     let word = part(line, from, line.len());
     let len = word.iter().take_while(|byte| is_bare(**byte)).count();
