@@ -18,7 +18,6 @@ use Rattle.alarm_bank.specs.Moves.{changes_from}
 use Rattle.alarm_machine.specs.declared.limits.TheConstants.{LAST_MOMENT}
 use Rattle.engine_history.specs.declared.event.Event.TheVariants as event
 use Rattle.engine_system.specs.Reports.{PlainReport}
-use Rattle.level_scans.specs.Scans.{programs_from}
 use Rattle.level_scans.specs.Runs.{ProgramsRanInOrder}
 use Rattle.engine_system.specs.Reloads.{fresh_count, kept_count, kept_numbers}
 use Rattle.engine_system.specs.declared.reloading.ReadyReload.{ReadyReload}
