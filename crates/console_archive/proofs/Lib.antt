@@ -1,5 +1,4 @@
 pub mod Crews
-pub mod Flags
 pub mod Laid
 pub mod Numbered
 pub mod Orders

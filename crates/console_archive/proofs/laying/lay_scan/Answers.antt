@@ -4,6 +4,7 @@ use Rattle.alarm_bank.specs.declared.event.BankEvent.{BankEvent}
 use Rattle.alarm_bank.specs.Moves.{put_all}
 use Rattle.engine_system.specs.States.{PlainPrepared}
 use Rattle.engine.specs.Engines.{state_of}
+use Rattle.console_boards.specs.declared.entry.BoardEntry.{BoardEntry}
 use Rattle.console_boards.specs.declared.entry.BoardEntry.TheVariants as entry
 use Rattle.console_boards.specs.Replies.{is_scan}
 use Rattle.console_archive.specs.Entries.{entry_of}
@@ -16,11 +17,12 @@ returns-clause-laid c =
     let e = c.args.engine.now in
     let p = c.args.prepared.now in
     let alarms = c.alarms.result.now in
+    let told : ℕ → List (ℕ × PlainAlarm) → BoardEntry = λ t moved. entry.Scan (given_to t (put_all alarms moved)) in
     let made : entry.Scan c.in_ok-given.given ≡ entry_of (state_of e) p.event =
     ap (λ (x : BankEvent). entry.Scan x) c.in_ok-given.ensures
-    ∙ (ap (λ (moved : List (ℕ × PlainAlarm)). entry.Scan (given_to c.scan.inside.report.moment (put_all alarms moved))) c.as_slice-moved.ensures.value
-    ∙ (ap (λ s. entry.Scan (given_to s.report.moment (put_all alarms s.effect.moved))) (c.scan.view_is ∙ c.deref-scan.ensures)
-    ∙ (ap (λ (q : PlainPrepared). entry.Scan (given_to q.report.moment (put_all alarms q.effect.moved))) c.prepared.view_is
+    ∙ (ap (told _) c.as_slice-moved.ensures.value
+    ∙ (ap (λ s. told s.report.moment s.effect.moved) (c.scan.view_is ∙ c.deref-scan.ensures)
+    ∙ (ap (λ (q : PlainPrepared). told q.report.moment q.effect.moved) c.prepared.view_is
     ∙ scan_entry e p alarms c.requires.fits c.leaves_alarms.ensures c.alarms.ensures))) in
     laid_or_not c.lay.result e.plant e.history p.event c.args.board.now c.lay.new.self (entry.Scan c.in_ok-given.given) c.requires.has c.requires.fits.taken made c.lay.ensures.laid
 
