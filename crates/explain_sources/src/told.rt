@@ -49,6 +49,12 @@ fn may_declare(place: TokenPlace<'_>, mend: Option<Mend>) -> bool {
     place.is_declared() || place.stand() == "head" || tokens.any(is_of_section)
 }
 
+/// Whether words are left out between the one behind a unit's keyword and its first section, at which it stops: then it isn't certain which of them is its
+/// name.
+fn blurs_name(place: TokenPlace<'_>, mend: Mend) -> bool {
+    mend.from == 2 && mend.until == place.number && fits("SECTION", place.sign())
+}
+
 /// The tokens of a unit with a mend at one of them.
 fn mended(alloc: Global, tokens: &[Token], mend: Mend) -> Result<Vec<Token>, AllocError> {
     let at = tokens.get(mend.from).map_or(0, |token| token.from);
@@ -156,6 +162,8 @@ impl Told {
             last = Some(at);
             blurs = blurs || mend.is_some_and(|mend| mend.blurs_loops(tokens.as_slice()));
             lacks = lacks || may_declare(place, mend);
+            let is_blurred = mend.is_some_and(|mend| blurs_name(place, mend));
+            self.parts.lacks_blocks = self.parts.lacks_blocks || is_blurred;
             self.parts.gaps.push((from, until))?;
             match mend {
                 Some(mend) if self.left.causes > 0 => {
