@@ -179,8 +179,15 @@ fn is_unread_at(unread: &Unread, reason: &str, at: usize) -> bool {
     }
 }
 
+/// Whether a line opens a list that it doesn't close.
+fn opens_list(line: &[u8]) -> bool {
+    let opened = line.iter().filter(|byte| **byte == b'[').count();
+    let closed = line.iter().filter(|byte| **byte == b']').count();
+    closed < opened
+}
+
 /// A plant file with a remark in the place of the line in which it is no document any more, for a reason; `None` where the line by itself isn't wrong for this
-/// reason, nor a whole key that is there already, or is that of a header, and so it isn't certain how the file goes on.
+/// reason, nor a whole key that is there already, or is that of a header, or opens a list that goes on, and so it isn't certain how the file goes on.
 fn without_line(
     alloc: Global,
     text: &[u8],
@@ -194,7 +201,7 @@ fn without_line(
         Some(unread) => is_unread_at(unread, reason, at.saturating_sub(line.0)),
         None => reason == "duplicate key",
     };
-    if !is_alone || bytes.trim_ascii_start().starts_with(b"[") {
+    if !is_alone || opens_list(bytes) || bytes.trim_ascii_start().starts_with(b"[") {
         return Ok(None);
     }
     let mut rest = Vec::from_slice(alloc, part(text, 0, line.0))?;
@@ -205,31 +212,45 @@ fn without_line(
     Ok(Some(rest))
 }
 
-/// Whether a line of a plant file may be that of a key, however it is written: it has a word that nearly is the key, or begins neither as another key does, nor
-/// as a header or a remark.
-fn may_hold(line: &[u8], key: &[u8]) -> bool {
+/// Whether a line of a plant file has a word that nearly is a key; or, where the key is missing, may be its own in another way, since it begins neither as
+/// another key does, nor as a header or a remark.
+fn may_hold(line: &[u8], key: &[u8], is_missing: bool) -> bool {
     let mut words = line.split(|byte| !is_bare(*byte));
     let is_begun = matches!(
         line.trim_ascii_start(),
         [] | [b'#' | b'/' | b';' | b'[', ..]
     );
     let is_other = is_begun || key_of(line).is_some_and(|other| !other.0.is_empty());
-    words.any(|word| within_one(word, key)) || !is_other
+    words.any(|word| within_one(word, key)) || is_missing && !is_other
 }
 
-/// Whether a text that has lines of a plant file left out has lost one that may be that of a key: the line has remarks in its place, or nothing.
-fn has_lost(plant: &[u8], text: &[u8], key: &[u8]) -> bool {
+/// A line of a plant file that a text of it hasn't, and whether remarks stand in its place, or nothing.
+type LostLine<'t> = (&'t [u8], bool);
+
+/// The lines of a plant file that a text of it hasn't.
+fn lost_lines<'t>(
+    alloc: Global,
+    plant: &'t [u8],
+    text: &[u8],
+) -> Result<Vec<LostLine<'t>>, AllocError> {
+    let mut lost = Vec::new(alloc);
     let mut from = 0usize;
     for line in plant.split(|byte| *byte == b'\n') {
         let until = from.saturating_add(line.len());
         let left = part(text, from, until);
         let is_remark = left.starts_with(b"#") && !line.starts_with(b"#");
-        if (is_remark || left.len() < line.len()) && may_hold(line, key) {
-            return true;
+        if is_remark || left.len() < line.len() {
+            lost.push((line, is_remark))?;
         }
         from = until.saturating_add(1);
     }
-    false
+    Ok(lost)
+}
+
+/// Whether one of these lines may be that of a key, which is missing without them, or not.
+fn may_have(lost: &[LostLine<'_>], key: &[u8], is_missing: bool) -> bool {
+    let mut lost = lost.iter();
+    lost.any(|(line, is_remark)| (*is_remark || is_missing) && may_hold(*line, key, is_missing))
 }
 
 /// A text with a `?` in the place of each byte that isn't of ASCII.
@@ -368,18 +389,19 @@ impl<'t> Document<'t> {
         }
     }
 
-    /// Tells of the mistakes in the text of the plant file, which is whole, or has lines left out: then it isn't told that a key is missing which one of these
-    /// may be. What has no place comes first, but behind what was told already.
+    /// Tells of the mistakes in the text of the plant file, which is whole, or has lines left out: then nothing is told of a key that one of these may be. What
+    /// has no place comes first, but behind what was told already.
     fn in_keys_of(&mut self, plant: &[u8], mistakes: &[Mistake]) -> Result<(), AllocError> {
         let placeless = if self.told.is_empty() { 0 } else { usize::MAX };
         let keys = keys_of(self.alloc, plant)?;
+        let lost = lost_lines(self.alloc, self.plant, plant)?;
         for wrong in mistakes {
             let key = wrong.key.as_str().as_bytes();
-            if wrong.why != Why::MissingKey || !has_lost(self.plant, plant, key) {
+            if !may_have(lost.as_slice(), key, wrong.why == Why::MissingKey) {
                 self.in_key(plant, &keys, mistakes, wrong)?;
             }
         }
-        if has_no_epoch(&keys, plant) {
+        if has_no_epoch(&keys, plant) && !may_have(lost.as_slice(), b"epoch", false) {
             self.no_epoch(&keys)?;
         }
         if self.told.is_empty() {
