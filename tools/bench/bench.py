@@ -15,6 +15,7 @@ PROGRAM is the built server (crates/alarmd/out/alarmd). KIND is one of these, `l
 | delays | alarms and changes with tables that have no column of delays, delays of 0 and delays of 60 s; and scans in each of which one of 20,000 delays ends |
 | orders | 300,000 orders for 20,000 alarms |
 | check | `check` of 4.2 MB of sources and 14.5 MB of alarms |
+| refused | `check` of that plant, of one with its sources and of one of 30 KB, each with one thing changed for which it is refused, beside the same plant right |
 | still | scans that change nothing, by the size of the plant |
 | workers | the programs of `logic` by several workers: the clock's time of a scan. A program costs 98, and 105 more for each of `--turns` |
 | arrays | what an array of 4,096 elements adds to a program that reads or assigns one of them: the clock's time of a scan by two workers |
@@ -33,6 +34,7 @@ import sys
 import tempfile
 
 import inputs
+import refused
 import shapes
 from measured import least, run
 
@@ -40,7 +42,7 @@ HERE = os.path.dirname(os.path.abspath(__file__))
 PLANTS = {"turns": inputs.turns, "logic": inputs.logic, "alarms": inputs.alarms, "changes": inputs.changes, "orders": inputs.orders}
 # the yardsticks of a kind
 YARDSTICKS = {"logic": ["logic", "code"], "changes": ["changes"]}
-KINDS = ["lines", "turns", "logic", "alarms", "changes", "delays", "orders", "check", "still", "workers", "arrays", "read", "commands"]
+KINDS = ["lines", "turns", "logic", "alarms", "changes", "delays", "orders", "check", "refused", "still", "workers", "arrays", "read", "commands"]
 # variables, alarms with a variable each, outputs
 STILL = [(2, 0, 0), (16384, 0, 0), (65536, 0, 0), (10000, 10000, 0), (20000, 20000, 0), (0, 0, 32000), (65536, 20000, 0)]
 
@@ -119,6 +121,21 @@ class Bench:
     def check(self):
         path, _ = self.filled("check", inputs.large)
         self.told("check", self.best([self.program, "check", f"{path}/plant.toml"], "/dev/null"))
+
+    def refused(self):
+        for what, make in refused.PLANTS.items():
+            path, _ = self.filled("refused_" + "".join(filter(str.isalnum, what)), make)
+            right = self.best([self.program, "check", f"{path}/plant.toml"], "/dev/null")
+            self.told(what, right)
+            source = min(name for name in os.listdir(path) if name.endswith(".st"))
+            for change, do in refused.changes(source).items():
+                changed = os.path.join(self.folder, "changed")
+                shutil.rmtree(changed, ignore_errors=True)
+                shutil.copytree(path, changed)
+                do(changed)
+                it = self.best([self.program, "check", f"{changed}/plant.toml"], "/dev/null")
+                self.failed |= it.status not in (2, 3)
+                print(f"    {change:<48} {it.processor:9.3f} s {it.memory:8.1f} MB  {it.processor / right.processor:5.2f} times", flush=True)
 
     def still(self):
         scans = self.options.scans or 4001

@@ -93,8 +93,6 @@ module _ {C : Type 0} where
   pub record IsReload (old new : PlainStation C) (plant : PlainPlant) (r : Reloaded) : Type 0 where
     pub reload : TakesReload old.engine new.engine plant r
     pub lanes : new.lanes ≡ old.lanes
-    pub crew : new.crew ≡ old.crew
-    pub parts : new.parts ≡ old.parts
     pub counted : old.refusals ≤ new.refusals
     pub shown : new.refusals ≡ old.refusals → new.shown ≡ length new.engine.history
 

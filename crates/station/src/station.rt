@@ -85,6 +85,7 @@ impl<L: Ledger, C: Drop> Station<L, C> {
         requires parts { (blank.parts ≡ L.parts) × (0 < L.parts) }
         ensures engine { IfOk result (λ r. (r.0.engine.plant ≡ plant) × (r.0.engine.history ≡ [])) }
         ensures whole { IfOk result (λ r. r.0.parts ≡ L.parts) }
+        ensures crew { IfOk result (λ r. r.0.crew ≡ crew) }
         ensures listed { IfOk result (λ r. map (λ c. c.number) (links_of r.1.items)
             ≡ numbers_of plant.consoles) }
         ensures lanes { IfOk result (λ r. numbers_in r.0.lanes ≡ numbers_of plant.consoles) }
@@ -183,6 +184,8 @@ impl<L: Ledger, C: Drop> Station<L, C> {
         ensures err { IfErr result (λ r. (r.plant ≡ plant)
             × IsReloadDue (self.old.parts ≡ L.parts) r.fault self.old.engine plant) }
         ensures kept { OnErr result (SameButRoom self.old self.new) }
+        ensures crew { self.new.crew ≡ self.old.crew }
+        ensures share { self.new.parts ≡ self.old.parts }
     {
         let reloaded = self.recorder.reload(rt, alloc, plant)?;
         Ok(reloaded)

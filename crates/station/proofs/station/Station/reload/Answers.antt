@@ -27,8 +27,6 @@ returns-clause-ok g c =
     rw (← c.self.view_is) (record {
       reload = c.in_ok-reloaded.ensures.ok;
       lanes = refl;
-      crew = refl;
-      parts = c.reload.ensures.share;
       counted = c.reload.ensures.counted;
       shown = c.in_ok-reloaded.ensures.shown;
     })
