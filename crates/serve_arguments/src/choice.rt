@@ -15,7 +15,7 @@ pub enum Choice {
 /// Why the words choose nothing.
 #[derive(Drop)]
 pub enum UsageFault {
-    /// An memory was refused.
+    /// Memory was refused.
     Memory,
     /// Help was asked for: its text, for the standard output.
     Help(Text),

@@ -6,7 +6,7 @@ use std::alloc::AllocError;
 /// Why the server stopped before its input ended.
 #[derive(Clone, Copy, Drop)]
 pub enum ServeFault {
-    /// An memory was refused.
+    /// Memory was refused.
     Memory,
     /// A read failed.
     Read,
