@@ -56,9 +56,9 @@ fn checked<R: Files + Eprint + Threads + AllocGlobal + Sync>(
 
 /// Tells whether the plant of a plant file's path is accepted. A person is told why it is refused, or what is likely to be wrong in it; at a terminal also
 /// what there is in it.
-pub fn check<R: Files + Print + Eprint + Threads + AllocGlobal + Sync>(
-    rt: &R,
-    path: &str,
+pub fn check<'a, R: Files + Print + Eprint + Threads + AllocGlobal + Sync>(
+    rt: &'a R,
+    path: &'a str,
     is_terminal: bool,
 ) -> Ended {
     let mut sink = Writing::new(io::writer(rt));
