@@ -1,6 +1,7 @@
 //! How a source is read on behind a token with which it can't go on: what is left out, and what is put in its place.
 
 use crate::grammar::{has_nested, unopened};
+use crate::rules::is_behind_title;
 use crate::words::misnomer;
 use explain_tokens::{TokenPlace, closing_of, fits, opens_section, sign_at, sign_of};
 use plant_types::same_word;
@@ -199,6 +200,9 @@ pub fn way_on(place: TokenPlace<'_>) -> Option<Mend> {
         ("label" | "labelled", _) => past_label(place),
         ("begun", ":") if place.opener() == "CASE" => past_label(place),
         ("statement", ":") => Some(instead(place, "")),
+        ("statement", sign) if fits("SECTION", sign) && is_behind_title(place) => Some(with(
+            previous, here, "",
+        )),
         ("statement", sign) if fits("SECTION", sign) => {
             let end = place.next().ahead("OUTER");
             (end.sign() == "END_VAR").then_some(with(here, end.next().number, ""))

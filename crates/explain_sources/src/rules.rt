@@ -6,7 +6,7 @@ use st_lexer::{Token, TokenKind};
 /// Each rule has where the token stands, what opens the unit, the section or the statement in which it does, the token before it, the token itself and the one
 /// behind it, and then what is said. A word before it behind a point is an `output`, one behind an ELSE that seems to begin a condition `otherwise`; a `)` or
 /// `]` with nothing open to close is `unopened)` or `unopened]`, a comma between indexes `second`, one between digits `digits`, the integer that may stand
-/// behind a minus alone `least`, and a `:=` in a condition `condition` and in another head `within`.
+/// behind a minus alone `least`, a `:=` in a condition `condition` and in another head `within`, and a `;` before it behind the name of a unit `titled`.
 const RULES: &str = "\
 _ _ _ digits _ no comma stands in a number: underscores may part its digits, as in 1_000
 _ _ _ condition _ in a condition equal is written =
@@ -72,6 +72,7 @@ statement|control|taker|member _ _ KEYWORD :|:=|, it is a keyword, and can't be 
 statement _ ELSE THEN _ behind ELSE stands no THEN
 statement IF _ ELSE|ELSIF _ the IF has its ELSE already, which is its last part
 statement CASE _ ELSE _ the CASE has its ELSE already, which is its last part
+statement _ titled VAR|VAR_INPUT|VAR_OUTPUT|VAR_EXTERNAL _ no ';' stands behind the name of a unit: it is a statement, and declarations stand above all of these
 statement _ _ VAR|VAR_INPUT|VAR_OUTPUT|VAR_EXTERNAL _ declarations stand above all statements of their unit, and a ';' is one
 statement|begun|head _ _ KIND _ a declaration stands between VAR and END_VAR, as in n : DINT;
 valued _ int . _ there are no REALs: numbers are whole, and only those of a duration may have a point
@@ -195,12 +196,18 @@ fn parts_digits(place: TokenPlace<'_>) -> bool {
     })
 }
 
+/// Whether a `;` stands between the name of a unit and a token.
+pub fn is_behind_title(place: TokenPlace<'_>) -> bool {
+    [place.before(1), place.before(2)] == [";", "word"] && fits("UNIT", place.before(3))
+}
+
 /// The sign of the token before another one, as the rules tell it.
 fn told_before(place: TokenPlace<'_>) -> &'static str {
     let is_compared = place.sign() != "." || fits("KEYWORD|<|>|<=|>=|<>|=", place.behind(2));
     match (place.before(1), place.before(2)) {
         ("word", ".") => "output",
         ("word", "ELSE") if is_compared => "otherwise",
+        _ if is_behind_title(place) => "titled",
         (sign, _) => sign,
     }
 }

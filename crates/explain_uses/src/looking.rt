@@ -5,7 +5,7 @@ use crate::found::{Found, Uses};
 use crate::places::{Passed, Sought, place_of};
 use base_words::Names;
 use explain_tokens::tokens_of;
-use explain_trees::{DeclaredName, Form, entries_of, mark_of};
+use explain_trees::{DeclaredName, Form, entries_of};
 use plant_types::{Region, Text};
 use st_lexer::Token;
 use st_parser::{SectionKind, Unit};
