@@ -10,7 +10,7 @@ use explain_document::{
     Gathered, Mark, Shelf, Shelved, files_listed, no_document, wrong_epoch, wrong_keys,
 };
 use explain_places::shown;
-use explain_tokens::{Cause, FileOf, Spot, cause_of};
+use explain_tokens::{Cause, FileOf, Spot, cause_at, cause_of};
 use explain_trees::filled;
 use plant_config::{ConfigFault, Limit, Plant};
 use plant_folder::PlantTexts;
@@ -245,6 +245,25 @@ pub fn explain_all(
     under(alloc, line.as_str(), rest.as_str())
 }
 
+/// The texts of a plant whose files were gathered.
+fn texts_of<'t>(
+    path: &'t str,
+    plant: &'t [u8],
+    sources: &'t [(&'t str, &'t [u8])],
+    gathered: &'t Gathered,
+) -> PlantTexts<'t> {
+    let alarms = gathered
+        .alarms
+        .as_ref()
+        .map_or(b"".as_slice(), |text| text.as_slice());
+    PlantTexts {
+        path,
+        plant,
+        sources,
+        alarms,
+    }
+}
+
 /// The faults of a plant whose own file is refused, and of the files that it lists, shown.
 fn shown_from<S: Shelf>(
     alloc: Global,
@@ -254,15 +273,7 @@ fn shown_from<S: Shelf>(
 ) -> Result<String, AllocError> {
     let gathered = Gathered::of(alloc, (shelf, path), plant)?;
     let sources = gathered.lent(alloc)?;
-    let texts = PlantTexts {
-        path,
-        plant,
-        sources: sources.as_slice(),
-        alarms: gathered
-            .alarms
-            .as_ref()
-            .map_or(b"".as_slice(), |text| text.as_slice()),
-    };
+    let texts = texts_of(path, plant, sources.as_slice(), &gathered);
     let spots = find_all(alloc, &texts, fault, Some(&gathered))?;
     all_shown(alloc, &texts, spots.as_slice(), 0)
 }
@@ -284,8 +295,22 @@ pub fn explain_from<S: Shelf>(
     under(alloc, line.as_str(), told.as_str())
 }
 
-/// What else is wrong in a plant of which a file of a name is missing: further files that are, and what is certainly wrong in the others; and how many faults are
-/// told with the missing file. Nothing where a shelf hasn't the plant file itself by its path.
+/// The place in the plant file where a file is named that is missing, shown; nothing where it isn't certain.
+fn named_at(
+    alloc: Global,
+    texts: &PlantTexts<'_>,
+    named: Option<Mark>,
+) -> Result<String, AllocError> {
+    let Some(mark) = named else {
+        return Ok(String::new(alloc));
+    };
+    let said = String::from_str(alloc, "the plant file names it here")?;
+    let (file, cause) = (FileOf::Plant, cause_at(mark, said, REFUSALS));
+    shown(alloc, texts, "", &Spot { file, cause })
+}
+
+/// Where the plant file names a file of a name that is missing, and what else is wrong in the plant: further files that are missing, and what is certainly wrong
+/// in the others; and how many faults are told with the missing file. Nothing where a shelf hasn't the plant file itself by its path.
 pub fn explain_missing<S: Shelf>(
     alloc: Global,
     shelf: &S,
@@ -297,20 +322,18 @@ pub fn explain_missing<S: Shelf>(
         Shelved::Missing | Shelved::Unread => return Ok(String::new(alloc)),
     };
     let mut gathered = Gathered::of(alloc, (shelf, path), plant.as_slice())?;
+    let mut missing = gathered.missing.iter();
+    let named = missing
+        .find(|file| file.name.as_str() == name)
+        .map(|file| file.mark);
     gathered.forget(name);
     let sources = gathered.lent(alloc)?;
-    let texts = PlantTexts {
-        path,
-        plant: plant.as_slice(),
-        sources: sources.as_slice(),
-        alarms: gathered
-            .alarms
-            .as_ref()
-            .map_or(b"".as_slice(), |text| text.as_slice()),
-    };
+    let texts = texts_of(path, plant.as_slice(), sources.as_slice(), &gathered);
+    let mut told = named_at(alloc, &texts, named)?;
     let mut refused = untold(alloc, &texts, Some(&gathered));
     refused.in_gathered()?;
     let mut spots = refused.told;
     spots.truncate(MOST_FAULTS.saturating_sub(1));
-    all_shown(alloc, &texts, spots.as_slice(), 1)
+    told.push_str(all_shown(alloc, &texts, spots.as_slice(), 1)?.as_str())?;
+    Ok(told)
 }
