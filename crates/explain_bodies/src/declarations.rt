@@ -51,9 +51,9 @@ impl<'t> Teller<'t> {
         }
         if !is_global {
             let entries = self.plant.entries.as_slice();
-            let hint = nearest_global(entries, name.as_str(), None).hint();
-            let texts = ["no global is called @, which VAR_EXTERNAL names", hint.0];
-            self.tell(NAMES, alone(number), texts, &[hint.1]);
+            let (more, words) = nearest_global(entries, name.as_str(), None);
+            let texts = ["no global is called @, which VAR_EXTERNAL names", more];
+            self.tell(NAMES, alone(number), texts, &words);
             return;
         }
         let Some(global) = self.plant.find(name).and_then(|entry| entry.sort()) else {

@@ -45,14 +45,11 @@ impl<'t> Teller<'t> {
             let text = "@ is a program, and no variable";
             return self.tell(NAMES, alone(number), [text, ""], &[]);
         }
-        let hint = variable_hint(&self.body, name, wanted);
-        let words = [self.body.name, hint.1, hint.2];
-        self.tell(
-            NAMES,
-            alone(number),
-            ["no variable is called @ in %", hint.0],
-            &words,
-        )
+        let hint = variable_hint(&self.body, name, wanted, self.arguments);
+        let (more, [one, other, third]) = self.told.got(hint)?;
+        let texts = ["no variable is called @ in %", more];
+        let words = [self.body.name, one, other, third];
+        self.tell(NAMES, alone(number), texts, &words)
     }
 
     /// Whether it was told of the unit that a name isn't there; then it is counted.
@@ -199,8 +196,26 @@ impl<'t> Teller<'t> {
         self.say(KINDS, alone(number), text, &words);
     }
 
+    /// Tells of a number behind a comparison and AND, OR or XOR, at the token of a number, as in n = 1 OR 2; returns whether there is one.
+    fn tell_half(&mut self, number: usize, left: &Operand, right: &Operand) -> bool {
+        let is_number = matches!(right.form, Form::Bit | Form::Literal)
+            && right.kind == Some(Kind::Dint);
+        if !is_number || !matches!(left.form, Form::Order | Form::Comparison) {
+            return false;
+        }
+        let word = self.cursor.word(number);
+        let text =
+            "'%' takes two BOOL, and @ behind it is a DINT; each comparison is written whole, as in n = 1 % n = 2";
+        self.say(KINDS, right.tokens, text, &[word, word]);
+        true
+    }
+
     /// Tells of the operands of an operator at the token of a number, which it doesn't take.
     pub fn tell_binary(&mut self, op: Binary, number: usize, left: &Operand, right: &Operand) {
+        let is_logic = matches!(op, Binary::And | Binary::Or | Binary::Xor);
+        if is_logic && self.tell_half(number, left, right) {
+            return;
+        }
         let are_numbers = left.kind != Some(Kind::Bool) && right.kind != Some(Kind::Bool);
         let takes = match wanted_beside(op) {
             Wanted::Of(Kind::Bool) => ("two BOOL", Some(Kind::Bool)),

@@ -126,7 +126,7 @@ impl<'t> Refused<'t> {
         is_told: bool,
     ) -> Result<(), AllocError> {
         let parsed = readable.parsed();
-        let found = mistakes(self.alloc, parsed, None)?;
+        let found = mistakes(self.alloc, parsed, self.alarms, None)?;
         let mut names = found.iter();
         if !is_told && names.any(|mistake| mistake.rule == BrokenRule::Names) {
             self.add_comments_told(comments)?;
@@ -203,7 +203,7 @@ impl<'t> Refused<'t> {
             units: units.as_slice(),
             unknown: &unknown,
         };
-        let found = mistakes(self.alloc, parsed, Some(rule))?;
+        let found = mistakes(self.alloc, parsed, self.alarms, Some(rule))?;
         let comments = match rule {
             BrokenRule::Names => self.swallowers()?,
             _ => Vec::new(self.alloc),

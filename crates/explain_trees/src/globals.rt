@@ -3,28 +3,31 @@
 use crate::body::kind_text;
 use crate::entries::{DeclaredName, entries_of, owner_of};
 use crate::hints::nearest_global;
+use crate::slips::Said;
 use crate::texts::filled;
+use crate::uses::is_assigned;
 use plant_types::{Kind, same_word};
 use st_parser::{Sort, Unit};
 use std::alloc::{AllocError, Global};
 
-/// What is said of a name that no global has, in two texts with a hole, and the word in it.
-fn undeclared<'t>(
+/// What is said behind a name that no global has, and that no block or program has for itself: where a body assigns it, its declaration is missing.
+fn beside<'t>(
+    alloc: Global,
     entries: &[DeclaredName<'t>],
+    units: &[Unit],
     name: &'t str,
-) -> (&'static str, &'static str, &'t str) {
-    let owner = owner_of(entries, name);
-    if !owner.is_empty() {
-        let said = "@ is a variable of % alone, and an alarm watches BOOL globals (VAR_GLOBAL)";
-        return (said, "", owner);
-    }
-    let said = "no BOOL global is called @";
+) -> Result<Said<'t>, AllocError> {
     if same_word(name.as_bytes(), b"FALSE") {
-        let more = "; where nothing suppresses the alarm the field is empty";
-        return (said, more, "");
+        let said = "; where nothing suppresses the alarm the field is empty";
+        return Ok((said, [""; 3]));
     }
-    let hint = nearest_global(entries, name, Some(Kind::Bool)).hint();
-    (said, hint.0, hint.1)
+    if is_assigned(alloc, units, name)? {
+        return Ok((
+            "; its declaration is missing: VAR_GLOBAL hasn't it",
+            [""; 3],
+        ));
+    }
+    Ok(nearest_global(entries, name, Some(Kind::Bool)))
 }
 
 /// What the global of a name is declared as; `None` if there is none.
@@ -44,17 +47,23 @@ pub fn no_bool_global<'t>(
     name: &'t str,
 ) -> Result<String, AllocError> {
     let entries = entries_of(alloc, units)?;
-    let (said, more, word) = match sort_of(entries.as_slice(), name) {
+    let entries = entries.as_slice();
+    match sort_of(entries, name) {
         Some(Sort::Kind(kind)) => {
             let said = "@ is a %, and an alarm watches BOOL globals";
-            (said, "", kind_text(*kind))
+            return filled(alloc, &[said], name, &[kind_text(*kind)]);
         }
         Some(Sort::Array(_, _)) => {
-            let said = "@ is an array, and an alarm watches BOOL globals";
-            (said, ": assign an element to one", "")
+            let said = "@ is an array, and an alarm watches BOOL globals: assign an element to one";
+            return filled(alloc, &[said], name, &[]);
         }
-        Some(Sort::Block(_)) => undeclared(entries.as_slice(), name),
-        None => undeclared(entries.as_slice(), name),
-    };
-    filled(alloc, &[said, more], name, &[word])
+        Some(Sort::Block(_)) | None => {}
+    }
+    let owner = owner_of(entries, name);
+    if !owner.is_empty() {
+        let said = "@ is a variable of % alone, and an alarm watches BOOL globals (VAR_GLOBAL)";
+        return filled(alloc, &[said], name, &[owner]);
+    }
+    let (more, words) = beside(alloc, entries, units, name)?;
+    filled(alloc, &["no BOOL global is called @", more], name, &words)
 }

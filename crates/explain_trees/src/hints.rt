@@ -1,11 +1,16 @@
 //! The names that may be meant by one that isn't there.
 
 use crate::body::{Body, kind_text};
-use crate::entries::{DeclaredName, Form, owner_of};
-use explain_tokens::{Hint, Nearest};
+use crate::entries::{DeclaredName, Form};
+use crate::owners::{instance_hint, owner_hint};
+use crate::slips::{MOST_NAMES, NOTHING, Said, Slips, is_slip, question};
+use crate::uses::{Count, Given, Uses, given_by_calls, is_in_table};
+use crate::words::literal_hint;
 use plant_types::{Kind, Text};
 use st_names::{Declared, Scope, sort_kind};
 use st_parser::Sort;
+use st_tree::Argument;
+use std::alloc::AllocError;
 
 /// What a name has to be.
 #[derive(Clone, Copy, Drop)]
@@ -18,10 +23,14 @@ pub enum Wanted {
     Number,
     /// A variable that may be assigned.
     Target,
+    /// A variable of a kind that may be assigned.
+    TargetOf(Kind),
     /// A DINT that the unit declares itself.
     Control,
-    /// An instance of a block.
+    /// An instance of a block, of which an output is read.
     Instance,
+    /// An instance of a block that is called.
+    Called,
     /// An array.
     Array,
 }
@@ -30,6 +39,16 @@ impl Wanted {
     /// What has to be of a kind, where that is known.
     pub fn of(kind: Option<Kind>) -> Wanted {
         kind.map_or(Wanted::Any, Wanted::Of)
+    }
+
+    /// What is assigned and has to be of a kind, where that is known.
+    pub fn target_of(kind: Option<Kind>) -> Wanted {
+        kind.map_or(Wanted::Target, Wanted::TargetOf)
+    }
+
+    /// Whether an instance is wanted.
+    fn is_instance(self) -> bool {
+        matches!(self, Wanted::Instance | Wanted::Called)
     }
 }
 
@@ -41,8 +60,9 @@ fn fits(body: &Body<'_>, name: &Text, sort: &Sort, wanted: Wanted) -> bool {
         Wanted::Of(wanted) => kind == Some(wanted),
         Wanted::Number => matches!(kind, Some(Kind::Dint | Kind::Time)),
         Wanted::Target => body.scope.is_assignable(name),
+        Wanted::TargetOf(wanted) => kind == Some(wanted) && body.scope.is_assignable(name),
         Wanted::Control => body.scope.is_control(name),
-        Wanted::Instance => matches!(sort, Sort::Block(_)),
+        Wanted::Instance | Wanted::Called => matches!(sort, Sort::Block(_)),
         Wanted::Array => matches!(sort, Sort::Array(_, _)),
     }
 }
@@ -51,95 +71,173 @@ fn fits(body: &Body<'_>, name: &Text, sort: &Sort, wanted: Wanted) -> bool {
 #[derive(Drop)]
 struct Near<'n> {
     wanted: Wanted,
-    fit: Nearest<'n>,
-    other: Nearest<'n>,
-    /// What the nearest of the others is declared as.
+    fit: Slips<'n>,
+    other: Slips<'n>,
+    /// What the first of the nearest others is declared as.
     sort: Option<&'n Sort>,
 }
 
 impl<'n> Near<'n> {
+    /// The names that are near one that a unit hasn't.
+    fn of(body: &Body<'n>, name: &'n Text, wanted: Wanted) -> Near<'n> {
+        let mut near = Near {
+            wanted,
+            fit: Slips::of(name.as_str()),
+            other: Slips::of(name.as_str()),
+            sort: None,
+        };
+        for declared in body.scope.declared() {
+            near.offer(body, declared);
+        }
+        for entry in &body.plant.entries {
+            match &entry.form {
+                Form::Declared(declared) if entry.owner.is_empty() => near.offer(body, declared),
+                _ => {}
+            }
+        }
+        near
+    }
+
     /// Takes a name that a unit may use.
     fn offer(&mut self, body: &Body<'_>, declared: &Declared<'n>) {
         let (name, sort) = (declared.name(), declared.sort());
-        let (mut fit, mut other) = (self.fit, self.other);
-        let (is_near, is_nearer) = (fit.offer(name.as_str()), other.offer(name.as_str()));
-        if !is_near && !is_nearer {
-            return;
-        }
         if fits(body, name, sort, self.wanted) {
-            self.fit = fit;
-        } else if is_nearer {
-            self.other = other;
+            self.fit.offer(name.as_str());
+        } else if self.other.offer(name.as_str()) && self.other.count == 1 {
             self.sort = Some(sort);
         }
     }
 
-    /// What is said of the nearest; `None` where none is near.
-    fn hint(&self) -> Option<Hint<'n>> {
-        let other = self.other.best;
-        match self.sort {
-            _ if !self.fit.best.is_empty() => Some(self.fit.hint()),
-            Some(Sort::Kind(kind)) => Some(("; '%' is there, and is a %", other, kind_text(*kind))),
-            Some(Sort::Block(word)) => {
-                let said = "; '%' is there, and is an instance of %";
-                Some((said, other, word.as_str()))
+    /// Of the names that are what is wanted those that are likely meant: no others use them, or, where the word is used once, it is a slip by its letters.
+    fn likely(&self, uses: &Uses<'_>, is_often: bool, table: &[u8]) -> Slips<'n> {
+        let word = self.fit.word;
+        let mut likely = Slips::of(word);
+        for (number, name) in self.fit.near().iter().enumerate() {
+            let is_unused = uses.count(number.saturating_add(1)).all() == 0;
+            let is_free = is_unused && !(is_often && is_in_table(table, name));
+            if is_free || (!is_often && is_slip(word, name)) {
+                likely.offer(*name);
             }
-            Some(Sort::Array(_, _)) => Some(("; '%' is there, and is an array", other, "")),
-            None => None,
+        }
+        likely
+    }
+
+    /// What is said of the one name that is near and isn't what is wanted.
+    fn other(&self) -> Option<Said<'n>> {
+        let [name] = self.other.near() else {
+            return None;
+        };
+        if !is_slip(self.other.word, name) {
+            return None;
+        }
+        match self.sort? {
+            Sort::Kind(kind) => {
+                Some(("; '%' is there, and is a %", [*name, kind_text(*kind), ""]))
+            }
+            Sort::Block(word) => {
+                let said = "; '%' is there, and is an instance of %";
+                Some((said, [*name, word.as_str(), ""]))
+            }
+            Sort::Array(_, _) => Some(("; '%' is there, and is an array", [*name, "", ""])),
         }
     }
 }
 
-/// What is said of a name that is near no other: which block or program has it alone, or how an instance is declared.
-fn far<'t>(entries: &[DeclaredName<'t>], name: &'t str, wanted: Wanted) -> Hint<'t> {
-    let owner = owner_of(entries, name);
-    if !owner.is_empty() {
-        let said =
-            "; % has one of this name for itself, and what several read is a global (VAR_GLOBAL)";
-        return (said, owner, "");
-    }
-    match wanted {
-        Wanted::Instance => {
-            let said = "; an instance is declared before it is called, as in VAR % : TON; END_VAR";
-            (said, name, "")
-        }
-        _ => ("", "", ""),
+/// What is said of a name whose declaration is missing, by where it is used; `is_listed` tells whether an alarm names it.
+fn missing(wanted: Wanted, count: Count, is_listed: bool) -> &'static str {
+    if is_listed || count.elsewhere > 0 {
+        "; its declaration is missing: VAR_GLOBAL hasn't it"
+    } else if matches!(wanted, Wanted::Control) {
+        "; its declaration is missing: VAR here hasn't it"
+    } else {
+        "; its declaration is missing: neither VAR here nor VAR_GLOBAL has it"
     }
 }
 
-/// A question for the nearest variable that is what is wanted; else what the nearest other one is, or who has one of this name for itself. Empty where there
-/// is none of these.
-pub fn variable_hint<'t>(body: &Body<'t>, name: &'t Text, wanted: Wanted) -> Hint<'t> {
-    let mut near = Near {
-        wanted,
-        fit: Nearest::to(name.as_str()),
-        other: Nearest::to(name.as_str()),
-        sort: None,
+/// What is said of a name of a block that its calls give or take; `None` where they don't.
+fn called_for<'t>(body: &Body<'t>, name: &Text) -> Result<Option<Said<'t>>, AllocError> {
+    let words = [body.name, "", ""];
+    let given = given_by_calls(body.plant, body.name, name.as_str())?;
+    Ok(match given {
+        Given::Not => None,
+        Given::Input => {
+            let said = "; its declaration is missing: VAR_INPUT hasn't it, and calls of % give it";
+            Some((said, words))
+        }
+        Given::Output => {
+            let said = "; its declaration is missing: VAR_OUTPUT hasn't it, and calls of % take it";
+            Some((said, words))
+        }
+    })
+}
+
+/// What is said of a name that a unit hasn't and that isn't an argument of its calls. Where it is used often, or an alarm names it, a near name is likely another
+/// one.
+fn by_uses<'t>(body: &Body<'t>, name: &'t Text, wanted: Wanted) -> Option<Said<'t>> {
+    let (plant, word) = (body.plant, name.as_str());
+    let near = Near::of(body, name, wanted);
+    let [one, other, third] = near.fit.names;
+    let words = [word, one, other, third];
+    let uses = Uses::of(plant, body.name, &words);
+    let count = uses.count(0);
+    let is_listed = is_in_table(plant.alarms, word);
+    let is_often = is_listed || count.all() > 1;
+    let likely = near.likely(&uses, is_often, plant.alarms);
+    if let ([name], true) = (likely.near(), is_often) {
+        let said = "; its declaration is missing, and '%' is declared, which nothing uses";
+        return Some((said, [*name, "", ""]));
+    }
+    let said = if is_often {
+        None
+    } else {
+        question(likely.near())
     };
-    for declared in body.scope.declared() {
-        near.offer(body, declared);
+    let said = said.or(literal_hint(word, wanted, is_often));
+    let said = if is_often {
+        said
+    } else {
+        said.or(near.other())
+    };
+    let owner = owner_hint(plant.entries.as_slice(), word, wanted);
+    let said = if is_listed { said } else { said.or(owner) };
+    if said.is_none() && is_often && !wanted.is_instance() {
+        return Some((missing(wanted, count, is_listed), [""; MOST_NAMES]));
     }
-    let entries = body.plant.entries.as_slice();
-    for entry in entries {
-        match &entry.form {
-            Form::Declared(declared) if entry.owner.is_empty() => near.offer(body, declared),
-            _ => {}
-        }
-    }
-    near.hint().unwrap_or(far(entries, name.as_str(), wanted))
+    said
 }
 
-/// The nearest global, of a kind or of any where none is given.
+/// What is said beside a name that a unit hasn't: that its declaration is missing, where it is used so; else a question for the name that is likely meant, or what
+/// the nearest other one is, or who has one of this name for itself. Of an instance that is called with these arguments it is said how one is declared. Empty where
+/// there is none of these.
+pub fn variable_hint<'t>(
+    body: &Body<'t>,
+    name: &'t Text,
+    wanted: Wanted,
+    arguments: &[Argument<Text>],
+) -> Result<Said<'t>, AllocError> {
+    if !wanted.is_instance() {
+        if let Some(said) = called_for(body, name)? {
+            return Ok(said);
+        }
+    }
+    match by_uses(body, name, wanted) {
+        Some(said) => Ok(said),
+        None if wanted.is_instance() => instance_hint(body.plant, name.as_str(), arguments),
+        None => Ok(NOTHING),
+    }
+}
+
+/// A question for the nearest globals, of a kind or of any where none is given.
 pub fn nearest_global<'t>(
     entries: &[DeclaredName<'t>],
     name: &'t str,
     kind: Option<Kind>,
-) -> Nearest<'t> {
-    let mut nearest = Nearest::to(name);
+) -> Said<'t> {
+    let mut slips = Slips::of(name);
     for entry in entries {
         if entry.is_global(kind) {
-            nearest.offer(entry.name.as_str());
+            slips.offer(entry.name.as_str());
         }
     }
-    nearest
+    question(slips.near()).unwrap_or(NOTHING)
 }

@@ -17,11 +17,15 @@ mod entries;
 mod globals;
 mod hints;
 mod members;
+mod owners;
+mod slips;
 mod steps;
 mod texts;
 mod told;
 mod trees;
 mod unknown;
+mod uses;
+mod words;
 
 pub use body::{Body, kind_text};
 pub use circles::leads_back;
