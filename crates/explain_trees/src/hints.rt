@@ -6,6 +6,7 @@ use crate::owners::{instance_hint, owner_hint};
 use crate::slips::{MOST_NAMES, NOTHING, Said, Slips, is_slip, question};
 use crate::uses::{Count, Given, Uses, given_by_calls, is_in_table};
 use crate::words::literal_hint;
+use explain_tokens::{part, within_one};
 use plant_types::{Kind, Text};
 use st_names::{Declared, Scope, sort_kind};
 use st_parser::Sort;
@@ -108,14 +109,15 @@ impl<'n> Near<'n> {
         }
     }
 
-    /// Of the names that are what is wanted those that are likely meant: no others use them, or, where the word is used once, it is a slip by its letters.
+    /// Of the names that are what is wanted those that are likely meant: nothing uses them, or, where the word is used once, it is a slip by its letters.
     fn likely(&self, uses: &Uses<'_>, is_often: bool, table: &[u8]) -> Slips<'n> {
         let word = self.fit.word;
+        let may_slip = !is_often && !self.fit.has_twin;
         let mut likely = Slips::of(word);
-        for (number, name) in self.fit.near().iter().enumerate() {
+        for (number, name) in self.fit.nearest().iter().enumerate() {
             let is_unused = uses.count(number.saturating_add(1)).all() == 0;
             let is_free = is_unused && !(is_often && is_in_table(table, name));
-            if is_free || (!is_often && is_slip(word, name)) {
+            if is_free || (may_slip && is_slip(word, name)) {
                 likely.offer(*name);
             }
         }
@@ -127,7 +129,11 @@ impl<'n> Near<'n> {
         let [name] = self.other.near() else {
             return None;
         };
-        if !is_slip(self.other.word, name) {
+        let word = self.other.word;
+        let goes_on = word.as_bytes().get(name.len()) == Some(&b'_');
+        let begins = part(word.as_bytes(), 0, name.len()).eq_ignore_ascii_case(name.as_bytes());
+        let is_close = word.len() != name.len() && within_one(word.as_bytes(), name.as_bytes());
+        if !is_slip(word, name) && !is_close && !(begins && goes_on) {
             return None;
         }
         match self.sort? {

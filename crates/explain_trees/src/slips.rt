@@ -79,7 +79,7 @@ impl<'n> Slips<'n> {
         }
     }
 
-    /// Takes a name that may be meant; returns whether it is kept. Of a word of two letters one of three may be meant, one of one letter is no slip.
+    /// Takes a name that may be meant; returns whether it is kept. Of a word of two letters one of three may be meant, one of one letter is none.
     pub fn offer(&mut self, name: &'n str) -> bool {
         let (word, bytes) = (self.word.as_bytes(), name.as_bytes());
         let is_close = within_one(word, bytes);
@@ -111,12 +111,17 @@ impl<'n> Slips<'n> {
         }
     }
 
+    /// The nearest names; none where they are more than are kept.
+    pub fn nearest(&self) -> &[&'n str] {
+        self.names.get(..self.count).unwrap_or(&[])
+    }
+
     /// The nearest names; none where they are more than are kept, or one differs in digits alone.
     pub fn near(&self) -> &[&'n str] {
         if self.has_twin {
             return &[];
         }
-        self.names.get(..self.count).unwrap_or(&[])
+        self.nearest()
     }
 }
 
