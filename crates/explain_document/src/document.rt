@@ -1,6 +1,8 @@
 //! What is wrong in the plant file (C1 to C3), as its reader found it.
 
 use crate::areas::strange_area;
+use crate::broken::{broken_at, line_of};
+use crate::epochs::said_of_epoch;
 use crate::keys::{Keys, Mark, NOBODY, keys_of};
 use crate::listed::key_of;
 use base_stamps::Epoch;
@@ -132,15 +134,6 @@ fn mark_of(keys: &Keys<'_>, wrong: &Mistake) -> Result<Option<Mark>, AllocError>
         (None, Some(number)) => keys.console(number),
         (None, None) => Ok(None),
     }
-}
-
-/// The bytes of the line in which a byte stands.
-fn line_of(text: &[u8], at: usize) -> Mark {
-    let is_end = |byte: &u8| *byte == b'\n';
-    let before = part(text, 0, at).iter().rev().position(is_end);
-    let from = at.saturating_sub(before.unwrap_or(at));
-    let len = part(text, from, text.len()).iter().position(is_end);
-    (from, len.map_or(text.len(), |len| from.saturating_add(len)))
 }
 
 /// Whether a line of a text begins as a key of the plant's with its `=`: else it is another file, in the place of a plant file.
@@ -309,8 +302,8 @@ impl<'t> Document<'t> {
         }
     }
 
-    /// Tells where a text of the plant file is no TOML document any more, and why. Returns the text with which it is read on: without its consoles where the
-    /// header of one is wrong, and else without the line there, as far as that is certain.
+    /// Tells where a text of the plant file is no TOML document any more, and why. Returns the text with which it is read on: up to where it is certain, behind
+    /// the header of a console or a text or a list that isn't closed, and else without the line there, as far as that is certain.
     fn unread_at(
         &mut self,
         text: &[u8],
@@ -318,7 +311,9 @@ impl<'t> Document<'t> {
         message: &str,
     ) -> Result<Option<Vec<u8>>, AllocError> {
         let rest = part(text, mark.0, text.len());
-        if rest.starts_with(b"[console]") || rest.starts_with(b"[[console]]") {
+        let is_header = rest.starts_with(b"[console]") || rest.starts_with(b"[[console]]");
+        let before = part(text, line_of(text, mark.0).0, mark.0);
+        if is_header && before.trim_ascii().is_empty() && !message.starts_with("missing comma") {
             let keys = keys_of(self.alloc, text)?;
             let header = keys.header("[console]").unwrap_or(mark);
             self.say(Some(header), ONE_CONSOLE, &[])?;
@@ -327,10 +322,17 @@ impl<'t> Document<'t> {
         }
         let mut reasons = REASONS.lines().filter_map(|line| line.split_once("| "));
         let reason = reasons.find(|reason| reason.0 == message);
-        let why = reason.map_or(message, |reason| reason.1);
+        let broken = broken_at(self.alloc, text, mark, message)?;
+        let mut why = broken.said.as_str();
+        if why.is_empty() {
+            why = reason.map_or(message, |reason| reason.1);
+        }
         let said = "here the plant file is no TOML document any more: %";
-        self.say(Some(mark), said, &[why])?;
-        without_line(self.alloc, text, mark.0, message)
+        self.say(Some(broken.mark), said, &[why])?;
+        match broken.until {
+            Some(until) => Ok(Some(Vec::from_slice(self.alloc, part(text, 0, until))?)),
+            None => without_line(self.alloc, text, mark.0, message),
+        }
     }
 
     /// Tells what is wrong in the text of the plant file, in which what was told stands no more.
@@ -402,7 +404,7 @@ impl<'t> Document<'t> {
             }
         }
         if has_no_epoch(&keys, plant) && !may_have(lost.as_slice(), b"epoch", false) {
-            self.no_epoch(&keys)?;
+            self.no_epoch(plant, &keys)?;
         }
         if self.told.is_empty() {
             let text = "the sources that were handed in aren't those that 'sources' lists";
@@ -416,11 +418,19 @@ impl<'t> Document<'t> {
         Ok(())
     }
 
-    fn no_epoch(&mut self, keys: &Keys<'_>) -> Result<(), AllocError> {
+    /// Tells of the epoch in the text of the plant file, which is none.
+    fn no_epoch(&mut self, plant: &[u8], keys: &Keys<'_>) -> Result<(), AllocError> {
         let mark = keys.find(0, "epoch").map(|entry| entry.value);
+        let value = mark.map_or(b"".as_slice(), |mark| part(plant, mark.0, mark.1));
+        let why = match value {
+            [b'"', inner @ .., b'"'] if !inner.contains(&b'\\') => said_of_epoch(inner),
+            [b'\'', inner @ .., b'\''] => said_of_epoch(inner),
+            _ => "",
+        };
+        let colon = if why.is_empty() { "" } else { ": " };
         let text =
-            "the epoch is no second of the years 1970 to 2399 in the form YYYY-MM-DDTHH:MM:SSZ";
-        self.say(mark, text, &[])
+            "the epoch is no second of the years 1970 to 2399 in the form YYYY-MM-DDTHH:MM:SSZ%%";
+        self.say(mark, text, &[colon, why])
     }
 }
 
@@ -454,6 +464,6 @@ pub fn wrong_keys(
 /// What is told of a plant file whose epoch isn't one (C3).
 pub fn wrong_epoch(alloc: Global, plant: &[u8]) -> Result<Vec<Cause>, AllocError> {
     let mut document = untold(alloc, plant);
-    document.no_epoch(&keys_of(alloc, plant)?)?;
+    document.no_epoch(plant, &keys_of(alloc, plant)?)?;
     Ok(document.told)
 }

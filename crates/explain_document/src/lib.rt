@@ -11,7 +11,9 @@
 #![tactic(auto)]
 
 mod areas;
+mod broken;
 mod document;
+mod epochs;
 mod gathered;
 mod keys;
 mod listed;
