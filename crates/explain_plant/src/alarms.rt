@@ -2,6 +2,7 @@
 
 use crate::fields::{field_of, fields_of_row, last_of, row_start, unquoted};
 use crate::telling::Refused;
+use crate::uneven::{why_more, why_one};
 use alarm_db::{Column, RowFault, RowMistake, Version};
 use explain_document::{Mark, WIDE, is_wide, strange_area};
 use explain_places::place_at;
@@ -17,7 +18,7 @@ const GOES_ON: &str =
 
 fn form_of(column: Column) -> &'static str {
     match column {
-        Column::Tag | Column::Area => "has 1 to 32 letters, digits, '_', '-' and '.'",
+        Column::Tag | Column::Area => "has 1 to 32 letters of ASCII, digits, '_', '-' and '.'",
         Column::Priority => "is 1, 2, 3 or 4",
         Column::Condition =>
             "is the name of a global: a letter or '_', then letters, digits and '_'",
@@ -26,6 +27,51 @@ fn form_of(column: Column) -> &'static str {
         Column::MaxShelveMs => "is a number of milliseconds, at most 2592000000, without a unit",
         Column::OnDelayMs => "is a number of milliseconds, at most 86400000, without a unit",
         Column::Text => "has at most 200 bytes of UTF-8, without tabs and other signs of control",
+    }
+}
+
+/// The first sign of a field that isn't of ASCII, by its bytes; `None` where there is none.
+fn strange_sign(text: &[u8], field: Mark) -> Option<Mark> {
+    let bytes = part(text, field.0, field.1);
+    let at = bytes.iter().position(|byte| !byte.is_ascii())?;
+    let mut rest = part(bytes, at.saturating_add(1), bytes.len()).iter();
+    let more = rest.position(|byte| !matches!(*byte, 0x80..=0xBF));
+    let until = more.map_or(
+        bytes.len(),
+        |more| at.saturating_add(1).saturating_add(more),
+    );
+    Some((field.0.saturating_add(at), field.0.saturating_add(until)))
+}
+
+/// What a sign that isn't of ASCII is called, where it can't be seen or looks like another one.
+fn called(sign: &[u8]) -> &'static str {
+    match sign {
+        [0xC2, 0xA0] => "a no-break space",
+        [0xC2, 0xAD] => "a soft hyphen",
+        [0xE2, 0x80, 0x80..=0x8A | 0xAF] => "a blank of another width",
+        [0xE2, 0x80, 0x8B..=0x8F] | [0xEF, 0xBB, 0xBF] => "a sign without width",
+        [0xE2, 0x80, 0x90 | 0x91] => "another hyphen",
+        [0xE2, 0x80, 0x92..=0x95] | [0xE2, 0x88, 0x92] => "a dash",
+        [0xE2, 0x80, 0x98..=0x9F] => "a typographic quote",
+        _ => "a sign",
+    }
+}
+
+/// Whether a word says that there is nothing.
+fn is_nothing(word: &str) -> bool {
+    let mut nothings = ["none", "no", "null", "nothing", "never", "off", "n/a"].iter();
+    nothings.any(|nothing| word.eq_ignore_ascii_case(*nothing))
+}
+
+/// What a field has that isn't the name of a global, in the place of one.
+fn in_place_of_name(name: &[u8]) -> &'static str {
+    let is_sign = |byte: &u8| b"=<>!&|+*/()".contains(byte);
+    match name.trim_ascii() {
+        [b'%', ..] => "% %: an address stands in a source, beside the name of its global",
+        name if name.iter().any(|byte| is_sign(byte) || *byte == b' ') =>
+            "% %: a program assigns an expression to a BOOL global, and that one is named here",
+        name if name.contains(&b'.') => "% %, and no other name with '.' before it",
+        _ => "% %",
     }
 }
 
@@ -142,19 +188,25 @@ impl<'t> Refused<'t> {
         if let Some(first) = fields.iter().find_map(|field| first_line(all, *field)) {
             return self.say_at(first, GOES_ON, &[]);
         }
-        let text = match part(all, last.0, last.1).trim_ascii_start() {
-            [] if count == 1 =>
-                "this line has blanks alone, and so it is a row: leave it empty, or leave it out",
-            [b'#', ..] if count == 1 => "the table has no remarks: each line is a row",
-            _ if count > wanted && last.0 == last.1 =>
-                "this row has % fields, and % are wanted: its line ends with a comma too many",
-            _ if count > wanted =>
-                "this row has % fields, and % are wanted (a text with a comma stands in double quotes)",
-            _ =>
+        if let Some(text) = why_one(all, fields, wanted) {
+            return self.say_at(last, text, &[]);
+        }
+        let (mut mark, mut why) = (last, "");
+        let text = match why_more(all, fields, wanted) {
+            _ if count <= wanted =>
                 "fields of this row: %, and % are wanted (a comma left out, or a tab or a ';' in its place?)",
+            _ if last.0 == last.1 =>
+                "this row has % fields, and % are wanted: its line ends with a comma too many",
+            Some((place, said)) => {
+                mark = place;
+                why = said;
+                "this row has % fields, and % are wanted: %"
+            }
+            None =>
+                "this row has % fields, and % are wanted (a text with a comma stands in double quotes)",
         };
         let (count, wanted) = (count.to_string(self.alloc)?, wanted.to_string(self.alloc)?);
-        self.say_at(last, text, &[count.as_str(), wanted.as_str()])
+        self.say_at(mark, text, &[count.as_str(), wanted.as_str(), why])
     }
 
     fn malformed(&mut self, field: Mark, column: Column) -> Result<(), AllocError> {
@@ -173,14 +225,26 @@ impl<'t> Refused<'t> {
         }
         let bytes = unquoted(all, field);
         let len = bytes.len().to_string(self.alloc)?;
+        let words = [column.name(), form_of(column), len.as_str()];
+        if !matches!(column, Column::Text) {
+            if let Some(sign) = strange_sign(all, field) {
+                let words = [
+                    column.name(),
+                    form_of(column),
+                    called(part(all, sign.0, sign.1)),
+                ];
+                return self.say_at(sign, "% %, and here stands %, which isn't of ASCII", &words);
+            }
+        }
         let text = if matches!(column, Column::Text) && bytes.len() > 200 {
             "% %, and this one has %"
         } else if bytes.trim_ascii().len() < bytes.len() {
             "% %, and no blanks stand beside it"
+        } else if matches!(column, Column::Condition | Column::Suppress) {
+            in_place_of_name(bytes)
         } else {
             "% %"
         };
-        let words = [column.name(), form_of(column), len.as_str()];
         self.say_at(field, text, &words)
     }
 
@@ -205,6 +269,12 @@ impl<'t> Refused<'t> {
                     Column::Area => strange_area(alloc, self.plant, name)?,
                     _ => no_bool_global(alloc, units, name)?,
                 };
+                let is_free = matches!(column, Column::Suppress) && is_nothing(name);
+                if is_free && said.as_str().starts_with("no BOOL global is called") {
+                    let text =
+                        "no BOOL global is called '%'; where nothing suppresses the alarm the field is empty";
+                    return self.say_at(field, text, &[name]);
+                }
                 self.say_at(field, "%", &[said.as_str()])
             }
         }

@@ -18,6 +18,7 @@ mod readable;
 mod rows;
 mod sources;
 mod telling;
+mod uneven;
 mod warnings;
 
 pub use explain_document::{Shelf, Shelved};

@@ -1,7 +1,7 @@
 //! What is wrong in the rows of the alarm database beside what is found first: further fields of a row, and rows of a plant whose sources are at fault.
 
 use crate::alarms::{columns_near, first_line, has_commas_alone, names};
-use crate::fields::{field_of, fields_of_row, last_of};
+use crate::fields::{field_of, fields_of_row, last_of, row_start};
 use crate::telling::{MOST_FAULTS, Refused};
 use alarm_db::{Column, DatabaseRow, Examined, RowFault, RowMistake, Version, examine};
 use base_words::Names;
@@ -72,10 +72,11 @@ fn right_field(column: Column) -> &'static str {
 /// Where a kind of mistakes stands in the order of the refusals.
 fn stage_of(mistake: &RowMistake) -> usize {
     match mistake.fault {
-        RowFault::NoHeader | RowFault::Uneven { .. } => 0,
-        RowFault::Form(_) => 1,
-        RowFault::Again { .. } => 2,
-        RowFault::Unknown(_) => 3,
+        RowFault::NoHeader => 0,
+        RowFault::Uneven { .. } => 1,
+        RowFault::Form(_) => 2,
+        RowFault::Again { .. } => 3,
+        RowFault::Unknown(_) => 4,
     }
 }
 
@@ -85,7 +86,61 @@ fn is_apart(text: &[u8], fields: &[Mark]) -> bool {
     lines.next().is_some() || has_commas_alone(text, field_of(fields, 0).0)
 }
 
+/// The first of several rows that have another number of fields than is wanted, where all of these have the same number.
+fn first_uneven(mistakes: &[RowMistake]) -> Option<(RowMistake, usize)> {
+    let mut uneven = mistakes.iter().filter_map(|wrong| match wrong.fault {
+        RowFault::Uneven { fields, .. } => Some((*wrong, fields)),
+        _ => None,
+    });
+    let first = uneven.next()?;
+    let (mut others, mut same) = (0usize, 0usize);
+    for (_, fields) in uneven {
+        others = others.saturating_add(1);
+        same = same.saturating_add(usize::from(fields == first.1));
+    }
+    (others > 0 && others == same).then_some(first)
+}
+
+/// Whether all rows below the header have a number of fields.
+fn all_have(alloc: Global, text: &[u8], count: usize) -> Result<bool, AllocError> {
+    let mut end = last_of(fields_of_row(alloc, text, 0)?.as_slice()).1;
+    for _ in 0..text.len() {
+        if row_start(text, end) >= text.len() {
+            break;
+        }
+        let fields = fields_of_row(alloc, text, end)?;
+        if fields.len() != count {
+            return Ok(false);
+        }
+        end = last_of(fields.as_slice()).1;
+    }
+    Ok(true)
+}
+
 impl<'t> Refused<'t> {
+    /// Tells of the header, where it is wrong, and of the first row, where all rows have the same number of fields and another one is wanted; returns whether
+    /// that is so.
+    fn all_uneven(&mut self, units: &[Unit], mistakes: &[RowMistake]) -> Result<bool, AllocError> {
+        let Some((first, count)) = first_uneven(mistakes) else {
+            return Ok(false);
+        };
+        let fields = fields_of_row(self.alloc, self.alarms, first.at)?;
+        if is_apart(self.alarms, fields.as_slice()) || !all_have(self.alloc, self.alarms, count)? {
+            return Ok(false);
+        }
+        for wrong in mistakes {
+            if matches!(wrong.fault, RowFault::NoHeader) {
+                self.in_row(units, wrong)?;
+            }
+        }
+        self.in_row(units, &first)?;
+        let last = self.told.len().saturating_sub(1);
+        if let Some(spot) = self.told.get_mut(last) {
+            spot.cause.said.push_str("; all rows have as many")?;
+        }
+        Ok(true)
+    }
+
     /// A table of the row of these fields alone, with right fields in the place of some.
     fn row_with(
         &self,
@@ -157,6 +212,9 @@ impl<'t> Refused<'t> {
         known: &Known,
         mistakes: &[RowMistake],
     ) -> Result<(), AllocError> {
+        if self.all_uneven(units, mistakes)? {
+            return Ok(());
+        }
         let mut all = Vec::from_slice(self.alloc, mistakes)?;
         let header = fields_of_row(self.alloc, self.alarms, 0)?;
         let version = match header.len() {
