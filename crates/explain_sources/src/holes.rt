@@ -32,8 +32,9 @@ fn closed_len(bytes: &[u8], mark: u8) -> usize {
 /// comment isn't closed, or the text looks like UTF-16.
 fn hole_of(at: usize, bytes: &[u8]) -> Option<(usize, &'static str)> {
     let len = run_len(bytes);
+    let has_comma = matches!(part(bytes, len, bytes.len()), [b',', b'0'..=b'9', ..]);
     match bytes {
-        [b't' | b'T', b'#', ..] if bytes.get(len) == Some(&b',') => {
+        [b't' | b'T', b'#', ..] if has_comma => {
             let decimals = run_len(part(bytes, len.saturating_add(1), bytes.len()));
             Some((len.saturating_add(1).saturating_add(decimals), "0"))
         }

@@ -12,11 +12,13 @@
 //! Layer explain_: it must not know events or commands.
 #![tactic(auto)]
 
+mod around;
 mod grammar;
 mod holes;
 mod mend;
 mod parts;
 mod rules;
+mod signs;
 mod spelling;
 mod told;
 mod words;

@@ -14,7 +14,7 @@ const MARKS: &str = "\
 /* a comment begins here, and no */ ends it
 \" texts in quotes aren't part of the language
 ' texts in quotes aren't part of the language
-{ braces aren't part of the language: there are no pragmas, and words as THEN and END_IF enclose statements
+{ braces aren't part of the language: there are no pragmas, words as THEN and END_IF enclose statements, and a remark is written // .. or (* .. *)
 } braces aren't part of the language: there are no pragmas, and words as THEN and END_IF enclose statements
 % this is no address: one is written as %IX0.0, %QD4 or %M*; a remainder is n MOD 2
 !-- a remark is written // .. or (* .. *)
@@ -62,24 +62,35 @@ fn is_unit(letters: &[u8]) -> bool {
     fits("d|h|m|s|ms", str::from_utf8(letters).unwrap_or(""))
 }
 
-/// Why a duration isn't allowed, by what stands behind its `#` and the byte behind all that.
-fn duration_fault(parts: &[u8], behind: Option<&u8>) -> &'static str {
+/// Whether a number of a duration has a point, and another number follows it.
+fn has_early_point(parts: &[u8]) -> bool {
+    let mut behind = parts
+        .iter()
+        .skip_while(|byte| **byte != b'.')
+        .skip_while(|byte| !byte.is_ascii_alphabetic());
+    behind.any(|byte| byte.is_ascii_digit())
+}
+
+/// Why a duration isn't allowed, by what stands behind its `#` and the bytes behind all that.
+fn duration_fault(parts: &[u8], behind: &[u8]) -> &'static str {
     let mut words = parts.split(|byte| !byte.is_ascii_alphabetic());
     match parts {
         [] => "' is no duration: right behind the # stand numbers and their units, as in T#1m30s",
         _ if words.any(|word| !word.is_empty() && !is_unit(word)) =>
             "' is no duration: its units are d, h, m, s and ms, as in T#1m30s",
-        [.., b'0'..=b'9'] if behind == Some(&b',') =>
+        [.., b'0'..=b'9'] if matches!(behind, [b',', b'0'..=b'9', ..]) =>
             "' is no duration: its decimals stand behind a point, as in T#1.5s",
         [.., b'0'..=b'9'] =>
             "' is no duration: behind each of its numbers stands a unit, d, h, m, s or ms, as in T#1m30s",
+        _ if has_early_point(parts) =>
+            "' is no duration: only the last of its numbers may have a point, as in T#1m30.5s",
         _ =>
             "' is no duration: its parts come in the order d, h, m, s, ms, each once, and it is a whole number of milliseconds",
     }
 }
 
-/// Why a word with a `#` isn't allowed, by the byte behind it.
-fn literal_fault(word: &str, behind: Option<&u8>) -> &'static str {
+/// Why a word with a `#` isn't allowed, by the bytes behind it.
+fn literal_fault(word: &str, behind: &[u8]) -> &'static str {
     match word.split_once("#") {
         None => "' is no word: it has letters, digits and underscores",
         Some((prefix, parts)) if fits("T|TIME", prefix) => duration_fault(parts.as_bytes(), behind),
@@ -161,6 +172,14 @@ fn mark_fault(bytes: &[u8]) -> &'static str {
     }
 }
 
+/// Whether a line has more than blanks from bytes on.
+fn goes_on(bytes: &[u8]) -> bool {
+    let mut blanks = bytes
+        .iter()
+        .skip_while(|byte| matches!(**byte, b' ' | b'\t' | b'\r'));
+    blanks.next().is_some_and(|byte| *byte != b'\n')
+}
+
 /// What is said of bytes that begin with another one than a letter or a digit, behind others.
 fn other_fault(before: &[u8], bytes: &[u8]) -> &'static str {
     match (before, bytes) {
@@ -179,6 +198,8 @@ fn other_fault(before: &[u8], bytes: &[u8]) -> &'static str {
             "a # stands inside of literals, without blanks, as in T#5s or 16#FF; a remark is written // .. or (* .. *)",
         (_, [b'#', next, ..]) if is_name_byte(*next) =>
             "no # stands before a name or a word; a remark is written // .. or (* .. *)",
+        (_, [b'\\', rest @ ..]) if goes_on(rest) =>
+            "a quotient is written with /, as in n / 2, and a remark // .. or (* .. *)",
         _ => mark_fault(bytes),
     }
 }
@@ -190,7 +211,10 @@ pub fn misspelled_at(alloc: Global, text: &[u8], at: usize) -> Result<Cause, All
     let word = str::from_utf8(part(text, at, until)).unwrap_or("");
     let why = match bytes {
         [b'0'..=b'9', ..] => number_fault(word.as_bytes()),
-        [b'a'..=b'z' | b'A'..=b'Z' | b'_', ..] => literal_fault(word, text.get(until)),
+        [b'a'..=b'z' | b'A'..=b'Z' | b'_', ..] => literal_fault(
+            word,
+            part(text, until, text.len()),
+        ),
         _ => {
             let said = String::from_str(alloc, other_fault(part(text, 0, at), bytes))?;
             let until = at.saturating_add(bytes.len().min(1));

@@ -1,5 +1,6 @@
 //! Words that are written otherwise here: those of other dialects, and words that are nearly a keyword (C5).
 
+use crate::around::is_variable;
 use crate::grammar::GRAMMAR;
 use explain_tokens::{TokenPlace, closing_of, fits, part, said_of, within_one};
 use plant_types::same_word;
@@ -48,6 +49,7 @@ ENDFOR END_FOR is written END_FOR
 NEXT _ isn't part of the language: a FOR ends with END_FOR
 SWITCH _ is written CASE n OF
 WHEN _ isn't part of the language: IF and CASE choose
+OTHERWISE ELSE is written ELSE
 DEFAULT|OTHERS part isn't part of the language: the last part of a CASE is ELSE, without a :
 END _ is no keyword: END_IF, END_CASE, END_FOR, END_VAR and END_PROGRAM are one word each
 FUNCTION _ isn't part of the language: a FUNCTION_BLOCK with an output does the same
@@ -113,7 +115,12 @@ fn foreign(place: TokenPlace<'_>) -> Option<Misnomer<'_>> {
         _ if same_word(place.next().word().as_bytes(), b"BLOCK") => "pair",
         _ => "",
     };
-    let is_first = fits("top|behind|head|declaration|statement|label", stand) && !is_name;
+    let is_declared = stand == "declaration"
+        && fits("word|KIND", behind)
+        && fits(";|:=", place.behind(2));
+    let is_first = fits("top|behind|head|declaration|statement|label", stand)
+        && !is_name
+        && !is_declared;
     let (way, said) = said_at(site, word, is_first).split_once(" ")?;
     Some((place, way, (said, "", ""), STANDARD))
 }
@@ -146,14 +153,17 @@ fn closing(place: TokenPlace<'_>) -> Option<Misnomer<'_>> {
     (is_end && may_end).then_some((place, keyword, said, GRAMMAR))
 }
 
-/// The word by which a token can't be there, that one or the one before it; behind the last token one that is meant to close what is open.
+/// The word by which a token can't be there, that one or the one before it, unless it is a name that is declared; behind the last token one that is meant to close what is open.
 pub fn misnomer(place: TokenPlace<'_>) -> Option<Misnomer<'_>> {
-    let both = [place, place.previous()];
-    let closing = both.into_iter().find_map(closing);
+    let words = || {
+        let both = [place, place.previous()];
+        both.into_iter().filter(|word| !is_variable(*word))
+    };
+    let closing = words().find_map(closing);
     if place.number >= place.tokens.len() {
         return closing;
     }
-    let foreign = both.into_iter().find_map(foreign);
-    let meant = both.into_iter().find_map(meant);
+    let foreign = words().find_map(foreign);
+    let meant = words().find_map(meant);
     foreign.or(meant).or(closing)
 }
