@@ -3,7 +3,7 @@
 use crate::body::{Body, kind_text};
 use crate::entries::{DeclaredName, Form};
 use crate::owners::{instance_hint, owner_hint};
-use crate::slips::{MOST_NAMES, NOTHING, Said, Slips, is_slip, question};
+use crate::slips::{MOST_NAMES, NOTHING, Said, Slips, is_slip, question, two};
 use crate::uses::{Count, Given, Uses, given_by_calls, is_in_table};
 use crate::words::literal_hint;
 use explain_tokens::{part, within_one};
@@ -114,7 +114,9 @@ impl<'n> Near<'n> {
         let word = self.fit.word;
         let may_slip = !is_often && !self.fit.has_twin;
         let mut likely = Slips::of(word);
-        for (number, name) in self.fit.nearest().iter().enumerate() {
+        let nearest = self.fit.nearest();
+        let names = nearest.iter().take_while(|name| !name.is_empty());
+        for (number, name) in names.enumerate() {
             let is_unused = uses.count(number.saturating_add(1)).all() == 0;
             let is_free = is_unused && !(is_often && is_in_table(table, name));
             if is_free || (may_slip && is_slip(word, name)) {
@@ -126,9 +128,10 @@ impl<'n> Near<'n> {
 
     /// What is said of the one name that is near and isn't what is wanted.
     fn other(&self) -> Option<Said<'n>> {
-        let [name] = self.other.near() else {
+        let [name, second, _] = self.other.near();
+        if name.is_empty() || !second.is_empty() {
             return None;
-        };
+        }
         let word = self.other.word;
         let goes_on = word.as_bytes().get(name.len()) == Some(&b'_');
         let begins = part(word.as_bytes(), 0, name.len()).eq_ignore_ascii_case(name.as_bytes());
@@ -138,13 +141,13 @@ impl<'n> Near<'n> {
         }
         match self.sort? {
             Sort::Kind(kind) => {
-                Some(("; '%' is there, and is a %", [*name, kind_text(*kind), ""]))
+                Some(("; '%' is there, and is a %", two(name, kind_text(*kind))))
             }
             Sort::Block(word) => {
                 let said = "; '%' is there, and is an instance of %";
-                Some((said, [*name, word.as_str(), ""]))
+                Some((said, two(name, word.as_str())))
             }
-            Sort::Array(_, _) => Some(("; '%' is there, and is an array", [*name, "", ""])),
+            Sort::Array(_, _) => Some(("; '%' is there, and is an array", [name, "", ""])),
         }
     }
 }
@@ -189,9 +192,10 @@ fn by_uses<'t>(body: &Body<'t>, name: &'t Text, wanted: Wanted) -> Option<Said<'
     let is_listed = is_in_table(plant.alarms, word);
     let is_often = is_listed || count.all() > 1;
     let likely = near.likely(&uses, is_often, plant.alarms);
-    if let ([name], true) = (likely.near(), is_often) {
+    let [first, second, _] = likely.near();
+    if is_often && !first.is_empty() && second.is_empty() {
         let said = "; its declaration is missing, and '%' is declared, which nothing uses";
-        return Some((said, [*name, "", ""]));
+        return Some((said, [first, "", ""]));
     }
     let said = if is_often {
         None

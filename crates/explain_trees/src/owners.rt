@@ -15,7 +15,7 @@ const STANDARD: [&str; 3] = ["TON", "TOF", "R_TRIG"];
 
 /// Whether what a unit has for itself is what is wanted.
 fn suits(entry: &DeclaredName<'_>, wanted: Wanted) -> bool {
-    let kind = entry.sort().and_then(sort_kind);
+    let kind = entry.sort().and_then(|sort| sort_kind(sort));
     match wanted {
         Wanted::Instance => entry.block().is_some(),
         Wanted::Of(wanted) | Wanted::TargetOf(wanted) => kind == Some(wanted),

@@ -79,6 +79,25 @@ impl<'n> Slips<'n> {
         }
     }
 
+    /// Whether a name is kept.
+    fn has(&self, name: &str) -> bool {
+        let mut kept = self.names.iter();
+        kept.any(|kept| kept.eq_ignore_ascii_case(name))
+    }
+
+    /// Keeps a name where there is room, and counts it; returns whether there was.
+    fn keep(&mut self, name: &'n str) -> bool {
+        let count = self.count;
+        self.count = count.saturating_add(1);
+        match self.names.get_mut(count) {
+            Some(place) => {
+                *place = name;
+                true
+            }
+            None => false,
+        }
+    }
+
     /// Takes a name that may be meant; returns whether it is kept. Of a word of two letters one of three may be meant, one of one letter is none.
     pub fn offer(&mut self, name: &'n str) -> bool {
         let (word, bytes) = (self.word.as_bytes(), name.as_bytes());
@@ -91,35 +110,29 @@ impl<'n> Slips<'n> {
             self.has_twin = true;
             return false;
         }
-        let mut kept = self.names.iter().take(self.count);
-        let is_there = kept.any(|kept| kept.eq_ignore_ascii_case(name));
-        if is_there || (self.is_close && !is_close) {
+        if self.has(name) || (self.is_close && !is_close) {
             return false;
         }
         if is_close && !self.is_close {
             self.is_close = true;
             self.count = 0;
+            self.names = [""; MOST_NAMES];
         }
-        let place = self.names.get_mut(self.count);
-        self.count = self.count.saturating_add(1);
-        match place {
-            Some(place) => {
-                *place = name;
-                true
-            }
-            None => false,
-        }
+        self.keep(name)
     }
 
-    /// The nearest names; none where they are more than are kept.
-    pub fn nearest(&self) -> &[&'n str] {
-        self.names.get(..self.count).unwrap_or(&[])
+    /// The nearest names, and behind them empty ones; none where they are more than are kept.
+    pub fn nearest(&self) -> [&'n str; MOST_NAMES] {
+        if self.count > MOST_NAMES {
+            return [""; MOST_NAMES];
+        }
+        self.names
     }
 
-    /// The nearest names; none where they are more than are kept, or one differs in digits alone.
-    pub fn near(&self) -> &[&'n str] {
+    /// The nearest names, and behind them empty ones; none where they are more than are kept, or one differs in digits alone.
+    pub fn near(&self) -> [&'n str; MOST_NAMES] {
         if self.has_twin {
-            return &[];
+            return [""; MOST_NAMES];
         }
         self.nearest()
     }
@@ -131,11 +144,19 @@ pub type Said<'t> = (&'static str, [&'t str; 3]);
 /// Nothing.
 pub const NOTHING: Said<'static> = ("", [""; 3]);
 
-/// A question for names, where they are one or two.
-pub fn question<'n>(names: &[&'n str]) -> Option<Said<'n>> {
-    match names {
-        [name] => Some(("; did you mean '%'?", [*name, "", ""])),
-        [one, other] => Some(("; did you mean '%' or '%'?", [*one, *other, ""])),
-        _ => None,
+/// A question for names, where they are one or two, with empty ones behind them.
+pub fn question(names: [&str; MOST_NAMES]) -> Option<Said<'_>> {
+    let [one, other, third] = names;
+    if one.is_empty() || !third.is_empty() {
+        return None;
     }
+    if other.is_empty() {
+        return Some(("; did you mean '%'?", [one, "", ""]));
+    }
+    Some(("; did you mean '%' or '%'?", [one, other, ""]))
+}
+
+/// The words in the first two holes of a text.
+pub fn two<'t>(one: &'t str, other: &'t str) -> [&'t str; MOST_NAMES] {
+    [one, other, ""]
 }

@@ -36,29 +36,39 @@ fn duration_in(word: &str) -> Option<&str> {
     }
 }
 
-/// A question for the constant that a word stands for, where one may be wanted; where the word is used often, it may be a name as well.
-pub fn literal_hint<'t>(word: &'t str, wanted: Wanted, is_often: bool) -> Option<Said<'t>> {
-    match wanted {
-        Wanted::Of(Kind::Bool) => {
-            let truth = truth_of(word);
-            match truth {
-                "" => None,
-                _ if is_often => {
-                    let said = "; a BOOL is TRUE or FALSE, or the declaration is missing";
-                    Some((said, [""; 3]))
-                }
-                _ => Some(("; did you mean '%'?", [truth, "", ""])),
-            }
-        }
-        Wanted::Of(Kind::Time) | Wanted::Number | Wanted::Any => {
-            let parts = duration_in(word)?;
-            let said = if is_often {
-                "; a duration is written as T#%, or the declaration is missing"
-            } else {
-                "; did you mean 'T#%'?"
-            };
-            Some((said, [parts, "", ""]))
-        }
-        _ => None,
+/// A question for a truth that a word stands for, and the word in it.
+fn truth_said(word: &str, is_often: bool) -> Option<(&'static str, &str)> {
+    let truth = truth_of(word);
+    if truth.is_empty() {
+        return None;
     }
+    if is_often {
+        return Some((
+            "; a BOOL is TRUE or FALSE, or the declaration is missing",
+            "",
+        ));
+    }
+    Some(("; did you mean '%'?", truth))
+}
+
+/// A question for a duration that a word stands for, and the word in it.
+fn duration_said(word: &str, is_often: bool) -> Option<(&'static str, &str)> {
+    let parts = duration_in(word)?;
+    if is_often {
+        return Some((
+            "; a duration is written as T#%, or the declaration is missing",
+            parts,
+        ));
+    }
+    Some(("; did you mean 'T#%'?", parts))
+}
+
+/// A question for the constant that a word stands for, where one may be wanted; where the word is used often, it may be a name as well.
+pub fn literal_hint(word: &str, wanted: Wanted, is_often: bool) -> Option<Said<'_>> {
+    let (said, told) = match wanted {
+        Wanted::Of(Kind::Bool) => truth_said(word, is_often)?,
+        Wanted::Of(Kind::Time) | Wanted::Number | Wanted::Any => duration_said(word, is_often)?,
+        _ => return None,
+    };
+    Some((said, [told, "", ""]))
 }
