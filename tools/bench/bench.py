@@ -134,7 +134,7 @@ class Bench:
                 shutil.copytree(path, changed)
                 do(changed)
                 it = self.best([self.program, "check", f"{changed}/plant.toml"], "/dev/null")
-                self.failed |= it.status not in (2, 3)
+                self.failed |= it.status != 3
                 print(f"    {change:<48} {it.processor:9.3f} s {it.memory:8.1f} MB  {it.processor / right.processor:5.2f} times", flush=True)
 
     def still(self):

@@ -65,7 +65,7 @@ def changes(source):
     return {
         "plant.toml: a key misspelt": edited("plant.toml", "areas = ", "aeras = "),
         "plant.toml: no TOML": edited("plant.toml", '"bench"', "bench"),
-        "plant.toml: no epoch": edited("plant.toml", "2024-01-01", "2024-13-01"),
+        "plant.toml: a wrong epoch": edited("plant.toml", "2024-01-01", "2024-13-01"),
         "the first source missing": without(source),
         "the alarms missing": without("alarms.csv"),
         "spelling": edited(source, "flow := level", "flow := le?vel"),
