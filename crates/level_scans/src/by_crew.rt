@@ -14,7 +14,7 @@ use crew::{Crew, CrewFault};
 use level_jobs::{ProgramFault, run_levels};
 use logic_cells::Cells;
 use slice_store::{Done, Job, Reserve, Start, Store};
-use std::alloc::{AllocError, Global};
+use std::alloc::Global;
 use std::mem::replace;
 use vm_logic::{place_is_in_source, programs_share_no_cell, sound_source_is_small};
 

@@ -32,7 +32,7 @@ use crate::walking::Walked;
 use acc_vm::Code;
 use base_trace::Shown;
 use base_words::Names;
-use logic_cells::{Cells, Standard, Stop};
+use logic_cells::{Cells, Stop};
 use logic_frames::{
     frames_agree, frames_begin, frames_have_paths, frames_of, start_of, typed_names_are_known,
 };
