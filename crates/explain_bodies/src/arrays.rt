@@ -2,7 +2,8 @@
 
 use crate::part::Operand;
 use crate::teller::{ARRAYS, BOUNDS, Teller, alone};
-use explain_trees::{Sought, Wanted, kind_text};
+use explain_names::Wanted;
+use explain_trees::{Sought, kind_text};
 use plant_types::{Bounds, Kind, Text};
 use st_names::Scope;
 use st_parser::{SectionKind, Sort};

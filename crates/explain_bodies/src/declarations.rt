@@ -1,7 +1,8 @@
 //! Declarations are walked.
 
 use crate::teller::{CIRCLES, KINDS, NAMES, Teller, VARIABLES, alone};
-use explain_trees::{BrokenRule, Cursor, kind_text, leads_back, nearest_global, type_hint};
+use explain_names::{nearest_global, type_hint};
+use explain_trees::{BrokenRule, Cursor, kind_text, leads_back};
 use plant_types::{Text, same_word};
 use st_names::{Scope, sort_kind};
 use st_parser::{Declaration, Section, SectionKind, Sort};
@@ -51,9 +52,9 @@ impl<'t> Teller<'t> {
         }
         if !is_global {
             let entries = self.plant.entries.as_slice();
-            let hint = nearest_global(entries, name.as_str(), None).hint();
-            let texts = ["no global is called @, which VAR_EXTERNAL names", hint.0];
-            self.tell(NAMES, alone(number), texts, &[hint.1]);
+            let (more, words) = nearest_global(entries, name.as_str());
+            let texts = ["no global is called @, which VAR_EXTERNAL names", more];
+            self.tell(NAMES, alone(number), texts, &words);
             return;
         }
         let Some(global) = self.plant.find(name).and_then(|entry| entry.sort()) else {
@@ -76,7 +77,7 @@ impl<'t> Teller<'t> {
         }
         let hint = type_hint(self.plant, word.as_str());
         let text = "no block is called @, and the kinds are BOOL, DINT and TIME";
-        self.tell(NAMES, alone(number), [text, hint.0], &[hint.1]);
+        self.tell(NAMES, alone(number), [text, hint.0], &hint.1);
     }
 
     /// Tells of the block of instances that isn't there, that can't stand in its section, or that leads back to the block that declares them.

@@ -2,13 +2,17 @@
 
 use crate::part::{Form, Operand, Worth};
 use crate::teller::{Breach, MEMBERS, Teller, alone};
-use explain_trees::{Member, Sought, Wanted};
+use explain_names::{Behind, Member, Wanted};
+use explain_trees::Sought;
 use plant_types::{Kind, Text, Trap};
-use st_names::Scope;
+use st_names::{BodyScope, Scope};
 use st_tree::{
     Binary, Expr, Literal, Unary, binary_kind, eval_binary, eval_unary, resolved_binary,
     resolved_unary, unary_kind,
 };
+
+/// So deep an expression is looked into for its kind.
+const DEEPEST: usize = 64;
 
 /// What the operands of an operator have to be.
 pub fn wanted_beside(op: Binary) -> Wanted {
@@ -20,12 +24,38 @@ pub fn wanted_beside(op: Binary) -> Wanted {
     }
 }
 
-/// Whether an operator compares by order.
-fn form_of(op: Binary) -> Form {
-    match op {
-        Binary::Less | Binary::Greater | Binary::AtMost | Binary::AtLeast => Form::Order,
+/// Whether an operator compares, by order or else, or has a comparison behind it beside AND, OR or XOR.
+fn form_of(op: Binary, right: Form) -> Form {
+    match (op, right) {
+        (Binary::Less | Binary::Greater | Binary::AtMost | Binary::AtLeast, _) => Form::Order,
+        (Binary::Equal | Binary::Unequal, _) => Form::Comparison,
+        (Binary::And | Binary::Or | Binary::Xor, Form::Order | Form::Comparison) => {
+            Form::Comparison
+        }
         _ => Form::Other,
     }
+}
+
+/// The kind of an expression by its first words, without a look at all of it; `None` where they don't tell.
+pub fn kind_by_words(scope: &BodyScope<'_>, expr: &Expr<Text>) -> Option<Kind> {
+    let mut part = expr;
+    for _ in 0..DEEPEST {
+        part = match part {
+            Expr::Literal(Literal::Integer(0 | 1)) => return None,
+            Expr::Literal(literal) => return Some(literal.kind()),
+            Expr::Read(name) => return scope.variable_kind(name),
+            Expr::Output(instance, name) => return scope.output_kind(instance, name),
+            Expr::Element(name, _, _) => return scope.array(name).map(|array| array.1),
+            Expr::Unary(Unary::Not, _) => return Some(Kind::Bool),
+            Expr::Unary(_, operand) => operand,
+            Expr::Binary(op, left, _) => match wanted_beside(*op) {
+                Wanted::Number if form_of(*op, Form::Other) == Form::Other => left,
+                Wanted::Of(kind) => return Some(kind),
+                _ => return Some(Kind::Bool),
+            },
+        };
+    }
+    None
 }
 
 /// The value of an operator at the token of a number, by its outcome.
@@ -85,14 +115,15 @@ impl<'t> Teller<'t> {
         part
     }
 
-    /// The block of the instance at the token of a number; `None` where that isn't certain. What is no instance is told.
+    /// The block of the instance at the token of a number, which is called or read; `None` where that isn't certain. What is no instance is told.
     pub fn block_of_instance(
         &mut self,
         instance: &'t Text,
         number: usize,
+        wanted: Wanted,
         (breach, why): (Breach, &str),
     ) -> Option<&'t Text> {
-        if !self.is_known(instance, number, Wanted::Instance) {
+        if !self.is_known(instance, number, wanted) {
             return None;
         }
         let word = self.body.block_word(instance);
@@ -108,7 +139,9 @@ impl<'t> Teller<'t> {
         let last = self.cursor.pass_name(name);
         let mut part = Operand::varies((first, last.saturating_add(1)));
         let why = "is no instance of a block, and so no point may stand behind it";
-        if let Some(word) = self.block_of_instance(instance, first, (MEMBERS, why)) {
+        let wanted = Wanted::Instance;
+        self.behind = Behind::Output(name);
+        if let Some(word) = self.block_of_instance(instance, first, wanted, (MEMBERS, why)) {
             part.kind = self.body.scope.output_kind(instance, name);
             if part.kind.is_none() {
                 self.tell_no_member(word, name, last, Member::Read);
@@ -142,7 +175,7 @@ impl<'t> Teller<'t> {
         let mut whole = Operand {
             kind: None,
             tokens: (left.tokens.0, right.tokens.1),
-            form: form_of(op),
+            form: form_of(op, right.form),
             worth: Worth::Varies(number),
         };
         if let (Some(one), Some(other)) = (left.kind, right.kind) {

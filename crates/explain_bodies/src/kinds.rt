@@ -3,10 +3,12 @@
 use crate::expressions::wanted_beside;
 use crate::part::{Form, Operand};
 use crate::teller::{KINDS, MEMBERS, NAMES, Teller, alone};
-use explain_trees::{Member, Wanted, kind_text, members_of, other_use, variable_hint};
+use explain_names::{Member, Wanted, members_of, other_use, variable_hint};
+use explain_trees::kind_text;
 use plant_types::{Kind, Text};
 use st_names::Scope;
-use st_tree::{Binary, Unary};
+use st_tree::{Argument, Binary, Unary};
+use std::alloc::AllocError;
 
 /// What is said beside two kinds that don't fit: how what is wanted is written.
 fn beside(wanted: Kind, part: &Operand) -> &'static str {
@@ -45,14 +47,25 @@ impl<'t> Teller<'t> {
             let text = "@ is a program, and no variable";
             return self.tell(NAMES, alone(number), [text, ""], &[]);
         }
-        let hint = variable_hint(&self.body, name, wanted);
-        let words = [self.body.name, hint.1, hint.2];
-        self.tell(
-            NAMES,
-            alone(number),
-            ["no variable is called @ in %", hint.0],
-            &words,
-        )
+        let hint = variable_hint(&self.body, name, wanted, self.behind);
+        match hint {
+            Ok(said) => {
+                let names = said.1;
+                self.tell_missing(number, said.0, names)
+            }
+            Err(error) => {
+                let refused: Result<usize, AllocError> = Err(error);
+                self.told.got(refused)
+            }
+        }
+    }
+
+    /// Tells that a name at the token of a number isn't there, and what is said beside it.
+    fn tell_missing(&mut self, number: usize, more: &str, names: [&str; 3]) -> Option<usize> {
+        let [one, other, third] = names;
+        let texts = ["no variable is called @ in %", more];
+        let words = [self.body.name, one, other, third];
+        self.tell(NAMES, alone(number), texts, &words)
     }
 
     /// Whether it was told of the unit that a name isn't there; then it is counted.
@@ -98,7 +111,11 @@ impl<'t> Teller<'t> {
         } else {
             "output"
         };
-        let members = members_of(self.plant, word, name, member);
+        let arguments: &[Argument<Text>] = match member {
+            Member::Read => &[],
+            Member::Given | Member::Taken => self.arguments,
+        };
+        let members = members_of(self.plant, word, (name, member), arguments);
         let Some((list, hint)) = self.told.got(members) else {
             return;
         };
@@ -118,9 +135,16 @@ impl<'t> Teller<'t> {
         self.say(MEMBERS, alone(number), text, &words);
     }
 
-    /// Tells of a part that isn't of the kind that it has to be, for what takes it.
+    /// Tells of a part that isn't of the kind that it has to be, for what takes it. In the place of a name that is given another name may be meant.
     pub fn tell_unfit(&mut self, part: &Operand, wanted: Kind, taker: Option<&Text>) {
-        let (kind, found, more) = (kind_text(wanted), kind_of(part), beside(wanted, part));
+        let (from, until) = part.tokens;
+        let is_name = part.form == Form::Other && until == from.saturating_add(1);
+        let more = if is_name && taker.is_some() {
+            ""
+        } else {
+            beside(wanted, part)
+        };
+        let (kind, found) = (kind_text(wanted), kind_of(part));
         let text = match taker {
             Some(name) => {
                 let name = name.as_str();
@@ -137,7 +161,7 @@ impl<'t> Teller<'t> {
         let (Some(word), true) = (self.body.block_word(name), self.takes(KINDS)) else {
             return;
         };
-        let members = members_of(self.plant, word, name, Member::Read);
+        let members = members_of(self.plant, word, (name, Member::Read), &[]);
         let Some((list, _)) = self.told.got(members) else {
             return;
         };
@@ -199,8 +223,26 @@ impl<'t> Teller<'t> {
         self.say(KINDS, alone(number), text, &words);
     }
 
+    /// Tells of a number behind a comparison and AND, OR or XOR, at the token of a number, as in n = 1 OR 2; returns whether there is one.
+    fn tell_half(&mut self, number: usize, left: &Operand, right: &Operand) -> bool {
+        let is_number = matches!(right.form, Form::Bit | Form::Literal)
+            && right.kind == Some(Kind::Dint);
+        if !is_number || !matches!(left.form, Form::Order | Form::Comparison) {
+            return false;
+        }
+        let word = self.cursor.word(number);
+        let text =
+            "'%' takes two BOOL, and @ behind it is a DINT; each comparison is written whole, as in n = 1 % n = 2";
+        self.say(KINDS, right.tokens, text, &[word, word]);
+        true
+    }
+
     /// Tells of the operands of an operator at the token of a number, which it doesn't take.
     pub fn tell_binary(&mut self, op: Binary, number: usize, left: &Operand, right: &Operand) {
+        let is_logic = matches!(op, Binary::And | Binary::Or | Binary::Xor);
+        if is_logic && self.tell_half(number, left, right) {
+            return;
+        }
         let are_numbers = left.kind != Some(Kind::Bool) && right.kind != Some(Kind::Bool);
         let takes = match wanted_beside(op) {
             Wanted::Of(Kind::Bool) => ("two BOOL", Some(Kind::Bool)),

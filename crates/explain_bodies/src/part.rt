@@ -10,6 +10,8 @@ pub enum Form {
     Literal,
     /// A comparison by order, as `a < b`.
     Order,
+    /// Another comparison, or comparisons beside AND, OR and XOR.
+    Comparison,
     Other,
 }
 

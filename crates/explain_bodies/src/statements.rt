@@ -1,9 +1,11 @@
 //! Statements and calls are walked; what isn't constant, and what controls a FOR (C9).
 
+use crate::expressions::kind_by_words;
 use crate::part::{Operand, Worth};
 use crate::teller::{Breach, KINDS, MEMBERS, STATEMENTS, Teller, alone};
 use base_words::Names;
-use explain_trees::{Member, Step, Wanted, kind_text};
+use explain_names::{Behind, Member, Wanted};
+use explain_trees::{Step, kind_text};
 use plant_types::{Kind, Text, Trap, same_word};
 use st_names::Scope;
 use st_parser::SectionKind;
@@ -110,7 +112,7 @@ impl<'t> Teller<'t> {
     /// Walks the variable that takes the output of a call at the token of a number, which is of a kind, where that is known.
     fn taker(&mut self, output: usize, kind: Option<Kind>, variable: &'t Text) {
         let number = self.cursor.pass_name(variable);
-        let target = self.target(variable, number, kind.map_or(Wanted::Target, Wanted::Of));
+        let target = self.target(variable, number, Wanted::target_of(kind));
         if let (Some(kind), Some(target)) = (kind, target) {
             if kind != target {
                 let word = self.cursor.word(number);
@@ -122,6 +124,33 @@ impl<'t> Teller<'t> {
                 self.say(KINDS, alone(output), text.as_str(), &[]);
             }
         }
+    }
+
+    /// Tells of an argument of the call of an instance that takes a variable by the block's output, with `=>` between them; returns whether it is one. Its block is
+    /// of a word, where that is known.
+    fn is_turned(
+        &mut self,
+        instance: &Text,
+        word: Option<&Text>,
+        argument: &'t Argument<Text>,
+    ) -> bool {
+        let (Some(_), Argument::Output(name, variable)) = (word, argument) else {
+            return false;
+        };
+        let scope = &self.body.scope;
+        let is_member = scope.output_kind(instance, name).is_some()
+            || scope.input_kind(instance, name).is_some();
+        let is_output = scope.output_kind(instance, variable).is_some();
+        let are_known = scope.find(name).is_some() && scope.find(variable).is_none();
+        if is_member || !is_output || !are_known {
+            return false;
+        }
+        let first = self.cursor.pass_name(name);
+        let last = self.cursor.pass_name(variable);
+        let words = [variable.as_str(), name.as_str()];
+        let text = "the block's output stands before =>, and what takes it behind: % => %";
+        self.say(MEMBERS, (first, last.saturating_add(1)), text, &words);
+        true
     }
 
     /// Walks an argument of the call of an instance, whose block is of a word, where that is known.
@@ -147,10 +176,14 @@ impl<'t> Teller<'t> {
     pub fn call(&mut self, instance: &'t Text, arguments: &'t [Argument<Text>]) {
         let number = self.cursor.pass_name(instance);
         let why = "is no instance of a block, and can't be called";
-        let word = self.block_of_instance(instance, number, (KINDS, why));
+        self.behind = Behind::Call(arguments);
+        self.arguments = arguments;
+        let word = self.block_of_instance(instance, number, Wanted::Called, (KINDS, why));
         self.given = Names::new(self.alloc);
         for argument in arguments {
-            self.argument(instance, word, argument);
+            if !self.is_turned(instance, word, argument) {
+                self.argument(instance, word, argument);
+            }
         }
     }
 
@@ -161,7 +194,7 @@ impl<'t> Teller<'t> {
         }
         let kind = self.variable_kind(name, number)?;
         if !self.body.scope.is_assignable(name) {
-            let why = "is an input of the plant, and no program may assign it";
+            let why = "is an input of the plant by its address, and no program may assign it";
             self.say_at(KINDS, number, why);
             return None;
         }
@@ -193,7 +226,8 @@ impl<'t> Teller<'t> {
         match step {
             Step::Assign(name, expr) => {
                 let number = self.cursor.pass_name(name);
-                let kind = self.target(name, number, Wanted::Target);
+                let wanted = Wanted::target_of(kind_by_words(&self.body.scope, expr));
+                let kind = self.target(name, number, wanted);
                 self.value(expr, kind, Some(name));
             }
             Step::Store(array, index, value) => {

@@ -1,9 +1,11 @@
 //! A walk over the trees of a plant's units, and what it tells.
 
 use base_words::Names;
+use explain_names::Behind;
 use explain_tokens::cause_at;
 use explain_trees::{Body, BrokenRule, Cursor, Mistake, Told, Trees, filled};
 use plant_types::Text;
+use st_tree::Argument;
 use std::alloc::{AllocError, Global};
 
 /// A rule that is broken, and where to read on.
@@ -43,10 +45,13 @@ pub struct Teller<'t> {
     pub cursor: Cursor<'t>,
     /// The names of the unit.
     pub body: Body<'t>,
-    /// Whether the unit is a block.
+    /// Whether the unit is a block, and no other of its name stands before it.
     pub is_block: bool,
     /// The variables of the FORs around the statement.
     pub controls: Vec<&'t Text>,
+    /// What stands behind the last instance, and the arguments of the last call.
+    pub behind: Behind<'t>,
+    pub arguments: &'t [Argument<Text>],
     /// The names that the unit uses and that aren't there, and the number of the mistake at which each is told.
     pub missing: Names,
     pub kept: Vec<usize>,

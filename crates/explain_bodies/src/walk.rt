@@ -2,6 +2,7 @@
 
 use crate::teller::Teller;
 use base_words::Names;
+use explain_names::Behind;
 use explain_trees::{Body, BrokenRule, Cursor, Mistake, Parsed, Told, Trees, steps_of};
 use st_names::SharedNames;
 use st_parser::{Pou, PouKind, Section, Unit};
@@ -26,7 +27,10 @@ impl<'t> Teller<'t> {
         let number = self.cursor.pass_name(&pou.name);
         self.shared_name(&pou.name, number);
         let is_open = self.plant.unknown.has_owner(self.source);
-        self.is_block = matches!(pou.kind, PouKind::Block);
+        let is_first = self.plant.find(&pou.name).is_some_and(|first| {
+            first.source == self.source && first.name.at() == pou.name.at()
+        });
+        self.is_block = is_first && matches!(pou.kind, PouKind::Block);
         self.begin(pou.name.as_str(), &pou.sections, is_open);
         self.sections(&pou.sections);
         let steps = steps_of(self.alloc, &pou.body);
@@ -64,6 +68,8 @@ fn mistakes_in<'t>(
         body: Body::new(plant, "", &[], false)?,
         is_block: false,
         controls: Vec::new(alloc),
+        behind: Behind::Nothing,
+        arguments: &[],
         missing: Names::new(alloc),
         kept: Vec::new(alloc),
         given: Names::new(alloc),
@@ -86,20 +92,22 @@ fn in_units(
     alloc: Global,
     parsed: Parsed<'_>,
     shared: &SharedNames<'_>,
-    refused: Option<BrokenRule>,
+    (alarms, refused): (&[u8], Option<BrokenRule>),
 ) -> Result<Vec<Mistake>, AllocError> {
     let standard = SharedNames::new(alloc, &[])?;
-    let plant = Trees::new(alloc, parsed, shared, &standard)?;
+    let plant = Trees::new(alloc, parsed, shared, &standard, alarms)?;
     mistakes_in(&plant, refused)
 }
 
 /// What is wrong in the units of the sources of a plant, as far as these are known, in order of text, 20 mistakes in all at most. Where the plant is refused by
-/// a rule, the first mistake that breaks this rule comes first.
+/// a rule, the first mistake that breaks this rule comes first. The alarm database is looked into for names that aren't declared: where it has one, that is no
+/// slip.
 pub fn mistakes(
     alloc: Global,
     parsed: Parsed<'_>,
+    alarms: &[u8],
     refused: Option<BrokenRule>,
 ) -> Result<Vec<Mistake>, AllocError> {
     let shared = SharedNames::new(alloc, parsed.units)?;
-    in_units(alloc, parsed, &shared, refused)
+    in_units(alloc, parsed, &shared, (alarms, refused))
 }

@@ -1,9 +1,10 @@
 //! What is wrong in the plant file (C1 to C3), as its reader found it.
 
 use crate::areas::strange_area;
-use crate::keys::{Keys, Mark, NOBODY, keys_of};
-use crate::listed::key_of;
+use crate::broken::broken_at;
+use crate::epochs::said_of_epoch;
 use base_stamps::Epoch;
+use explain_files::{Keys, Mark, NOBODY, key_of, keys_of, line_of};
 use explain_tokens::{Cause, part, within_one};
 use explain_trees::filled;
 use plant_file::{Mistake, PlantFileFault, Unread, Why, read};
@@ -32,7 +33,7 @@ duplicate key| this stands here a second time
 missing comma between array elements, expected `,` or `]`| in this list a comma is missing before this, or the list's ']'
 missing comma between key-value pairs, expected `,` or `}`| a comma is missing before this, or a '}'
 key with no value, expected `=`| a '=' is missing behind the key
-unexpected key or value, expected newline, `#`| behind a value its line ends: what is this? (a text stands in quotes, items of a list in brackets)
+unexpected key or value, expected newline, `#`| behind a value its line ends: what is this? (a text stands in quotes, items of a list in brackets, a remark behind '#')
 invalid value, expected a string, number, boolean, date-time, array or inline table| no value begins so: a text stands in quotes, a list in brackets
 invalid key, expected letters, numbers, `-`, `_` or a quoted key| no key begins so: a line is a key, '=' and a value, a header in brackets, or a remark behind '#'
 unclosed table, expected `]`| this header isn't closed with ']'
@@ -86,12 +87,14 @@ fn said_of_unknown(keys: &Keys<'_>, mistakes: &[Mistake], wrong: &Mistake) -> &'
     let is_missing = others.any(|other| {
         other.why == Why::MissingKey && other.console == 0 && other.key.as_str() == key
     });
+    let is_header = keys
+        .find(0, key)
+        .is_some_and(|entry| entry.value.0 < entry.key.0);
     match wrong.console {
         0 if is_near => "the plant has no key '%': did you mean '%'?",
-        0
-            if keys
-                .find(0, key)
-                .is_some_and(|entry| entry.value.0 < entry.key.0) =>
+        0 if is_header && key.starts_with("console") =>
+            "there is no table '%': a console begins with the line [[console]], and its number stands below",
+        0 if is_header =>
             "there is no table '%': the plant's own keys stand at the top, without a header",
         0 => "the plant has no key '%'",
         _ if is_missing =>
@@ -111,7 +114,8 @@ fn said_of(wrong: &Mistake) -> &'static str {
             "each item of this list is a text, and stands in quotes",
         Why::NoText => "'%' is a text, and stands in quotes",
         Why::NoList if wrong.key.as_str() == "console" => ONE_CONSOLE,
-        Why::NoList => "'%' is a list in brackets, [..]",
+        Why::NoList =>
+            "'%' is a list in brackets, [..], and each of its items stands in quotes of its own",
         Why::NoNumber | Why::OutOfRange =>
             "the number of a console is a whole number, 1 to 999999999, without quotes",
         Why::NoConsole =>
@@ -134,13 +138,16 @@ fn mark_of(keys: &Keys<'_>, wrong: &Mistake) -> Result<Option<Mark>, AllocError>
     }
 }
 
-/// The bytes of the line in which a byte stands.
-fn line_of(text: &[u8], at: usize) -> Mark {
-    let is_end = |byte: &u8| *byte == b'\n';
-    let before = part(text, 0, at).iter().rev().position(is_end);
-    let from = at.saturating_sub(before.unwrap_or(at));
-    let len = part(text, from, text.len()).iter().position(is_end);
-    (from, len.map_or(text.len(), |len| from.saturating_add(len)))
+/// Whether a list in brackets stands at these bytes.
+fn is_list(plant: &[u8], mark: Option<Mark>) -> bool {
+    let (from, until) = mark.unwrap_or((0, 0));
+    part(plant, from, until).starts_with(b"[")
+}
+
+/// Whether a comma stands at these bytes.
+fn has_comma(plant: &[u8], mark: Option<Mark>) -> bool {
+    let (from, until) = mark.unwrap_or((0, 0));
+    part(plant, from, until).contains(&b',')
 }
 
 /// Whether a line of a text begins as a key of the plant's with its `=`: else it is another file, in the place of a plant file.
@@ -309,8 +316,8 @@ impl<'t> Document<'t> {
         }
     }
 
-    /// Tells where a text of the plant file is no TOML document any more, and why. Returns the text with which it is read on: without its consoles where the
-    /// header of one is wrong, and else without the line there, as far as that is certain.
+    /// Tells where a text of the plant file is no TOML document any more, and why. Returns the text with which it is read on: up to where it is certain, behind
+    /// the header of a console or a text or a list that isn't closed, and else without the line there, as far as that is certain.
     fn unread_at(
         &mut self,
         text: &[u8],
@@ -318,7 +325,9 @@ impl<'t> Document<'t> {
         message: &str,
     ) -> Result<Option<Vec<u8>>, AllocError> {
         let rest = part(text, mark.0, text.len());
-        if rest.starts_with(b"[console]") || rest.starts_with(b"[[console]]") {
+        let is_header = rest.starts_with(b"[console]") || rest.starts_with(b"[[console]]");
+        let before = part(text, line_of(text, mark.0).0, mark.0);
+        if is_header && before.trim_ascii().is_empty() && !message.starts_with("missing comma") {
             let keys = keys_of(self.alloc, text)?;
             let header = keys.header("[console]").unwrap_or(mark);
             self.say(Some(header), ONE_CONSOLE, &[])?;
@@ -327,10 +336,17 @@ impl<'t> Document<'t> {
         }
         let mut reasons = REASONS.lines().filter_map(|line| line.split_once("| "));
         let reason = reasons.find(|reason| reason.0 == message);
-        let why = reason.map_or(message, |reason| reason.1);
+        let broken = broken_at(self.alloc, text, mark, message)?;
+        let mut why = broken.said.as_str();
+        if why.is_empty() {
+            why = reason.map_or(message, |reason| reason.1);
+        }
         let said = "here the plant file is no TOML document any more: %";
-        self.say(Some(mark), said, &[why])?;
-        without_line(self.alloc, text, mark.0, message)
+        self.say(Some(broken.mark), said, &[why])?;
+        match broken.until {
+            Some(until) => Ok(Some(Vec::from_slice(self.alloc, part(text, 0, until))?)),
+            None => without_line(self.alloc, text, mark.0, message),
+        }
     }
 
     /// Tells what is wrong in the text of the plant file, in which what was told stands no more.
@@ -372,6 +388,14 @@ impl<'t> Document<'t> {
                 let text = said_of_unknown(keys, mistakes, wrong);
                 self.say(mark, text, &[key, near_key(wrong)])
             }
+            Why::NoText if wrong.item.is_none() && is_list(plant, mark) => {
+                let text = "'%' is one text in quotes, and no list in brackets";
+                self.say(mark, text, &[key])
+            }
+            Why::NoAreaName if has_comma(plant, mark) => {
+                let text = "each area stands in quotes of its own, with commas behind these";
+                self.say(mark, text, &[])
+            }
             Why::StrangeArea => {
                 let said = strange_area(alloc, plant, wrong.text.as_str())?;
                 self.say(mark, "%", &[said.as_str()])
@@ -402,7 +426,7 @@ impl<'t> Document<'t> {
             }
         }
         if has_no_epoch(&keys, plant) && !may_have(lost.as_slice(), b"epoch", false) {
-            self.no_epoch(&keys)?;
+            self.no_epoch(plant, &keys)?;
         }
         if self.told.is_empty() {
             let text = "the sources that were handed in aren't those that 'sources' lists";
@@ -416,11 +440,19 @@ impl<'t> Document<'t> {
         Ok(())
     }
 
-    fn no_epoch(&mut self, keys: &Keys<'_>) -> Result<(), AllocError> {
+    /// Tells of the epoch in the text of the plant file, which is none.
+    fn no_epoch(&mut self, plant: &[u8], keys: &Keys<'_>) -> Result<(), AllocError> {
         let mark = keys.find(0, "epoch").map(|entry| entry.value);
+        let value = mark.map_or(b"".as_slice(), |mark| part(plant, mark.0, mark.1));
+        let why = match value {
+            [b'"', inner @ .., b'"'] if !inner.contains(&b'\\') => said_of_epoch(inner),
+            [b'\'', inner @ .., b'\''] => said_of_epoch(inner),
+            _ => "",
+        };
+        let colon = if why.is_empty() { "" } else { ": " };
         let text =
-            "the epoch is no second of the years 1970 to 2399 in the form YYYY-MM-DDTHH:MM:SSZ";
-        self.say(mark, text, &[])
+            "the epoch is no second of the years 1970 to 2399 in the form YYYY-MM-DDTHH:MM:SSZ%%";
+        self.say(mark, text, &[colon, why])
     }
 }
 
@@ -454,6 +486,6 @@ pub fn wrong_keys(
 /// What is told of a plant file whose epoch isn't one (C3).
 pub fn wrong_epoch(alloc: Global, plant: &[u8]) -> Result<Vec<Cause>, AllocError> {
     let mut document = untold(alloc, plant);
-    document.no_epoch(&keys_of(alloc, plant)?)?;
+    document.no_epoch(plant, &keys_of(alloc, plant)?)?;
     Ok(document.told)
 }

@@ -3,7 +3,7 @@
 //! is likely to be wrong in it, with what a `Warner` saw while it was read.
 //!
 //! No plant is read again: what is wrong in the plant file (C1 to C3) and in the rows of the alarm database (C11 to C14) comes with the fault, as their readers
-//! found it; of the plant file explain_document tells it. What is wrong in sources is found by explain_sources (C4, C5), explain_bodies (C6 to C9) and
+//! found it; explain_document and explain_rows tell it. What is wrong in sources is found by explain_sources (C4, C5), explain_bodies (C6 to C9) and
 //! explain_limits (C10). Behind mistakes of sources those of rows are told too, as far as the globals are spelled rightly.
 //!
 //! Proved is that the text begins with the whole line of the refusal; that a word is told which is wrong is tried on examples.
@@ -11,8 +11,6 @@
 //! Layer explain_: it must not know events or commands.
 #![tactic(auto)]
 
-mod alarms;
-mod fields;
 mod limits;
 mod readable;
 mod rows;
@@ -20,7 +18,7 @@ mod sources;
 mod telling;
 mod warnings;
 
-pub use explain_document::{Shelf, Shelved};
+pub use explain_files::{Shelf, Shelved};
 pub use plant_folder::PlantTexts;
 pub use telling::{explain_all, explain_from, explain_missing};
 pub use warnings::{Warner, warn};

@@ -1,9 +1,9 @@
 //! Where a limit isn't kept (C10), and by what.
 
-use crate::fields::Rows;
 use crate::telling::Refused;
-use explain_document::{Mark, keys_of};
+use explain_files::{Mark, keys_of};
 use explain_limits::{Measure, where_past};
+use explain_rows::Rows;
 use explain_tokens::{Cause, FileOf};
 use plant_config::Limit;
 use std::alloc::AllocError;

@@ -1,6 +1,6 @@
 //! What of a plant's sources can be read, where a part of them can't.
 
-use explain_document::Mark;
+use explain_files::Mark;
 use explain_sources::Parts;
 use explain_trees::{Parsed, Source, Unknown};
 use st_parser::Unit;

@@ -1,252 +1,20 @@
-//! What is wrong in the rows of the alarm database beside what is found first: further fields of a row, and rows of a plant whose sources are at fault.
+//! What is wrong in the rows of the alarm database, beside what is found first (C11 to C14).
 
-use crate::alarms::{columns_near, first_line, has_commas_alone, names};
-use crate::fields::{field_of, fields_of_row, last_of};
-use crate::telling::{MOST_FAULTS, Refused};
-use alarm_db::{Column, DatabaseRow, Examined, RowFault, RowMistake, Version, examine};
-use base_words::Names;
-use explain_document::{Mark, areas_of};
-use explain_tokens::part;
-use explain_trees::{entries_of, sources_of, units_of};
-use plant_file::TextSet;
-use plant_types::Kind;
-use st_parser::{Sort, Unit};
-use std::alloc::{AllocError, Global};
-
-/// A table has at most so many columns.
-const MOST_COLUMNS: usize = 9;
-
-/// What the rows of a plant may name.
-#[derive(Drop)]
-struct Known {
-    /// The areas; none where they aren't known.
-    areas: Option<TextSet>,
-    /// The BOOL globals; none where they aren't known.
-    bools: Option<Names>,
-}
-
-/// The names of the globals that are BOOLs, and of those that may be, where the sources aren't right.
-fn bools_of(alloc: Global, units: &[Unit], are_right: bool) -> Result<Names, AllocError> {
-    let mut names = Names::new(alloc);
-    for entry in &entries_of(alloc, units)? {
-        let is_open = !are_right && matches!(entry.sort(), Some(Sort::Block(_)));
-        if entry.is_global(Some(Kind::Bool)) || is_open && entry.owner.is_empty() {
-            names.add(alloc, entry.name.as_str())?;
-        }
-    }
-    Ok(names)
-}
-
-impl Known {
-    /// The columns in which a row names something, and whether there is no such thing.
-    fn unknown_in(&self, row: &DatabaseRow) -> [(Column, bool); 3] {
-        let is_bool = |name: &str| {
-            let mut bools = self.bools.iter();
-            bools.all(|bools| bools.find(name).is_some())
-        };
-        let suppress = row.suppress.as_ref();
-        let mut areas = self.areas.iter();
-        let is_area = areas.all(|areas| areas.number(row.area.as_str()).is_some());
-        [
-            (Column::Area, !is_area),
-            (Column::Condition, !is_bool(row.condition.as_str())),
-            (
-                Column::Suppress,
-                suppress.is_some_and(|name| !is_bool(name.as_str())),
-            ),
-        ]
-    }
-}
-
-/// A field that has the form of its column.
-fn right_field(column: Column) -> &'static str {
-    match column {
-        Column::Tag | Column::Area | Column::Condition => "a",
-        Column::Priority => "1",
-        Column::Latch => "TRUE",
-        Column::MaxShelveMs | Column::OnDelayMs => "0",
-        Column::Suppress | Column::Text => "",
-    }
-}
-
-/// Where a kind of mistakes stands in the order of the refusals.
-fn stage_of(mistake: &RowMistake) -> usize {
-    match mistake.fault {
-        RowFault::NoHeader | RowFault::Uneven { .. } => 0,
-        RowFault::Form(_) => 1,
-        RowFault::Again { .. } => 2,
-        RowFault::Unknown(_) => 3,
-    }
-}
-
-/// Whether a row of fields may be no row at all: it has commas alone, or goes on in the next line.
-fn is_apart(text: &[u8], fields: &[Mark]) -> bool {
-    let mut lines = fields.iter().filter_map(|field| first_line(text, *field));
-    lines.next().is_some() || has_commas_alone(text, field_of(fields, 0).0)
-}
+use crate::telling::Refused;
+use alarm_db::RowMistake;
+use explain_rows::{rows_beside, wrong_rows};
+use explain_tokens::{Cause, FileOf};
+use explain_trees::{sources_of, units_of};
+use st_parser::Unit;
+use std::alloc::AllocError;
 
 impl<'t> Refused<'t> {
-    /// A table of the row of these fields alone, with right fields in the place of some.
-    fn row_with(
-        &self,
-        version: Version,
-        fields: &[Mark],
-        put: &[bool; MOST_COLUMNS],
-    ) -> Result<Vec<u8>, AllocError> {
-        let (mut head, mut row) = (Vec::new(self.alloc), Vec::new(self.alloc));
-        for (number, column) in version.columns().iter().enumerate() {
-            let field = fields.get(number).copied().unwrap_or((0, 0));
-            let field = match put.get(number) {
-                Some(true) => right_field(*column).as_bytes(),
-                _ => part(self.alarms, field.0, field.1),
-            };
-            let comma = if number == 0 { "" } else { "," };
-            head.extend_from_slice(comma.as_bytes())?;
-            head.extend_from_slice(column.name().as_bytes())?;
-            row.extend_from_slice(comma.as_bytes())?;
-            row.extend_from_slice(field)?;
-        }
-        head.push(b'\n')?;
-        head.extend_from_slice(row.as_slice())?;
-        Ok(head)
-    }
-
-    /// Adds what else is wrong in the row of a mistake: it is read on with a right field in the place of each that is wrong.
-    fn add_further(
-        &self,
-        known: &Known,
-        version: Version,
-        wrong: &RowMistake,
-        found: &mut Vec<RowMistake>,
-    ) -> Result<(), AllocError> {
-        let fields = fields_of_row(self.alloc, self.alarms, wrong.at)?;
-        if is_apart(self.alarms, fields.as_slice()) {
-            return Ok(());
-        }
-        let (mut put, mut last, at) = ([false; MOST_COLUMNS], wrong.field, wrong.at);
-        for _ in 0..MOST_COLUMNS {
-            let Some(is_put) = last.and_then(|number| put.get_mut(number)) else {
-                return Ok(());
-            };
-            *is_put = true;
-            let text = self.row_with(version, fields.as_slice(), &put)?;
-            let examined = examine(self.alloc, text.as_slice())?;
-            if let Some((_, row)) = examined.rows.first() {
-                for (column, is_unknown) in known.unknown_in(row) {
-                    let field = version.place(column);
-                    let is_told = field.is_some_and(|number| put.get(number) == Some(&true));
-                    if is_unknown && !is_told {
-                        let fault = RowFault::Unknown(column);
-                        found.push(RowMistake { at, field, fault })?;
-                    }
-                }
-                return Ok(());
-            }
-            last = examined.mistakes.first().and_then(|next| next.field);
-            if let (Some(next), Some(_)) = (examined.mistakes.first(), last) {
-                found.push(RowMistake { at, ..*next })?;
-            }
+    /// Tells what is wrong in the alarm database.
+    fn in_table(&mut self, causes: Vec<Cause>) -> Result<(), AllocError> {
+        for cause in causes {
+            self.tell(FileOf::Alarms, cause)?;
         }
         Ok(())
-    }
-
-    /// Tells of mistakes in rows, and of what else is wrong in these: where there are more than 20, of those whose refusals come first.
-    fn tell_rows(
-        &mut self,
-        units: &[Unit],
-        known: &Known,
-        mistakes: &[RowMistake],
-    ) -> Result<(), AllocError> {
-        let mut all = Vec::from_slice(self.alloc, mistakes)?;
-        let header = fields_of_row(self.alloc, self.alarms, 0)?;
-        let version = match header.len() {
-            MOST_COLUMNS => Version::Second,
-            _ => Version::First,
-        };
-        for wrong in mistakes.iter().take(MOST_FAULTS) {
-            self.add_further(known, version, wrong, &mut all)?;
-        }
-        all.sort_by_key(stage_of)?;
-        all.truncate(MOST_FAULTS);
-        all.sort_unstable_by_key(|wrong| {
-            let field = wrong.field.unwrap_or(0);
-            wrong.at.saturating_mul(MOST_COLUMNS).saturating_add(field)
-        });
-        for wrong in &all {
-            self.in_row(units, wrong)?;
-        }
-        Ok(())
-    }
-
-    /// The table with the right names in its header, where some alone are wrong; and the byte at which the header ends there, and in the table itself.
-    fn with_right_header(&self) -> Result<Option<(Vec<u8>, usize, usize)>, AllocError> {
-        let fields = fields_of_row(self.alloc, self.alarms, 0)?;
-        let columns = columns_near(self.alarms, fields.as_slice());
-        let pairs = columns.iter().zip(&fields);
-        let right = pairs.filter(|(column, field)| names(self.alarms, Some(*field), Some(*column)));
-        if fields.len() != columns.len() || right.count() < 3 {
-            return Ok(None);
-        }
-        let mut text = Vec::new(self.alloc);
-        for column in columns {
-            text.extend_from_slice(column.name().as_bytes())?;
-            text.push(b',')?;
-        }
-        text.pop();
-        let (len, until) = (text.len(), last_of(fields.as_slice()).1);
-        text.extend_from_slice(part(self.alarms, until, self.alarms.len()))?;
-        Ok(Some((text, len, until)))
-    }
-
-    /// What is found in the rows. Where names of the header alone are wrong, the rows below it are read with the right ones.
-    fn examined(&self) -> Result<Examined, AllocError> {
-        let examined = examine(self.alloc, self.alarms)?;
-        if examined.version.is_some() {
-            return Ok(examined);
-        }
-        let Some((text, len, until)) = self.with_right_header()? else {
-            return Ok(examined);
-        };
-        let mut below = examine(self.alloc, text.as_slice())?;
-        let moved = |at: usize| at.saturating_add(until).saturating_sub(len);
-        for wrong in below.mistakes.as_mut_slice() {
-            wrong.at = moved(wrong.at);
-            if let RowFault::Again { first } = wrong.fault {
-                let first = moved(first);
-                wrong.fault = RowFault::Again { first };
-            }
-        }
-        for row in below.rows.as_mut_slice() {
-            row.0 = moved(row.0);
-        }
-        let header = examined.mistakes.as_slice();
-        below.mistakes.extend_from_slice(header)?;
-        Ok(below)
-    }
-
-    /// Tells what is wrong in the rows of a plant of units; of what they name only the areas where there are no units.
-    fn in_all_rows(&mut self, units: &[Unit], known: &Known) -> Result<(), AllocError> {
-        let examined = self.examined()?;
-        let mut mistakes = Vec::from_slice(self.alloc, examined.mistakes.as_slice())?;
-        for (at, row) in &examined.rows {
-            let unknown = known.unknown_in(row);
-            if let Some((column, _)) = unknown.into_iter().find(|column| column.1) {
-                let field = examined.version.and_then(|version| version.place(column));
-                let (at, fault) = (*at, RowFault::Unknown(column));
-                mistakes.push(RowMistake { at, field, fault })?;
-            }
-        }
-        self.tell_rows(units, known, mistakes.as_slice())
-    }
-
-    /// What the rows of the plant may name, whose units are right, or spelled rightly.
-    fn known(&self, units: &[Unit], are_right: bool) -> Result<Known, AllocError> {
-        let bools = match units {
-            [] => None,
-            _ => Some(bools_of(self.alloc, units, are_right)?),
-        };
-        let areas = areas_of(self.alloc, self.plant)?;
-        Ok(Known { areas, bools })
     }
 
     /// Tells what is wrong in the rows of a plant of units that are spelled rightly, but at fault; of what the rows name only the areas where there are no units.
@@ -254,8 +22,7 @@ impl<'t> Refused<'t> {
         if !self.has_alarms {
             return Ok(());
         }
-        let known = self.known(units, false)?;
-        self.in_all_rows(units, &known)
+        self.in_table(rows_beside(self.alloc, (self.plant, self.alarms), units)?)
     }
 
     /// Tells what is wrong in the rows of a plant whose sources are right but for a limit.
@@ -265,14 +32,11 @@ impl<'t> Refused<'t> {
         self.in_rows_beside(units.as_slice())
     }
 
-    /// Tells of the mistakes in rows for which the plant is refused, whose sources are right; where the header is wrong, also of those below it.
+    /// Tells of the mistakes in rows for which the plant is refused, whose sources are right, and of what else is wrong in rows.
     pub fn in_rows(&mut self, mistakes: &[RowMistake]) -> Result<(), AllocError> {
         let sources = sources_of(self.alloc, self.sources)?;
         let units = units_of(self.alloc, sources.as_slice())?;
-        let known = self.known(units.as_slice(), true)?;
-        match mistakes.first().map(|first| first.fault) {
-            Some(RowFault::NoHeader) => self.in_all_rows(units.as_slice(), &known),
-            _ => self.tell_rows(units.as_slice(), &known, mistakes),
-        }
+        let texts = (self.plant, self.alarms);
+        self.in_table(wrong_rows(self.alloc, texts, units.as_slice(), mistakes)?)
     }
 }

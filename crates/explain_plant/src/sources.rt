@@ -4,12 +4,13 @@
 use crate::readable::Readable;
 use crate::telling::{MOST_FAULTS, REFUSALS, Refused};
 use explain_bodies::{BrokenRule, Mistake, mistakes};
-use explain_document::Mark;
+use explain_files::Mark;
 use explain_limits::too_long;
-use explain_sources::{Reading, misspelled_at, tell, ungrammatical};
+use explain_sources::{Reading, tell, ungrammatical};
 use explain_tokens::{Cause, FileOf, Spot, byte_at, cause_of, part};
 use explain_trees::{Parsed, Unknown, sources_of, units_of};
 use explain_uses::{OpenComment, swallower};
+use explain_words::misspelled_at;
 use plant_types::Text;
 use std::alloc::{AllocError, Global};
 
@@ -126,7 +127,7 @@ impl<'t> Refused<'t> {
         is_told: bool,
     ) -> Result<(), AllocError> {
         let parsed = readable.parsed();
-        let found = mistakes(self.alloc, parsed, None)?;
+        let found = mistakes(self.alloc, parsed, self.alarms, None)?;
         let mut names = found.iter();
         if !is_told && names.any(|mistake| mistake.rule == BrokenRule::Names) {
             self.add_comments_told(comments)?;
@@ -203,7 +204,7 @@ impl<'t> Refused<'t> {
             units: units.as_slice(),
             unknown: &unknown,
         };
-        let found = mistakes(self.alloc, parsed, Some(rule))?;
+        let found = mistakes(self.alloc, parsed, self.alarms, Some(rule))?;
         let comments = match rule {
             BrokenRule::Names => self.swallowers()?,
             _ => Vec::new(self.alloc),

@@ -6,12 +6,10 @@ ghost use Rattle.plant_folder.specs.Verdicts.{refusal_line};
 ghost use Rattle.explain_plant.specs.Told.{BeginsWith};
 
 use explain_bodies::BrokenRule;
-use explain_document::{
-    Gathered, Mark, Shelf, Shelved, files_listed, no_document, wrong_epoch, wrong_keys,
-};
+use explain_document::{no_document, wrong_epoch, wrong_keys};
+use explain_files::{Gathered, Mark, MissingFile, Shelf, Shelved, files_listed};
 use explain_places::shown;
 use explain_tokens::{Cause, FileOf, Spot, cause_at, cause_of};
-use explain_trees::filled;
 use plant_config::{ConfigFault, Limit, Plant};
 use plant_folder::PlantTexts;
 use std::alloc::{AllocError, Global};
@@ -43,18 +41,6 @@ impl<'t> Refused<'t> {
         Ok(())
     }
 
-    /// Tells what is wrong at bytes of the alarm database: a text in which each `%` stands for the next of words.
-    pub fn say(
-        &mut self,
-        mark: Option<Mark>,
-        text: &str,
-        words: &[&str],
-    ) -> Result<(), AllocError> {
-        let said = filled(self.alloc, &[text], "", words)?;
-        let page = "docs/PLANT.md, \"alarms.csv\"";
-        self.tell(FileOf::Alarms, Cause { mark, said, page })
-    }
-
     /// Tells what is wrong in the plant file.
     fn in_document(&mut self, causes: Vec<Cause>) -> Result<(), AllocError> {
         for cause in causes {
@@ -76,7 +62,9 @@ impl<'t> Refused<'t> {
                 ""
             };
             let path = missing.path.as_str();
-            let said = format!(in self.alloc; "this file can't be read: {path}{more}")?;
+            let other = meant(self.alloc, missing)?;
+            let other = other.as_str();
+            let said = format!(in self.alloc; "this file can't be read: {path}{more}{other}")?;
             let (mark, page) = (Some(missing.mark), "docs/PLANT.md, \"Reading the files\"");
             self.tell(FileOf::Plant, Cause { mark, said, page })?;
         }
@@ -295,16 +283,33 @@ pub fn explain_from<S: Shelf>(
     under(alloc, line.as_str(), told.as_str())
 }
 
-/// The place in the plant file where a file is named that is missing, shown; nothing where it isn't certain.
+/// What is said of another file that may be meant by one that is missing; empty where there is none.
+fn meant(alloc: Global, missing: &MissingFile) -> Result<String, AllocError> {
+    let near = missing.meant.as_str();
+    if near.is_empty() {
+        let name = missing.name.as_str().as_bytes();
+        let dots = name.iter().filter(|byte| **byte == b'.').count();
+        let said = if name.contains(&b',') && dots > 1 {
+            "; each file stands in quotes of its own, with commas behind these"
+        } else {
+            ""
+        };
+        return String::from_str(alloc, said);
+    }
+    format!(in alloc; "; there is a file '{near}': is that meant?")
+}
+
+/// The place in the plant file where a file is named that is missing, with what is said of another one that may be meant, shown; nothing where it isn't certain.
 fn named_at(
     alloc: Global,
     texts: &PlantTexts<'_>,
-    named: Option<Mark>,
+    named: Option<(Mark, String)>,
 ) -> Result<String, AllocError> {
-    let Some(mark) = named else {
+    let Some((mark, other)) = named else {
         return Ok(String::new(alloc));
     };
-    let said = String::from_str(alloc, "the plant file names it here")?;
+    let mut said = String::from_str(alloc, "the plant file names it here")?;
+    said.push_str(other.as_str())?;
     let (file, cause) = (FileOf::Plant, cause_at(mark, said, REFUSALS));
     shown(alloc, texts, "", &Spot { file, cause })
 }
@@ -323,9 +328,14 @@ pub fn explain_missing<S: Shelf>(
     };
     let mut gathered = Gathered::of(alloc, (shelf, path), plant.as_slice())?;
     let mut missing = gathered.missing.iter();
-    let named = missing
-        .find(|file| file.name.as_str() == name)
-        .map(|file| file.mark);
+    let found = missing.find(|file| file.name.as_str() == name);
+    let named = match found {
+        Some(file) => {
+            let other = meant(alloc, file)?;
+            Some((file.mark, other))
+        }
+        None => None,
+    };
     gathered.forget(name);
     let sources = gathered.lent(alloc)?;
     let texts = texts_of(path, plant.as_slice(), sources.as_slice(), &gathered);

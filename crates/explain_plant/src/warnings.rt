@@ -1,10 +1,10 @@
 //! What is likely to be wrong in a plant that is accepted.
 
-use crate::fields::Rows;
 use crate::telling::alarms_name;
 use alarm_db::{Column, Version};
 use base_words::Names;
 use explain_places::shown;
+use explain_rows::Rows;
 use explain_tokens::{FileOf, Spot};
 use explain_uses::{Found, look};
 use plant_config::{Observer, Plant, Unit};

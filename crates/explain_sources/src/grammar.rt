@@ -1,14 +1,13 @@
 //! The token with which no source can go on (C5).
 
 use crate::rules::{told_by_place, too_deep, wanted};
-use crate::words::misnomer;
 use explain_tokens::{Cause, TokenPlace, cause_at, closing_of, fits, tokens_of};
+use explain_words::{
+    GRAMMAR, begins_call, is_braced, is_second_kind, lacks_end_var, misnomer, parts_case,
+};
 use plant_types::same_word;
 use st_lexer::place_of;
 use std::alloc::{AllocError, Global};
-
-/// Where the grammar stands.
-pub const GRAMMAR: &str = "docs/LANGUAGE.md, \"Grammar\"";
 
 /// Whether a comment stands between tokens in which another one begins: the first end of a comment ends it.
 pub fn has_nested(gap: &[u8]) -> bool {
@@ -24,14 +23,16 @@ pub fn has_nested(gap: &[u8]) -> bool {
     false
 }
 
-/// What opens something that should be closed before a token: that closes something else, parts an IF or a CASE around it, begins a unit or globals, or begins
-/// a statement among declarations.
+/// What opens something that should be closed before a token: that closes something else, parts an IF or a CASE around it, begins a unit or globals, or is of a
+/// statement among declarations.
 fn left_open(place: TokenPlace<'_>) -> Option<TokenPlace<'_>> {
     let opened = place.opened()?;
     let closing = closing_of(opened.sign());
     let is_left = match (place.stand(), opened.sign(), place.sign()) {
         ("statement", "IF", "ELSE" | "ELSIF") | ("statement", "CASE", "ELSE") => false,
-        ("declaration", _, "IF" | "CASE" | "FOR") | ("declared", _, "(") => true,
+        ("declaration", _, "IF" | "CASE" | "FOR") => true,
+        ("declared", _, "(" | ":=") => lacks_end_var(place),
+        ("statement", "IF" | "FOR", _) if parts_case(place) => true,
         ("statement" | "declaration", _, sign) => {
             fits("ELSE|ELSIF|UNIT|VAR_GLOBAL|CLOSING", sign) && sign != closing
         }
@@ -63,7 +64,8 @@ fn led_to(
     }
 }
 
-/// What is said where something is open that should be closed before a token: at that, or at the word before it, with which a call begins.
+/// What is said where something is open that should be closed before a token: at that, or at the word before it, with which a call
+/// or an assignment begins.
 fn unclosed(
     alloc: Global,
     place: TokenPlace<'_>,
@@ -73,8 +75,8 @@ fn unclosed(
     let closing = closing_of(open);
     let behind = led_to(alloc, place, opened)?;
     let said = format!(in alloc; "{closing} is missing for the {open} of line {line}{behind}")?;
-    let is_call = place.sign() == "(";
-    let mark = if is_call {
+    let is_behind = fits("(|:=", place.sign());
+    let mark = if is_behind {
         place.previous().mark()
     } else {
         place.mark()
@@ -88,15 +90,18 @@ fn unpaired(place: TokenPlace<'_>) -> Option<TokenPlace<'_>> {
     let is_keyword = fits("KEYWORD", sign) && sign != "NOT";
     let is_bound = stand == "array" && !fits("[|-", place.before(1));
     let ends_index = is_keyword || fits(";|:=|:|)|=>", sign);
-    let begins_call = [place.behind(1), place.behind(2)] == ["(", "word"]
+    let begins_one = [place.behind(1), place.behind(2)] == ["(", "word"]
         && fits(":=|=>", place.behind(3));
     let ends = match sign {
-        "word" => !is_call && (place.behind(1) == ":=" || begins_call),
+        "word" => !is_call && (place.behind(1) == ":=" || begins_one),
         "," => !is_call,
         _ => is_keyword || sign == ";",
     };
     match place.bracket() {
-        Some(open) if ends_index && (is_bound || stand == "valued") => Some(open),
+        _ if begins_call(place) => place.parenthesis(),
+        Some(open) if ends_index && !is_braced(place) && (is_bound || stand == "valued") => Some(
+            open,
+        ),
         _ if ends && fits("valued|taken", stand) => place.parenthesis(),
         _ => None,
     }
@@ -111,15 +116,26 @@ fn is_doubled(place: TokenPlace<'_>) -> bool {
         && same_word(place.word().as_bytes(), word)
 }
 
+/// What seems to be missing before a token: among the arguments of a call a `,` alone before another argument.
+fn lacking_said(place: TokenPlace<'_>) -> &'static str {
+    let is_argument = place.sign() == "word" && fits(":=|=>", place.behind(1));
+    if is_argument && place.within() == "call" {
+        "a ','"
+    } else {
+        place.lacking().1
+    }
+}
+
 /// What is said behind a token.
 fn told(alloc: Global, place: TokenPlace<'_>) -> Result<String, AllocError> {
     let lacks = place.lacks_end();
+    let may_double = place.stand() != "argued" && (!lacks || is_second_kind(place));
     let told = match told_by_place(place) {
-        _ if is_doubled(place) && !lacks => "it stands here twice",
+        _ if is_doubled(place) && may_double => "it stands here twice",
         told => told,
     };
     match unpaired(place) {
-        Some(open) if told.is_empty() || open.sign() == "[" => {
+        Some(open) if told.is_empty() || open.sign() == "[" || begins_call(place) => {
             let opening = open.sign();
             let closing = if opening == "[" { "]" } else { ")" };
             let (line, column) = place_of(open.text, open.tokens, open.number);
@@ -128,7 +144,7 @@ fn told(alloc: Global, place: TokenPlace<'_>) -> Result<String, AllocError> {
             )
         }
         _ if told.is_empty() && lacks => {
-            let (_, lacking) = place.lacking();
+            let lacking = lacking_said(place);
             let line = place.previous().line();
             format!(in alloc; "{lacking} seems to be missing before it, in line {line}")
         }
@@ -143,9 +159,16 @@ pub fn unopened(place: TokenPlace<'_>) -> &'static str {
         "END_IF" | "ELSIF" => ("IF", "END_IF"),
         "END_CASE" => ("CASE", "END_CASE"),
         "END_FOR" => ("FOR", "END_FOR"),
+        "ELSE" => ("IF|CASE", "END_IF|END_CASE"),
+        "END_VAR" if place.is_declared() => return "",
+        "END_VAR" => return "VAR",
         _ => return "",
     };
-    place.open(opening, closing, "").map_or(opening, |_| "")
+    match place.open(opening, closing, "") {
+        Some(_) => "",
+        None if opening == "IF|CASE" => "IF and no CASE",
+        None => opening,
+    }
 }
 
 /// The cause at a token, where no word tells it.

@@ -1,7 +1,7 @@
 //! A text in which bytes begin no token: what stands in their place.
 
-use crate::spelling::{first_character, run_len};
 use explain_tokens::{byte_at, part, tokens_of};
+use explain_words::{first_character, quoted_len, run_len};
 use st_lexer::{LexFault, Token, lex};
 use std::alloc::{AllocError, Global};
 
@@ -21,10 +21,8 @@ pub struct Lexed<'a> {
 
 /// How many bytes stand up to a mark that closes what the first byte opens, with both; 1 where the line hasn't it.
 fn closed_len(bytes: &[u8], mark: u8) -> usize {
-    let inside = part(bytes, 1, bytes.len());
-    let is_inside = |byte: &u8| *byte != mark && *byte != b'\n';
-    let len = inside.iter().take_while(|byte| is_inside(*byte)).count();
-    let is_closed = inside.get(len) == Some(&mark);
+    let len = quoted_len(bytes, mark);
+    let is_closed = bytes.get(len.saturating_add(1)) == Some(&mark);
     if is_closed { len.saturating_add(2) } else { 1 }
 }
 
@@ -32,10 +30,17 @@ fn closed_len(bytes: &[u8], mark: u8) -> usize {
 /// comment isn't closed, or the text looks like UTF-16.
 fn hole_of(at: usize, bytes: &[u8]) -> Option<(usize, &'static str)> {
     let len = run_len(bytes);
+    let has_comma = matches!(part(bytes, len, bytes.len()), [b',', b'0'..=b'9', ..]);
     match bytes {
-        [b't' | b'T', b'#', ..] if bytes.get(len) == Some(&b',') => {
+        [b't' | b'T', b'#', ..] if has_comma => {
             let decimals = run_len(part(bytes, len.saturating_add(1), bytes.len()));
             Some((len.saturating_add(1).saturating_add(decimals), "0"))
+        }
+        [b't' | b'T', b'#', b' ', ..] => {
+            let behind = part(bytes, 2, bytes.len());
+            let blanks = behind.iter().take_while(|byte| **byte == b' ').count();
+            let parts = run_len(part(behind, blanks, behind.len()));
+            Some((blanks.saturating_add(parts).saturating_add(2), "0"))
         }
         [b'0'..=b'9' | b'a'..=b'z' | b'A'..=b'Z' | b'_', ..] => Some((len, "0")),
         [b'%', b'a'..=b'z' | b'A'..=b'Z', ..] => {
@@ -45,12 +50,19 @@ fn hole_of(at: usize, bytes: &[u8]) -> Option<(usize, &'static str)> {
         [b'(' | b'/', b'*', ..] | [] => None,
         [0xFF, 0xFE, ..] | [0xFE, 0xFF, ..] | [0, ..] if at < 2 => None,
         [mark @ (b'\'' | b'"'), ..] => {
-            let len = closed_len(bytes, *mark);
-            Some((len, if len > 2 { " 0" } else { "" }))
+            match closed_len(bytes, *mark) {
+                1 => Some((quoted_len(bytes, *mark).saturating_add(1), "")),
+                len => Some((len, if len > 2 { " 0" } else { "" })),
+            }
         }
         [b'{', ..] => Some((closed_len(bytes, b'}'), "")),
-        [b'#', b'a'..=b'z' | b'A'..=b'Z' | b'_', ..] => Some((1, "")),
-        [b'#', ..] => Some((bytes.iter().take_while(|byte| **byte != b'\n').count(), "")),
+        [b'#', b'a'..=b'z' | b'A'..=b'Z' | b'_', ..] if !bytes.starts_with(b"#include") => Some((
+            1, "",
+        )),
+        [b'#', ..] | [b'\\', b'\\', ..] => Some((
+            bytes.iter().take_while(|byte| **byte != b'\n').count(),
+            "",
+        )),
         [b'|', b'|', ..] => Some((2, "&")),
         [b'!' | b'~', b'=', ..] => Some((2, "<>")),
         _ => Some((first_character(bytes).len().max(1), "")),
@@ -97,6 +109,16 @@ pub fn tokens_with_holes(alloc: Global, text: &[u8]) -> Result<Lexed<'_>, AllocE
 }
 
 impl<'a> Lexed<'a> {
+    /// Whether bytes stand in the line and the statement of some that begin no token, behind these: what is said of them may come of these.
+    pub fn is_behind_hole(&self, mark: Option<(usize, usize)>) -> bool {
+        let Some((at, _)) = mark else {
+            return false;
+        };
+        let mut holes = self.holes.as_slice().iter();
+        let ends = |byte: &u8| matches!(*byte, b'\n' | b';');
+        holes.any(|hole| hole.0 < at && !part(self.text, hole.0, at).iter().any(|byte| ends(byte)))
+    }
+
     /// Whether bytes that begin no token stand in a part of the text.
     pub fn has_hole(&self, from: usize, until: usize) -> bool {
         let mut holes = self.holes.as_slice().iter();

@@ -1,7 +1,7 @@
 //! All that is wrong in the spelling and the grammar of a source (C4, C5), in one go.
 //!
-//! What begins no token is told by what stands beside it. Of a token with which no source can go on, the tokens before it tell where it stands (`TokenPlace`), and
-//! tables say what is wrong there (`rules`, `words`). Then its unit is read on behind it: the statement or the declaration is left out, or what is missing is
+//! What begins no token is told by what stands beside it (explain_words). Of a token with which no source can go on, the tokens before it tell where it stands (`TokenPlace`), and
+//! tables say what is wrong there (`rules`, and for words of other dialects explain_words). Then its unit is read on behind it: the statement or the declaration is left out, or what is missing is
 //! put in, and the unit is read anew. So each further cause stands behind the one before it, in tokens that are those of the source. Where it isn't certain how
 //! to go on, the rest of the unit isn't read. What a byte that begins no token leads to isn't told again.
 //!
@@ -17,11 +17,8 @@ mod holes;
 mod mend;
 mod parts;
 mod rules;
-mod spelling;
 mod told;
-mod words;
 
 pub use grammar::ungrammatical;
 pub use parts::{Part, Parts};
-pub use spelling::misspelled_at;
 pub use told::{Reading, Told, tell};

@@ -1,12 +1,13 @@
 //! How a source is read on behind a token with which it can't go on: what is left out, and what is put in its place.
 
 use crate::grammar::{has_nested, unopened};
-use crate::rules::is_behind_title;
-use crate::words::misnomer;
-use explain_tokens::{TokenPlace, closing_of, fits, opens_section, sign_at, sign_of};
+use explain_tokens::{TokenPlace, closing_of, fits, opens_section, sign_at};
+use explain_words::{
+    closed_in, has_else, is_behind_title, is_in_case, is_label, is_second_kind, lacks_end_var,
+    misnomer, next_end, parts_case, statement_start,
+};
 use plant_types::same_word;
 use st_lexer::Token;
-use std::cmp::Ordering;
 
 /// What is left out of tokens, from the one of a number to before another, and what is put in its place, as it is written.
 #[derive(Clone, Copy, Drop)]
@@ -20,7 +21,7 @@ impl Mend {
     /// Whether it isn't certain any more which FORs stand around what, where it is done to tokens: it puts in a FOR's head or end, or leaves one out.
     pub fn blurs_loops(self, tokens: &[Token]) -> bool {
         let mut left_out = (self.from..self.until).map(|number| sign_at(tokens, number));
-        let is_put = self.put == "END_FOR" || self.put.ends_with("DO");
+        let is_put = self.put.starts_with("END_FOR") || self.put.ends_with("DO");
         is_put || left_out.any(|sign| fits("FOR|END_FOR", sign))
     }
 }
@@ -33,29 +34,6 @@ fn with(from: usize, until: usize, put: &'static str) -> Mend {
 /// Puts what is written in the place of a token.
 fn instead(place: TokenPlace<'_>, put: &'static str) -> Mend {
     with(place.number, place.next().number, put)
-}
-
-/// The number of the first token of the declaration, or behind the labels before it of the statement, in which a token stands.
-pub fn statement_start(place: TokenPlace<'_>) -> usize {
-    let ends = if place.is_declared() {
-        ";|SECTION"
-    } else {
-        ";|:|THEN|DO|ELSE|OF|CLOSING|UNIT"
-    };
-    match place.open(ends, "", "") {
-        Some(end) if fits("UNIT", end.sign()) => end.number.saturating_add(2).min(place.number),
-        Some(end) => end.next().number,
-        None => 0,
-    }
-}
-
-/// The first keyword from a token on with which something else begins or ends, or the first `;`; else the place behind the last token.
-pub fn next_end(place: TokenPlace<'_>) -> TokenPlace<'_> {
-    place.ahead(if place.is_declared() {
-        ";|OUTER"
-    } else {
-        ";|OF|OUTER"
-    })
 }
 
 /// The token behind the statement or the declaration in which a token stands: behind its `;`, unless a `)` follows that closes nothing, or what ends the
@@ -121,19 +99,6 @@ fn past_head(place: TokenPlace<'_>, head: TokenPlace<'_>) -> Option<Mend> {
     fits("THEN|DO|OF", end.sign()).then_some(mend)
 }
 
-/// Whether a keyword stands more often in a unit than what it closes is opened there, or less often.
-fn closed_in(place: TokenPlace<'_>, closing: &str) -> Ordering {
-    let tokens = place.tokens.iter();
-    let closed = tokens
-        .filter(|token| sign_of(token.kind) == closing)
-        .count();
-    let tokens = place.tokens.iter();
-    let opened = tokens
-        .filter(|token| closing_of(sign_of(token.kind)) == closing)
-        .count();
-    closed.cmp(&opened)
-}
-
 /// At a keyword that closes something else than what is open, or nothing: with what closes that, where the unit has too few of it, or else without the keyword.
 fn past_keyword(place: TokenPlace<'_>) -> Option<Mend> {
     let closing = match place.opener() {
@@ -143,7 +108,12 @@ fn past_keyword(place: TokenPlace<'_>) -> Option<Mend> {
     match (unopened(place), place.sign()) {
         ("", _) => (!closing.is_empty()).then_some(with(place.number, place.number, closing)),
         (_, "ELSIF") if closed_in(place, "END_IF").is_gt() => Some(instead(place, "IF")),
-        (_, "ELSIF") if closing == "END_CASE" => Some(instead(place, "ELSE")),
+        (_, "ELSIF") if closing == "END_CASE" => {
+            let end = place.next().ahead(";|OUTER");
+            let is_head = end.sign() == "THEN";
+            let last = if is_head { end } else { place };
+            Some(with(place.number, last.next().number, "ELSE"))
+        }
         _ if !closing.is_empty() && closed_in(place, closing).is_lt() => Some(instead(
             place, closing,
         )),
@@ -160,6 +130,26 @@ fn past_label(place: TokenPlace<'_>) -> Option<Mend> {
         _ => with(statement_start(place), colon.number, "0"),
     };
     (colon.sign() == ":").then_some(mend)
+}
+
+/// At a label outside of a CASE: with what closes the statement before it in one, or with the head of a CASE, where the unit has one end too many.
+fn past_loose_label(place: TokenPlace<'_>) -> Option<Mend> {
+    let put = match place.opener() {
+        "IF" if parts_case(place) => "END_IF;",
+        "FOR" if parts_case(place) => "END_FOR;",
+        _ if !is_in_case(place) && closed_in(place, "END_CASE").is_gt() => "CASE 0 OF",
+        _ => return past_statement(place),
+    };
+    Some(with(place.number, place.number, put))
+}
+
+/// At a `:` with which nothing begins: with a label before it, where one may stand, or without it.
+fn past_colon(place: TokenPlace<'_>) -> Mend {
+    if [place.opener(), place.before(1)] == ["CASE", ";"] && !has_else(place) {
+        with(place.number, place.number, "0")
+    } else {
+        instead(place, "")
+    }
 }
 
 /// How to read on behind a word that is written otherwise.
@@ -182,6 +172,11 @@ fn missing(place: TokenPlace<'_>) -> &'static str {
     }
 }
 
+/// Whether the token before one is a `;` behind the name of a unit or behind an END_VAR, where none stands.
+fn follows_loose_end(place: TokenPlace<'_>) -> bool {
+    is_behind_title(place) || [place.before(2), place.before(1)] == ["END_VAR", ";"]
+}
+
 /// How to read on behind a token with which no source can go on; `None` where that isn't certain.
 pub fn way_on(place: TokenPlace<'_>) -> Option<Mend> {
     let (here, previous) = (place.number, place.previous().number);
@@ -193,14 +188,17 @@ pub fn way_on(place: TokenPlace<'_>) -> Option<Mend> {
         _ => {}
     }
     match (place.stand(), place.sign()) {
+        _ if is_second_kind(place) => Some(instead(place, "")),
         _ if place.lacks_end() => Some(with(here, here, missing(place))),
-        ("declared", "(") => Some(with(previous, previous, "END_VAR")),
+        ("declared", _) if lacks_end_var(place) => Some(with(previous, previous, "END_VAR")),
         ("declaration", "IF" | "CASE" | "FOR") => Some(with(here, here, "END_VAR")),
         _ if place.is_declared() => past_statement(place),
         ("label" | "labelled", _) => past_label(place),
         ("begun", ":") if place.opener() == "CASE" => past_label(place),
-        ("statement", ":") => Some(instead(place, "")),
-        ("statement", sign) if fits("SECTION", sign) && is_behind_title(place) => Some(with(
+        ("statement", ":") => Some(past_colon(place)),
+        ("statement" | "head", "END_VAR") => Some(instead(place, "")),
+        ("statement", _) if is_label(place) => past_loose_label(place),
+        ("statement", sign) if fits("SECTION", sign) && follows_loose_end(place) => Some(with(
             previous, here, "",
         )),
         ("statement", sign) if fits("SECTION", sign) => {

@@ -1,8 +1,8 @@
 //! What of a source can be read, where a part of it can't.
 
 use crate::holes::Lexed;
-use crate::mend::{next_end, statement_start};
 use explain_tokens::{TokenPlace, start_of};
+use explain_words::{next_end, statement_start};
 use st_lexer::Token;
 use st_parser::Unit;
 use std::alloc::{AllocError, Global};

@@ -1,18 +1,25 @@
 //! What is said of a token by where it stands and what stands beside it (C5).
 
 use explain_tokens::{TokenPlace, fits, said_of};
-use st_lexer::{Token, TokenKind};
+use explain_words::{told_before, told_sign};
 
 /// Each rule has where the token stands, what opens the unit, the section or the statement in which it does, the token before it, the token itself and the one
 /// behind it, and then what is said. A word before it behind a point is an `output`, one behind an ELSE that seems to begin a condition `otherwise`; a `)` or
 /// `]` with nothing open to close is `unopened)` or `unopened]`, a comma between indexes `second`, one between digits `digits`, the integer that may stand
-/// behind a minus alone `least`, a `:=` in a condition `condition` and in another head `within`, and a `;` before it behind the name of a unit `titled`.
+/// behind a minus alone `least`, a `:=` in a condition `condition` and in another head `within`, and a `;` before it behind the name of a unit `titled`. The
+/// others that are neither words nor marks of the language are told where they are given (`told_before`, `told_sign`).
 const RULES: &str = "\
 _ _ _ digits _ no comma stands in a number: underscores may part its digits, as in 1_000
+_ _ _ decimals _ no comma stands in a number, and none has decimals
 _ _ _ condition _ in a condition equal is written =
+begun _ _ remark _ words side by side are no statement; a remark is written // .. or (* .. *)
+statement|head|declaration|top|behind _ _ remark _ a remark is written // .. or (* .. *)
+statement|head|declaration|top|behind _ _ ( * a comment begins with (* without a blank in it
+statement|head|declaration|top|behind _ _ / *|/ a comment begins with /* or // without a blank in it
 begun _ otherwise <|>|<=|>=|<>|THEN|AND|OR|XOR|. _ behind ELSE stands no condition; behind ELSIF one does
 array _ ARRAY _ _ the bounds of an array stand in brackets, as in ARRAY[1..10] OF DINT
 array _ int|OF second|ARRAY _ an array has one index, and its elements are no arrays
+array _ int - _ the bounds of an array have .. between them, as in ARRAY[1..10] OF DINT
 array _ int|[|..|- _ _ the bounds of an array are numbers, as in ARRAY[1..10] OF DINT
 array _ ] _ _ OF and a kind stand behind the bounds of an array, as in ARRAY[1..10] OF DINT
 array _ OF _ _ the elements of an array are BOOL, DINT or TIME
@@ -29,7 +36,7 @@ assigned _ _ = _ an assignment is written :=, as in w[1] := 2;
 _ _ _ second _ an array has one index, and its elements are no arrays
 _ _ [ ]|unopened] _ an index is missing before it, as in w[1]
 _ _ _ unopened] _ no '[' is open here
-argument _ , )|, _ a ',' is too many before it
+argument _ , )|, _ a ',' is too many before it, or an argument is missing
 ended _ _ , _ the ')' before it ends the call already
 valued|ended|statement _ _ unopened) _ no '(' is open here
 declared|addressed|kind _ _ =|:= address AT stands before an address, as in pump AT %QX0.0 : BOOL
@@ -51,23 +58,45 @@ _ _ > > _ bits aren't shifted in the language
 _ _ - > _ an output is read with a point, as in t.Q
 _ _ - - _ a remark is written // .. or (* .. *)
 _ _ * )|unopened)|/ _ no comment is open that this ends; comments don't stand in one another
+value _ times / _ a value is missing before it
 _ _ : = _ an assignment is written :=, without a blank in it
 begun _ _ = _ an assignment is written :=
 begun _ _ => _ an assignment is written :=, and => takes an output of a call
 begun _ _ : = an assignment is written :=, without a blank in it
+begun _ _ headless _ a condition stands behind IF or ELSIF, and none is before this one
+begun _ variable word|NOT|TRUE|FALSE|int|literal _ a := is missing before it
+begun _ _ bare _ a '(' is missing before it, as in t(IN := a);
+begun _ _ apart _ the word above it is no statement: one assigns or calls, as in n := 1; or t(IN := a);
+begun _ _ parted _ the word before it begins no statement, and a name has no blanks in it
+begun _ _ declaring _ a declaration stands between VAR and END_VAR
+begun _ _ given _ an assignment is written :=, and a declaration stands between VAR and END_VAR
 begun _ _ : KIND a declaration stands between VAR and END_VAR
 begun _ _ : _ an assignment is written :=, and the labels of a CASE are integers
 begun _ _ +|- +|-|= an assignment is written out, as n := n + 1
 begun _ _ *|/ = an assignment is written out, as n := n * 2
-begun|statement _ _ * )|/ no comment is open that this ends; comments don't stand in one another
+begun|statement|head|declaration|top|behind _ _ * )|/ no comment is open that this ends; comments don't stand in one another
 begun _ _ . word an output is read as t.Q, and an input is given in a call, as t(IN := a)
 begun _ _ . int a bit of a number has no name
 begun _ _ , _ a statement assigns one variable (or is VAR missing above?)
-begun _ _ word = an assignment is written :=, and S= and R= aren't part of the language
-begun _ _ NOT|TRUE|FALSE|int|literal _ a := is missing before it
-begun _ _ SECTION _ the word before it begins no statement and no declaration
+begun _ _ set _ an assignment is written :=, and S= and R= aren't part of the language
+begun _ _ right _ a := is missing before it
+begun _ _ PART _ the word before it is no statement: one assigns or calls, as in n := 1; or t(IN := a);
+begun _ _ SECTION _ the word before it begins no statement and no declaration, and the name of a unit is one word
+statement|head|declaration|top|behind _ _ <|=|> <|=|> marks as <<<<<<< and >>>>>>> stand around two versions of a text: keep one, and delete these lines
 statement|head _ _ - - a remark is written // .. or (* .. *)
+statement CASE _ unlabelled _ a label is missing before it, as in 2:
+statement _ _ stray _ a ':' stands behind a label of the CASE, and none is before this one
 statement _ _ : _ no : stands here; statements begin at once
+statement CASE _ late _ the CASE has its ELSE already, which is its last part
+statement|head _ _ label _ a label stands in a CASE, and none is open here: is CASE .. OF missing above?
+statement|head _ _ loose _ a label stands in a CASE, and none is open here
+statement|head _ _ unnamed _ the name of an instance is missing before it, as in t(IN := a);
+statement _ _ := _ the name of a variable is missing before it, as in n := 1;
+head _ END_VAR := _ the name of a variable is missing before it, as in n := 1;
+statement CASE _ =|<|>|<=|>=|<> int|- a label is a whole number alone, as in 2:, and those from one to another are written 1..3
+statement CASE _ literal : a label is a whole number alone, as in 2:
+statement CASE _ ( int a label has no parentheses, as in 2:
+statement CASE _ TRUE|FALSE : a label is a whole number, as in 2:; an IF asks for TRUE or FALSE
 statement|control|taker|member _ _ KEYWORD :|:=|, it is a keyword, and can't be a name
 statement _ ELSE THEN _ behind ELSE stands no THEN
 statement IF _ ELSE|ELSIF _ the IF has its ELSE already, which is its last part
@@ -75,6 +104,12 @@ statement CASE _ ELSE _ the CASE has its ELSE already, which is its last part
 statement _ titled VAR|VAR_INPUT|VAR_OUTPUT|VAR_EXTERNAL _ no ';' stands behind the name of a unit: it is a statement, and declarations stand above all of these
 statement _ _ VAR|VAR_INPUT|VAR_OUTPUT|VAR_EXTERNAL _ declarations stand above all statements of their unit, and a ';' is one
 statement|begun|head _ _ KIND _ a declaration stands between VAR and END_VAR, as in n : DINT;
+valued _ _ braced _ a call has parentheses, as in t(IN := a);
+valued|taken _ _ parting _ arguments have a ',' between them, and a ';' ends the call
+valued _ int label _ a label of a CASE stands alone, as in 2:
+valued _ int thousands _ an operator is missing between two numbers, or they are one: underscores may part its digits, as in 1_000
+valued _ _ unfinished _ a statement assigns one variable, with one :=, and the one above goes on to here: does it end with a value and a ';'?
+valued SECTION given := _ an instance has no initial values: a call gives them, as in t(PT := T#5s);
 valued _ int . _ there are no REALs: numbers are whole, and only those of a duration may have a point
 valued _ word|output ( _ there are no functions, and a call of an instance stands by itself, as t(IN := a);
 valued _ word|output . _ behind the name of an output stands no point
@@ -90,29 +125,45 @@ value _ _ TO|BY|OF|DO|AT _ it is a keyword, and a value is wanted here
 value _ _ MOD _ a remainder is written between its numbers, as n MOD 2
 value|label _ _ least _ 2147483648 may stand behind a - alone; the greatest DINT is 2147483647
 argument _ _ KEYWORD := it is a keyword, and can't be a name
+argument|argued _ _ element _ an element is written with brackets, as in w[1]
+argued _ _ =|: => an output is taken with =>, as in t(Q => b)
+argued _ _ : > an output is taken with =>, as in t(Q => b)
+argued _ _ - > an output is taken with =>, as in t(Q => b)
+argued _ _ int|literal|TRUE|FALSE|NOT _ a := is missing before it, as in t(IN := a)
+argued _ _ word|- _ behind the name of an argument stands := or =>, as in t(IN := a, Q => b)
 argued _ _ = > an output is taken with =>, without a blank in it, as in t(Q => b)
 argued _ _ : = an input is given with :=, without a blank in it, as in t(IN := a)
-argued _ _ =|: _ an input is given with :=, as in t(IN := a)
+argued _ _ =|: _ an input is given with :=, and an output is taken with =>, as in t(IN := a, Q => b)
 argued _ _ ( _ there are no functions, and an argument is written with its name, as in t(IN := a)
-argued _ _ >=|- _ an output is taken with =>, as in t(Q => b)
+argued _ _ >= _ an output is taken with =>, as in t(Q => b)
 taker _ _ int|literal|TRUE|FALSE|NOT|(|- _ the variable that takes an output stands behind =>, and an input is given with :=
 taken _ _ .|[ _ an output is handed to a variable, which => has behind it alone
 member _ _ ( _ an instance is called by its name alone, as in t(IN := a);
 member _ _ int _ a bit of a number has no name
+member _ _ PART _ behind a '.' stands the name of an output, and a statement ends with a ';'
 member _ _ _ _ the name of an output is missing before it, as in t.Q
-labelled _ _ -|. _ labels from one to another are written 1..3
+labelled _ _ IF|CASE|FOR _ a ':' stands behind a label, as in 2:
+labelled _ _ OR|AND|& _ labels have a ',' between them, as in 1, 2:
+labelled _ _ -|. int|.|- labels from one to another are written 1..3
 controlled _ _ = _ a FOR is written FOR i := 1 TO 8 DO
-addressed _ _ , int the numbers of an address have points between them, as in %QX0.0
-declared|head _ _ -|/|. _ a name has letters, digits and underscores alone
+addressed _ _ ,|. int the numbers of an address have points between them, and no blanks, as in %QX0.0
+declared _ _ . word names have a ',' between them, and no '.' stands in one
+declared _ _ -|/|. _ a name has letters, digits and underscores alone
+head _ word -|/|. _ a name has letters, digits and underscores alone
+declared _ _ block _ a : is missing before the kind
+declared _ block word ;|:= a declaration begins with the name, as in t : TON;
+declared _ _ remark _ words side by side are no declaration; a remark is written // .. or (* .. *)
+declared _ _ call _ a call stands below END_VAR
 declared|addressed _ _ KIND _ a : is missing before the kind
 declared VAR_GLOBAL _ AT _ an address has one global alone, as in pump AT %QX0.0 : BOOL
 declared _ _ AT _ globals alone have addresses
-declared _ _ word :|, a ',' is missing before it, or a name has a blank in it
-declared _ _ word ;|:= a declaration begins with the name, as in n : DINT;
+declared _ _ word :|, names have a ',' between them, and no blank in them
+declared _ _ word ;|:= a declaration is a name, a : and a kind, as in n : DINT;
 declared _ _ address _ AT is missing before it
 declaration|name|declared _ _ KEYWORD :|:=|, it is a keyword, and can't be a name
 declaration _ _ KIND _ a declaration begins with the name, as in n : DINT;
 declaration|kinded|kind _ _ AT|address _ an address stands between the name and the kind, as in pump AT %QX0.0 : BOOL
+kinded _ _ another _ a declaration has one kind
 kinded _ _ = _ an initial value is written :=
 kinded _ _ , _ a declaration ends with a ';'
 kinded _ KIND ( _ there are no subranges: behind a kind stands a ';' or an initial value
@@ -124,15 +175,21 @@ kind _ _ word _ what has an address is a BOOL, a DINT or a TIME
 title _ _ SECTION _ the name of the unit is missing before it
 title _ _ KEYWORD _ it is a keyword, and can't be a name
 declaration|top|behind _ _ - _ a remark is written // .. or (* .. *)
-head _ _ ( _ a unit has no parentheses behind its name
-head _ _ := _ the word before it is the name of the unit: is that missing?
-head _ _ : _ a unit has no kind
+head _ word ( _ a unit has no parentheses behind its name
+head _ word := _ the word before it is the name of the unit: is that missing?
+head _ word : _ no : and no kind stand behind the name of a unit
+head _ _ : _ no : stands here; statements begin at once
 head _ _ VAR_GLOBAL _ globals stand above all blocks and programs of their source, and in none of them
 head PROGRAM _ SECTION _ a PROGRAM has no inputs and no outputs: it reads and assigns globals
+top|behind _ _ program _ PROGRAM and the name of the program are missing before it
+top|behind _ _ block _ FUNCTION_BLOCK and the name of the block are missing before it
+top|behind _ _ program's _ PROGRAM is missing before it
+top|behind _ _ block's _ FUNCTION_BLOCK is missing before it
 behind _ _ ; _ no ';' stands behind the END of a unit
 behind _ _ VAR_GLOBAL _ globals stand above all blocks and programs of their source
 top|behind _ _ SECTION _ outside of blocks and programs variables stand in VAR_GLOBAL, above all of them
 top|behind _ _ IF|CASE|FOR _ statements stand in a PROGRAM or a FUNCTION_BLOCK
+top _ _ word AT VAR_GLOBAL is missing before it
 top|behind _ _ word :=|( statements stand in a PROGRAM or a FUNCTION_BLOCK
 behind _ _ word _ behind the END of a unit stands no name
 _ _ _ address _ an address stands in a declaration of VAR_GLOBAL alone: elsewhere stands the global's name
@@ -185,48 +242,6 @@ valued _ BY an operator or DO is wanted here
 valued _ FOR an operator or TO is wanted here
 valued _ _ an operator or a ';' is wanted here
 ";
-
-/// Whether a comma parts the digits of a number, at a token or before it.
-fn parts_digits(place: TokenPlace<'_>) -> bool {
-    [place, place.previous()].into_iter().any(|comma| {
-        comma.sign() == ","
-            && [comma.before(1), comma.behind(1)] == ["int", "int"]
-            && comma.gap().is_empty()
-            && comma.next().gap().is_empty()
-    })
-}
-
-/// Whether a `;` stands between the name of a unit and a token.
-pub fn is_behind_title(place: TokenPlace<'_>) -> bool {
-    [place.before(1), place.before(2)] == [";", "word"] && fits("UNIT", place.before(3))
-}
-
-/// The sign of the token before another one, as the rules tell it.
-fn told_before(place: TokenPlace<'_>) -> &'static str {
-    let is_compared = place.sign() != "." || fits("KEYWORD|<|>|<=|>=|<>|=", place.behind(2));
-    match (place.before(1), place.before(2)) {
-        ("word", ".") => "output",
-        ("word", "ELSE") if is_compared => "otherwise",
-        _ if is_behind_title(place) => "titled",
-        (sign, _) => sign,
-    }
-}
-
-/// The sign of a token, as the rules tell it.
-fn told_sign(place: TokenPlace<'_>, stand: &str) -> &'static str {
-    let is_index = place.bracket().is_some();
-    let is_least = |token: &Token| token.kind == TokenKind::Integer(2147483648);
-    match (place.sign(), place.head()) {
-        _ if parts_digits(place) && stand != "addressed" && !is_index => "digits",
-        (")", _) if place.parenthesis().is_none() => "unopened)",
-        ("]", _) if !is_index => "unopened]",
-        (",", _) if is_index => "second",
-        ("int", _) if place.tokens.get(place.number).is_some_and(is_least) => "least",
-        (":=", "IF" | "ELSIF") => "condition",
-        (":=", head) if !head.is_empty() => "within",
-        (sign, _) => sign,
-    }
-}
 
 /// What is said of a token where it is too deep; empty of any other one.
 pub fn too_deep(place: TokenPlace<'_>) -> &'static str {

@@ -2,13 +2,14 @@
 
 use crate::grammar::cause_at_token;
 use crate::holes::{Lexed, tokens_with_holes};
-use crate::mend::{Mend, statement_start, way_on};
+use crate::mend::{Mend, way_on};
 use crate::parts::Parts;
-use crate::spelling::misspelled_at;
 use explain_tokens::{Cause, TokenPlace, fits, part, tokens_of};
+use explain_words::{misspelled_at, statement_start};
 use st_lexer::Token;
 use st_parser::{ParseFault, Unit, parse};
 use std::alloc::{AllocError, Global};
+use std::mem::replace;
 
 /// A unit is read at most so often.
 const MOST_READINGS: usize = 40;
@@ -222,6 +223,11 @@ pub fn tell(alloc: Global, text: &[u8], left: Reading) -> Result<Told, AllocErro
     told.read_units(alloc, &lexed)?;
     if lexed.is_cut {
         told.parts.lose();
+    }
+    for cause in replace(&mut told.causes, Vec::new(alloc)) {
+        if !lexed.is_behind_hole(cause.mark) {
+            told.causes.push(cause)?;
+        }
     }
     for hole in lexed.holes.as_slice() {
         told.causes.push(misspelled_at(alloc, text, hole.0)?)?;

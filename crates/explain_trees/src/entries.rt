@@ -116,13 +116,3 @@ pub fn entries_of<'t>(
     }
     Ok(entries)
 }
-
-/// The block or program that has a name for itself, the first in order of text; empty if none has.
-pub fn owner_of<'t>(entries: &[DeclaredName<'t>], name: &str) -> &'t str {
-    for entry in entries {
-        if !entry.owner.is_empty() && entry.is_called(name) {
-            return entry.owner;
-        }
-    }
-    ""
-}

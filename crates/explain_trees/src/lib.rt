@@ -1,5 +1,4 @@
-//! The trees of a plant's sources for those who tell people what is wrong in them: which names there are, where each word stands, and which name is near
-//! another one.
+//! The trees of a plant's sources for those who tell people what is wrong in them: which names there are, and where each word stands.
 //!
 //! `entries_of` lists the names that sources declare, `Trees` finds those that all share, a `Body` has the names of a unit. Where a name is declared twice,
 //! or what it is declared as isn't there, it isn't certain what it is, and they say so; and so where a part of the text can't be read (`Unknown`). `steps_of` lists the statements of a body in order of text. A `Cursor`
@@ -12,11 +11,7 @@
 mod body;
 mod circles;
 mod cursor;
-mod dialects;
 mod entries;
-mod globals;
-mod hints;
-mod members;
 mod steps;
 mod texts;
 mod told;
@@ -26,11 +21,7 @@ mod unknown;
 pub use body::{Body, kind_text};
 pub use circles::leads_back;
 pub use cursor::{Cursor, Sought};
-pub use dialects::type_hint;
 pub use entries::{DeclaredName, Form, entries_of};
-pub use globals::no_bool_global;
-pub use hints::{Wanted, nearest_global, variable_hint};
-pub use members::{Member, members_of, other_use};
 pub use steps::{Step, steps_of};
 pub use texts::filled;
 pub use told::{BrokenRule, Mistake, Told};

@@ -26,6 +26,8 @@ pub struct Trees<'t> {
     pub units: &'t [Unit],
     pub unknown: &'t Unknown,
     pub shared: &'t SharedNames<'t>,
+    /// The alarm database, as it is written.
+    pub alarms: &'t [u8],
     /// The names of no source: it knows the blocks that are there from the start, and no other.
     standard: &'t SharedNames<'t>,
     pub entries: Vec<DeclaredName<'t>>,
@@ -100,12 +102,13 @@ fn is_doubtful(
 }
 
 impl<'t> Trees<'t> {
-    /// The trees of sources with their units, whose names are known.
+    /// The trees of sources with their units, whose names are known, beside an alarm database.
     pub fn new(
         alloc: Global,
         parsed: Parsed<'t>,
         shared: &'t SharedNames<'t>,
         standard: &'t SharedNames<'t>,
+        alarms: &'t [u8],
     ) -> Result<Trees<'t>, AllocError> {
         let mut trees = Trees {
             alloc,
@@ -114,6 +117,7 @@ impl<'t> Trees<'t> {
             unknown: parsed.unknown,
             shared,
             standard,
+            alarms,
             entries: entries_of(alloc, parsed.units)?,
             names: Names::new(alloc),
             firsts: Vec::new(alloc),

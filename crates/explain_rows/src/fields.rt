@@ -1,7 +1,6 @@
 //! The fields of a table of comma-separated values, by their bytes.
 
-use explain_document::Mark;
-use explain_places::mark_len;
+use explain_files::Mark;
 use explain_tokens::part;
 use std::alloc::{AllocError, Global};
 
@@ -23,9 +22,12 @@ fn field_end(text: &[u8], from: usize) -> usize {
     text.len()
 }
 
-/// Where the row begins that stands at a byte, or behind the line ends there.
+/// Where the row begins that stands at a byte, or behind the line ends there; a byte order mark at the text's start is none of it.
 pub fn row_start(text: &[u8], at: usize) -> usize {
-    let from = at.max(mark_len(text));
+    let from = match text {
+        [0xEF, 0xBB, 0xBF, ..] => at.max(3),
+        _ => at,
+    };
     let mut rest = part(text, from, text.len()).iter();
     let more = rest.position(|byte| !matches!(*byte, b'\n' | b'\r'));
     more.map_or(text.len(), |more| from.saturating_add(more))

@@ -1,11 +1,11 @@
 //! The inputs and outputs of blocks.
 
-use crate::texts::filled;
-use crate::trees::Trees;
-use explain_tokens::Nearest;
-use plant_types::Text;
+use crate::slips::{Slips, question_or_nothing};
+use explain_trees::{Trees, filled};
+use plant_types::{Text, same_word};
 use st_names::declared_in;
 use st_parser::SectionKind;
+use st_tree::Argument;
 use std::alloc::AllocError;
 
 /// How a name behind a call's parenthesis or an instance's point is used.
@@ -49,24 +49,59 @@ fn add_members<'t>(
     Ok(())
 }
 
-/// The inputs of a block, or its outputs, each behind a blank, and a question for the one that is nearest to a name.
+/// Whether a call names an input or an output.
+fn is_given(arguments: &[Argument<Text>], name: &str) -> bool {
+    let mut arguments = arguments.iter();
+    arguments.any(|argument| match argument {
+        Argument::Input(word, _) | Argument::Output(word, _) => {
+            same_word(word.as_bytes(), name.as_bytes())
+        }
+    })
+}
+
+/// Whether a word is a long name without one or two letters, as feedbk of feedback.
+fn is_shortened(word: &[u8], name: &[u8]) -> bool {
+    let mut found = 0usize;
+    for letter in name {
+        if let Some(sought) = word.get(found) {
+            if sought.eq_ignore_ascii_case(letter) {
+                found = found.saturating_add(1);
+            }
+        }
+    }
+    let left_out = name.len().saturating_sub(word.len());
+    word.len() > 5 && found == word.len() && matches!(left_out, 1 | 2)
+}
+
+/// The inputs of a block, or its outputs, each behind a blank, and a question for the one that is meant by a name that it hasn't: none that the call with these
+/// arguments names too.
 pub fn members_of<'t>(
     plant: &Trees<'t>,
     word: &Text,
-    name: &'t Text,
-    member: Member,
+    (name, member): (&'t Text, Member),
+    arguments: &[Argument<Text>],
 ) -> Result<(String, String), AllocError> {
     let mut names = Vec::new(plant.alloc);
     add_members(plant, word, member == Member::Given, &mut names)?;
     let mut list = String::new(plant.alloc);
-    let mut nearest = Nearest::to(name.as_str());
-    for name in names {
+    let mut slips = Slips::of(name.as_str());
+    let mut longer = Slips::of(name.as_str());
+    for member in names {
         list.push(' ')?;
-        list.push_str(name)?;
-        nearest.offer(name);
+        list.push_str(member)?;
+        if !is_given(arguments, member) {
+            slips.offer(member);
+        }
+        if is_shortened(name.as_bytes(), member.as_bytes()) {
+            longer.keep(member);
+        }
     }
-    let hint = nearest.hint();
-    let hint = filled(plant.alloc, &[hint.0], "", &[hint.1])?;
+    let meant = match slips.likely() {
+        "" => longer.only(),
+        near => near,
+    };
+    let (hint, words) = question_or_nothing(meant);
+    let hint = filled(plant.alloc, &[hint], "", &words)?;
     Ok((list, hint))
 }
 

@@ -1,12 +1,14 @@
 //! What is wrong in the rows of the alarm database (C11 to C14), as its reader found it.
 
 use crate::fields::{field_of, fields_of_row, last_of, row_start, unquoted};
-use crate::telling::Refused;
+use crate::forms::{form_of, has_quote_behind_digits, in_place_of_name, strange_sign};
+use crate::table::Table;
+use crate::uneven::{are_one_row, joined, why_fewer, why_more, why_none};
 use alarm_db::{Column, RowFault, RowMistake, Version};
-use explain_document::{Mark, WIDE, is_wide, strange_area};
-use explain_places::place_at;
+use explain_document::{WIDE, is_wide, strange_area};
+use explain_files::{Mark, line_number};
+use explain_names::no_bool_global;
 use explain_tokens::part;
-use explain_trees::no_bool_global;
 use st_parser::Unit;
 use std::alloc::AllocError;
 use std::str;
@@ -15,18 +17,17 @@ use std::str;
 const GOES_ON: &str =
     "here double quotes open a field that isn't closed in its line, and so the lines behind it belong to it";
 
-fn form_of(column: Column) -> &'static str {
-    match column {
-        Column::Tag | Column::Area => "has 1 to 32 letters, digits, '_', '-' and '.'",
-        Column::Priority => "is 1, 2, 3 or 4",
-        Column::Condition =>
-            "is the name of a global: a letter or '_', then letters, digits and '_'",
-        Column::Suppress => "is empty, or the name of a global",
-        Column::Latch => "is TRUE or FALSE",
-        Column::MaxShelveMs => "is a number of milliseconds, at most 2592000000, without a unit",
-        Column::OnDelayMs => "is a number of milliseconds, at most 86400000, without a unit",
-        Column::Text => "has at most 200 bytes of UTF-8, without tabs and other signs of control",
-    }
+/// What a header is.
+const HEADER: &str =
+    "the header is tag,area,priority,condition,suppress,latch,max_shelve_ms,text, or the same with on_delay_ms before text";
+
+/// What is said of a row of too few fields, which has the others in the next line.
+const PARTED: &str = "it seems to go on in the next line, and a row is one line";
+
+/// Whether a word says that there is nothing.
+fn is_nothing(word: &str) -> bool {
+    let mut nothings = ["none", "no", "null", "nothing", "never", "off", "n/a"].iter();
+    nothings.any(|nothing| word.eq_ignore_ascii_case(*nothing))
 }
 
 /// Whether bytes are the name of a column, in any letter case and with blanks beside it.
@@ -34,6 +35,32 @@ fn is_column(bytes: &[u8]) -> bool {
     let name = bytes.trim_ascii();
     let mut columns = Version::Second.columns().iter();
     columns.any(|column| name.eq_ignore_ascii_case(column.name().as_bytes()))
+}
+
+/// Whether one of these fields is the name of a column.
+fn names_columns(text: &[u8], fields: &[Mark]) -> bool {
+    let mut names = fields.iter().map(|field| part(text, field.0, field.1));
+    names.any(is_column)
+}
+
+/// Whether these fields are the names of columns and no others, as those of a header.
+fn are_header(text: &[u8], fields: &[Mark]) -> bool {
+    let mut names = fields.iter().map(|field| part(text, field.0, field.1));
+    fields.len() > 1 && names.all(is_column)
+}
+
+/// Why the first row of a table isn't its header, which names no column; these are its fields, and those of the next row.
+fn why_no_header(text: &[u8], fields: &[Mark], next: &[Mark]) -> &'static str {
+    let first = field_of(fields, 0);
+    let bytes = part(text, first.0, first.1);
+    let is_whole = fields.len() == 1 && bytes.starts_with(b"\"") && bytes.contains(&b',');
+    if are_header(text, next) {
+        "the first line is the header, and this one stands before it: leave it out"
+    } else if is_whole && !bytes.contains(&b'\n') {
+        "double quotes stand around the whole line, and so it is one field"
+    } else {
+        "the first line is the header, and the table has none: tag,area,priority,.."
+    }
 }
 
 /// Whether a field of a header is the name of a column; not where there is no such field or column.
@@ -71,7 +98,7 @@ pub fn has_commas_alone(text: &[u8], from: usize) -> bool {
     matches!(other, None | Some(b'\n' | b'\r'))
 }
 
-impl<'t> Refused<'t> {
+impl<'t> Table<'t> {
     /// Tells what is wrong at bytes of the alarm database, as `say` does.
     fn say_at(&mut self, mark: Mark, text: &str, words: &[&str]) -> Result<(), AllocError> {
         self.say(Some(mark), text, words)
@@ -96,7 +123,7 @@ impl<'t> Refused<'t> {
             let lacks = !is_extra && are_moved && names(all, Some(field), columns.get(next));
             if !is_right {
                 let text =
-                    "the header has '%' in this place, in small letters, and commas without blanks between its names";
+                    "the header has '%' in this place, as each row has it, in small letters, and commas without blanks between its names";
                 self.say_at(*field, text, &[column.name()])?;
             }
             number = number.saturating_add(usize::from(is_right || !lacks));
@@ -105,9 +132,13 @@ impl<'t> Refused<'t> {
         if number >= fields.len() && place >= columns.len() {
             return Ok(());
         }
-        let text =
-            "the header is tag,area,priority,condition,suppress,latch,max_shelve_ms,text, or the same with on_delay_ms before text, and nothing more or less";
-        self.say_at(last_of(fields), text, &[])
+        match columns.get(place) {
+            Some(column) if number >= fields.len() => {
+                let text = "behind this '%' is missing: %";
+                self.say_at(last_of(fields), text, &[column.name(), HEADER])
+            }
+            _ => self.say_at(last_of(fields), "%, and nothing more or less", &[HEADER]),
+        }
     }
 
     /// Tells why the first record isn't the header.
@@ -128,12 +159,23 @@ impl<'t> Refused<'t> {
                 "the header has % between its names, and commas are wanted: a spreadsheet may write either";
             return self.say_at(first, text, &[*signs]);
         }
-        let mut names = fields.iter().map(|field| part(all, field.0, field.1));
-        if !names.any(is_column) {
-            let text = "the first line is the header, and the table has none: tag,area,priority,..";
-            return self.say_at(first, text, &[]);
+        if !names_columns(all, fields) {
+            let next = fields_of_row(self.alloc, all, last_of(fields).1)?;
+            return self.say_at(first, why_no_header(all, fields, next.as_slice()), &[]);
         }
         self.misnamed(fields)
+    }
+
+    /// Whether a row of too few fields seems to go on in the next line: then nothing is told of that one.
+    fn is_parted(&mut self, fields: &[Mark], wanted: usize) -> Result<bool, AllocError> {
+        let next = fields_of_row(self.alloc, self.alarms, last_of(fields).1)?;
+        let both = joined(self.alloc, fields, next.as_slice())?;
+        let are_short = fields.len() < wanted && next.len() < wanted;
+        let is_parted = are_short && are_one_row(self.alarms, both.as_slice(), wanted);
+        if is_parted {
+            self.goes_on = field_of(next.as_slice(), 0).0;
+        }
+        Ok(is_parted)
     }
 
     /// Tells of a row that hasn't as many fields as are wanted.
@@ -142,19 +184,35 @@ impl<'t> Refused<'t> {
         if let Some(first) = fields.iter().find_map(|field| first_line(all, *field)) {
             return self.say_at(first, GOES_ON, &[]);
         }
-        let text = match part(all, last.0, last.1).trim_ascii_start() {
-            [] if count == 1 =>
-                "this line has blanks alone, and so it is a row: leave it empty, or leave it out",
-            [b'#', ..] if count == 1 => "the table has no remarks: each line is a row",
-            _ if count > wanted && last.0 == last.1 =>
+        if let Some(text) = why_none(all, fields, wanted) {
+            return self.say_at(field_of(fields, 0), text, &[]);
+        }
+        if field_of(fields, 0).0 == self.goes_on {
+            return Ok(());
+        }
+        let (mut mark, mut why) = (last, "");
+        let found = if self.is_parted(fields, wanted)? {
+            Some((last, PARTED))
+        } else if count <= wanted {
+            why_fewer(all, fields, wanted)
+        } else {
+            why_more(all, fields, wanted)
+        };
+        let text = match found {
+            Some((place, said)) => {
+                mark = place;
+                why = said;
+                "this row has % fields, and % are wanted: %"
+            }
+            None if count <= wanted =>
+                "fields of this row: %, and % are wanted (a field or a comma left out, or a tab or a ';' in its place?)",
+            None if last.0 == last.1 =>
                 "this row has % fields, and % are wanted: its line ends with a comma too many",
-            _ if count > wanted =>
-                "this row has % fields, and % are wanted (a text with a comma stands in double quotes)",
-            _ =>
-                "fields of this row: %, and % are wanted (a comma left out, or a tab or a ';' in its place?)",
+            None =>
+                "this row has % fields, and % are wanted: a comma is too many, or a field with a comma isn't in double quotes",
         };
         let (count, wanted) = (count.to_string(self.alloc)?, wanted.to_string(self.alloc)?);
-        self.say_at(last, text, &[count.as_str(), wanted.as_str()])
+        self.say_at(mark, text, &[count.as_str(), wanted.as_str(), why])
     }
 
     fn malformed(&mut self, field: Mark, column: Column) -> Result<(), AllocError> {
@@ -171,17 +229,66 @@ impl<'t> Refused<'t> {
             let text = "this line has commas alone, and so it is a row: leave it out";
             return self.say_at(field, text, &[]);
         }
+        self.formless(field, column)
+    }
+
+    /// Tells of a field in one line, which hasn't the form of its column.
+    fn formless(&mut self, field: Mark, column: Column) -> Result<(), AllocError> {
+        let all = self.alarms;
         let bytes = unquoted(all, field);
         let len = bytes.len().to_string(self.alloc)?;
-        let text = if matches!(column, Column::Text) && bytes.len() > 200 {
+        let is_number = matches!(column, Column::MaxShelveMs | Column::OnDelayMs);
+        let most = match column {
+            Column::Text => 200,
+            Column::Tag | Column::Area => 32,
+            _ => usize::MAX,
+        };
+        let text = if bytes.len() > most {
             "% %, and this one has %"
+        } else if bytes.is_empty() {
+            "% %, and this field is empty"
         } else if bytes.trim_ascii().len() < bytes.len() {
             "% %, and no blanks stand beside it"
+        } else if is_number && has_quote_behind_digits(bytes) {
+            "% %: a comma is missing before the double quote"
+        } else if matches!(column, Column::Condition | Column::Suppress) {
+            in_place_of_name(bytes)
         } else {
             "% %"
         };
-        let words = [column.name(), form_of(column), len.as_str()];
-        self.say_at(field, text, &words)
+        if text == "% %" {
+            if let Some((sign, called)) = strange_sign(all, field, column) {
+                return self.strange(sign, column, called);
+            }
+        }
+        self.say_at(field, text, &[column.name(), form_of(column), len.as_str()])
+    }
+
+    /// Tells of a sign that stands in no right field of a column.
+    fn strange(
+        &mut self,
+        sign: Mark,
+        column: Column,
+        called: &'static str,
+    ) -> Result<(), AllocError> {
+        let text = "% %, and here stands %";
+        self.say_at(sign, text, &[column.name(), form_of(column), called])
+    }
+
+    /// Tells of a field with the name of an area that the plant hasn't, or of what is no BOOL global of its units.
+    fn unknown(&mut self, units: &[Unit], field: Mark, column: Column) -> Result<(), AllocError> {
+        let name = str::from_utf8(unquoted(self.alarms, field)).unwrap_or("");
+        let said = match column {
+            Column::Area => strange_area(self.alloc, self.plant, name)?,
+            _ => no_bool_global(self.alloc, units, name)?,
+        };
+        let is_free = matches!(column, Column::Suppress) && is_nothing(name);
+        if is_free && said.as_str().starts_with("no BOOL global is called") {
+            let text =
+                "no BOOL global is called '%'; where nothing suppresses the alarm the field is empty";
+            return self.say_at(field, text, &[name]);
+        }
+        self.say_at(field, "%", &[said.as_str()])
     }
 
     /// Tells of a mistake in a row of a plant of units.
@@ -190,23 +297,23 @@ impl<'t> Refused<'t> {
         let fields = fields_of_row(alloc, all, wrong.at)?;
         let field = field_of(fields.as_slice(), wrong.field.unwrap_or(0));
         let name = str::from_utf8(unquoted(all, field)).unwrap_or("");
+        let is_second = are_header(all, fields.as_slice());
         match wrong.fault {
             RowFault::NoHeader => self.misheaded(fields.as_slice()),
             RowFault::Uneven { wanted, .. } => self.uneven(fields.as_slice(), wanted),
+            RowFault::Form(Column::Priority) if is_second => {
+                let first = field_of(fields.as_slice(), 0);
+                self.say_at(first, "the header stands here a second time", &[])
+            }
+            _ if is_second => Ok(()),
             RowFault::Form(column) => self.malformed(field, column),
             RowFault::Again { first } => {
-                let line = place_at(all, row_start(all, first)).line.to_string(alloc)?;
+                let line = line_number(all, row_start(all, first)).to_string(alloc)?;
                 let text = "the tag '%' stands in line % already";
                 let words = [name, line.as_str()];
                 self.say_at(field, text, &words)
             }
-            RowFault::Unknown(column) => {
-                let said = match column {
-                    Column::Area => strange_area(alloc, self.plant, name)?,
-                    _ => no_bool_global(alloc, units, name)?,
-                };
-                self.say_at(field, "%", &[said.as_str()])
-            }
+            RowFault::Unknown(column) => self.unknown(units, field, column),
         }
     }
 }

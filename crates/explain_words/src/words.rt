@@ -1,8 +1,11 @@
 //! Words that are written otherwise here: those of other dialects, and words that are nearly a keyword (C5).
 
-use crate::grammar::GRAMMAR;
+use crate::around::{closed_in, is_right_side, is_variable};
 use explain_tokens::{TokenPlace, closing_of, fits, part, said_of, within_one};
 use plant_types::same_word;
+
+/// Where the grammar stands.
+pub const GRAMMAR: &str = "docs/LANGUAGE.md, \"Grammar\"";
 
 /// Where it stands what of the standard isn't there.
 const STANDARD: &str = "docs/LANGUAGE.md, \"What of IEC 61131-3 is here\"";
@@ -48,6 +51,7 @@ ENDFOR END_FOR is written END_FOR
 NEXT _ isn't part of the language: a FOR ends with END_FOR
 SWITCH _ is written CASE n OF
 WHEN _ isn't part of the language: IF and CASE choose
+OTHERWISE ELSE is written ELSE
 DEFAULT|OTHERS part isn't part of the language: the last part of a CASE is ELSE, without a :
 END _ is no keyword: END_IF, END_CASE, END_FOR, END_VAR and END_PROGRAM are one word each
 FUNCTION _ isn't part of the language: a FUNCTION_BLOCK with an output does the same
@@ -59,7 +63,7 @@ TYPE|STRUCT|UNION|END_TYPE|END_STRUCT _ isn't part of the language: its kinds ar
 NAMESPACE|USING|IMPORT|LIBRARY _ isn't part of the language: all sources of a plant share their globals and blocks
 METHOD|PROPERTY|ACTION|EXTENDS|IMPLEMENTS|PUBLIC _ isn't part of the language: a FUNCTION_BLOCK has variables and one body
 PRIVATE|PROTECTED|INTERNAL|FINAL|CLASS|ABSTRACT|INTERFACE _ isn't part of the language: a FUNCTION_BLOCK has variables and one body
-BEGIN skip isn't part of the language: statements begin behind the last END_VAR, and a remark may part them
+BEGIN skip isn't part of the language: statements begin behind END_VAR, and those of an IF or a FOR behind THEN, ELSE or DO
 REGION|END_REGION _ isn't part of the language: statements begin behind the last END_VAR, and a remark may part them
 CONSTANT _ isn't part of the language: a variable that nothing assigns keeps its initial value
 RETAIN|NON_RETAIN|PERSISTENT _ isn't part of the language: a variable keeps its value from scan to scan, and none beyond a run
@@ -100,26 +104,88 @@ fn said_at(site: &str, word: &str, is_first: bool) -> &'static str {
     }
 }
 
-/// The word of another dialect that a token is; `None` where it is none.
-fn foreign(place: TokenPlace<'_>) -> Option<Misnomer<'_>> {
-    let (word, behind, stand) = (place.word(), place.behind(1), place.stand());
-    let is_name = fits(":=|=|.", behind);
-    let site = match stand {
+/// Words of other dialects that are hardly names, so that one is no variable which lacks the := behind it.
+const UNNAMED: &str =
+    "WHILE|REPEAT|EXIT|CONTINUE|RETURN|GOTO|JMP|ELSEIF|ELIF|ENDIF|ENDCASE|ENDFOR|OTHERWISE|VAR_TEMP|VAR_IN_OUT";
+
+/// Whether a word may be a variable, perhaps of another source, by what follows it: behind a value no value, at the beginning of a statement the right side of
+/// an assignment or an operator, and in a declaration a kind.
+fn may_be_name(place: TokenPlace<'_>, site: &str, stand: &str) -> bool {
+    let (behind, next) = (place.behind(1), place.next());
+    match (site, stand) {
+        ("operator", _) => !fits("word|int|literal|TRUE|FALSE|NOT|(|[|-", behind),
+        ("unit", _) => fits("KIND|ARRAY", place.behind(2)) || fits(";|:=", place.behind(3)),
+        (_, "declaration") => {
+            fits("KIND|ARRAY|,|:", behind) || behind == "word" && fits(";|:=", place.behind(2))
+        }
+        (_, "statement") if fits("NEXT", place.word()) => !closed_in(place, "END_FOR").is_lt(),
+        (_, "head" | "statement" | "label") => {
+            let is_operand = fits("THEN|AND|OR|XOR|MOD|=|<|>|<=|>=|<>|+|-|*|/|&|[", behind);
+            !fits(UNNAMED, place.word()) && (is_operand || is_right_side(next))
+        }
+        _ => false,
+    }
+}
+
+/// Where a word stands that may be one of another dialect, as the tables tell it.
+fn site_of(place: TokenPlace<'_>, stand: &str) -> &'static str {
+    let behind = place.behind(1);
+    match stand {
         "kind" => "kind",
         "head" if fits(":|=", behind) => "unit",
-        "valued" | "assigned" | "controlled" if is_name => "",
+        "valued" | "assigned" | "controlled" if fits(":=|=>|.", behind) => "",
         "valued" if fits("int|literal", place.before(1)) => "number",
         "valued" | "assigned" | "controlled" => "operator",
         _ if same_word(place.next().word().as_bytes(), b"BLOCK") => "pair",
         _ => "",
-    };
-    let is_first = fits("top|behind|head|declaration|statement|label", stand) && !is_name;
-    let (way, said) = said_at(site, word, is_first).split_once(" ")?;
-    Some((place, way, (said, "", ""), STANDARD))
+    }
 }
 
-/// The keyword that a word nearly is, but for one letter that isn't its first, or two that changed places: no assignment, no call, no declaration and no output
-/// goes on with that. `None` where it is none.
+/// The word of another dialect that a token is; `None` where it is none.
+fn foreign(place: TokenPlace<'_>) -> Option<Misnomer<'_>> {
+    let (word, stand) = (place.word(), place.stand());
+    let site = site_of(place, stand);
+    let is_first = fits("top|behind|head|declaration|statement|label", stand)
+        && !fits(":=|=>|.", place.behind(1));
+    let (way, said) = said_at(site, word, is_first).split_once(" ")?;
+    let is_told = !may_be_name(place, site, stand);
+    is_told.then_some((place, way, (said, "", ""), STANDARD))
+}
+
+/// Whether a word begins a declaration, with its name or names behind it, or a section whose keyword is misspelled.
+fn begins_names(place: TokenPlace<'_>) -> bool {
+    place.behind(1) == "word" && fits(":|,|AT", place.behind(2))
+}
+
+/// Whether a keyword that closes something may stand where a word does, by what follows that.
+fn may_close(place: TokenPlace<'_>) -> bool {
+    let behind = place.behind(1);
+    let is_value = fits("NOT|TRUE|FALSE|KIND|ARRAY", behind);
+    let goes_on = behind == "word" && fits(":=|(|[|.", place.behind(2));
+    let is_last = behind == "." && place.behind(2) != "word";
+    goes_on || is_last || fits("none|;|KEYWORD", behind) && !is_value
+}
+
+/// Whether a keyword may stand where a word does, by what follows that.
+fn may_stand(place: TokenPlace<'_>, keyword: &str) -> bool {
+    let (behind, end) = (place.behind(1), place.next().ahead(";|OF|OUTER").sign());
+    match keyword {
+        "THEN" => fits("IF|ELSIF", place.head()) && fits("word|;|PART", behind),
+        "AND" | "XOR" | "MOD" => fits("word|int|literal|TRUE|FALSE|NOT|(|-", behind),
+        "IF" | "ELSIF" => end == "THEN",
+        "CASE" => end == "OF",
+        "FOR" => end == "TO",
+        "ELSE" => behind == "word" && fits(":=|(|[", place.behind(2))
+            || fits("IF|CASE|FOR", behind),
+        "PROGRAM" | "FUNCTION_BLOCK" => behind == "word",
+        "VAR" | "VAR_INPUT" | "VAR_OUTPUT" | "VAR_EXTERNAL" | "VAR_GLOBAL" => {
+            begins_names(place) || behind == "END_VAR"
+        }
+        _ => may_close(place),
+    }
+}
+
+/// The keyword that a word nearly is, but for one letter that isn't its first, or two that changed places, and which goes on as that does. `None` where it is none.
 fn meant(place: TokenPlace<'_>) -> Option<Misnomer<'_>> {
     let word = place.word().as_bytes();
     let mut keywords = said_of(KEYWORDS, &[place.stand()]).split(" ");
@@ -127,14 +193,9 @@ fn meant(place: TokenPlace<'_>) -> Option<Misnomer<'_>> {
         let (first, other) = (part(word, 0, 1), part(keyword.as_bytes(), 0, 1));
         same_word(first, other) && within_one(word, keyword.as_bytes())
     })?;
-    let may_be = match place.behind(1) {
-        ";" => keyword.starts_with("END") || keyword == "THEN",
-        "(" => keyword.len() < 5,
-        behind => fits("none|word|int|literal|address|KEYWORD", behind),
-    };
     let said = ("is no keyword; did you mean ", keyword, "?");
     let is_word = place.sign() == "word" && word.len() > 2;
-    (may_be && is_word).then_some((place, keyword, said, GRAMMAR))
+    (is_word && may_stand(place, keyword)).then_some((place, keyword, said, GRAMMAR))
 }
 
 /// The keyword that closes what is open, where a word begins as those do that close something; `None` where it doesn't.
@@ -142,18 +203,34 @@ fn closing(place: TokenPlace<'_>) -> Option<Misnomer<'_>> {
     let is_end = same_word(part(place.word().as_bytes(), 0, 3), b"END") && place.sign() == "word";
     let keyword = closing_of(place.opener());
     let said = ("is no keyword: ", keyword, " closes what is open here");
-    let may_end = fits("statement|declaration", place.stand());
+    let may_end = fits("statement|declaration", place.stand()) && may_close(place);
     (is_end && may_end).then_some((place, keyword, said, GRAMMAR))
 }
 
-/// The word by which a token can't be there, that one or the one before it; behind the last token one that is meant to close what is open.
+/// What is said of a word that begins as those do that open a section, where declarations follow it; `None` of any other.
+fn section(place: TokenPlace<'_>) -> Option<Misnomer<'_>> {
+    let is_var = same_word(part(place.word().as_bytes(), 0, 4), b"VAR_") && place.sign() == "word";
+    let may_open = fits("top|behind|head|declaration|statement", place.stand());
+    let said = (
+        "opens no section: VAR, VAR_INPUT, VAR_OUTPUT, VAR_EXTERNAL and VAR_GLOBAL do",
+        "",
+        "",
+    );
+    (is_var && may_open && begins_names(place)).then_some((place, "_", said, GRAMMAR))
+}
+
+/// The word by which a token can't be there, that one or the one before it, unless it is a name that is declared; behind the last token one that is meant to close what is open.
 pub fn misnomer(place: TokenPlace<'_>) -> Option<Misnomer<'_>> {
-    let both = [place, place.previous()];
-    let closing = both.into_iter().find_map(closing);
+    let words = || {
+        let both = [place, place.previous()];
+        both.into_iter().filter(|word| !is_variable(*word))
+    };
+    let closing = words().find_map(closing);
     if place.number >= place.tokens.len() {
         return closing;
     }
-    let foreign = both.into_iter().find_map(foreign);
-    let meant = both.into_iter().find_map(meant);
-    foreign.or(meant).or(closing)
+    let foreign = words().find_map(foreign);
+    let meant = words().find_map(meant);
+    let section = words().find_map(section);
+    foreign.or(meant).or(section).or(closing)
 }

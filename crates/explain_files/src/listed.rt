@@ -30,6 +30,8 @@ pub struct Listed {
     pub sources: Vec<ListedFile>,
     /// Whether these are all.
     pub are_all: bool,
+    /// Whether they stand in a list.
+    pub is_list: bool,
     /// The alarm database; `None` where it isn't certain which that is.
     pub alarms: Option<ListedFile>,
 }
@@ -55,7 +57,7 @@ fn blanks(bytes: &[u8]) -> usize {
 }
 
 /// The key with which a line begins, and the number of the byte behind its sign.
-pub(crate) fn key_of(line: &[u8]) -> Option<(&[u8], usize)> {
+pub fn key_of(line: &[u8]) -> Option<(&[u8], usize)> {
     let from = blanks(line);
     let word = part(line, from, line.len());
     let len = word.iter().take_while(|byte| is_bare(**byte)).count();
@@ -101,6 +103,15 @@ fn quoted_at(text: &[u8], at: usize) -> Option<Mark> {
     (text.get(end) == Some(&quote)).then_some((at, end.saturating_add(1)))
 }
 
+/// Whether a list that is closed before a byte may go on all the same: something stands behind it in its line, or the next line begins with a text.
+fn goes_on(text: &[u8], at: usize) -> bool {
+    let mut lines = part(text, at, text.len()).split(|byte| *byte == b'\n');
+    let rest = lines.next().unwrap_or(b"").trim_ascii_start();
+    let next = lines.next().unwrap_or(b"").trim_ascii_start();
+    let is_item = matches!(next, [b'"' | b'\'', ..] | [b'[', b'"' | b'\'', ..]);
+    !matches!(rest, [] | [b'#', ..]) || is_item
+}
+
 /// The name in quotes at these bytes; `None` where it is none of a file.
 fn name_at(alloc: Global, text: &[u8], mark: Mark) -> Result<Option<String>, AllocError> {
     let quoted = str::from_utf8(part(text, mark.0, mark.1)).unwrap_or("");
@@ -133,6 +144,7 @@ impl Listed {
         let blanks = blanks(part(text, at, text.len()));
         let mut next = at.saturating_add(blanks);
         let mut is_whole = text.get(next) == Some(&b'[');
+        self.is_list = is_whole;
         next = next.saturating_add(usize::from(is_whole));
         for _ in 0..MOST_SOURCES.saturating_add(1) {
             next = next.saturating_add(parted(part(text, next, text.len())));
@@ -145,7 +157,8 @@ impl Listed {
             }
             next = mark.1;
         }
-        self.are_all = is_whole && text.get(next) == Some(&b']');
+        let is_closed = is_whole && text.get(next) == Some(&b']');
+        self.are_all = is_closed && !goes_on(text, next.saturating_add(1));
         Ok(())
     }
 }
@@ -175,6 +188,7 @@ pub fn files_listed(alloc: Global, plant: &[u8]) -> Result<Listed, AllocError> {
         is_document: is_document(alloc, plant)?,
         sources: Vec::new(alloc),
         are_all: false,
+        is_list: false,
         alarms: None,
     };
     if let Some(at) = value_of(plant, b"sources") {

@@ -1,7 +1,8 @@
 //! The files of a plant that is refused before they are read, for what is wrong in them.
 
 use crate::keys::Mark;
-use crate::listed::{ListedFile, files_listed};
+use crate::listed::{Listed, ListedFile, files_listed};
+use crate::meant::names_near;
 use std::alloc::{AllocError, Global};
 use std::path::Path;
 
@@ -30,6 +31,8 @@ pub struct MissingFile {
     pub name: String,
     pub path: String,
     pub mark: Mark,
+    /// The name of another file, which is there, and that may be meant; empty where there is none.
+    pub meant: String,
 }
 
 /// The files that a plant file lists, as far as it can be read, whether or not it is right.
@@ -52,6 +55,33 @@ fn beside(alloc: Global, plant_path: &str, name: &str) -> Result<String, AllocEr
     Ok(path.into_string())
 }
 
+/// Whether a plant file lists a name.
+fn lists(listed: &Listed, name: &str) -> bool {
+    let (mut sources, mut alarms) = (listed.sources.iter(), listed.alarms.iter());
+    sources.any(|file| file.name.as_str() == name) || alarms.any(|file| file.name.as_str() == name)
+}
+
+/// The name of a file on a shelf that one may be meant as which isn't there, and that isn't listed; empty where there is none.
+fn meant_by<S: Shelf>(
+    alloc: Global,
+    (shelf, plant_path): (&S, &str),
+    listed: &Listed,
+    name: &str,
+) -> Result<String, AllocError> {
+    for near in names_near(alloc, name)? {
+        let path = beside(alloc, plant_path, near.as_str())?;
+        let is_new = !near.as_str().is_empty() && !lists(listed, near.as_str());
+        if !is_new {
+            continue;
+        }
+        if let Shelved::Text(text) = shelf.text(alloc, path.as_str())? {
+            drop(text);
+            return Ok(near);
+        }
+    }
+    Ok(String::new(alloc))
+}
+
 impl Gathered {
     /// The text of a file that is listed; where there is none, that is noted.
     fn text_of<S: Shelf>(
@@ -66,7 +96,13 @@ impl Gathered {
             Shelved::Text(text) => Ok(Some(text)),
             Shelved::Missing if self.is_document => {
                 let (name, mark) = (String::from_str(alloc, name)?, file.mark);
-                self.missing.push(MissingFile { name, path, mark })?;
+                let meant = String::new(alloc);
+                self.missing.push(MissingFile {
+                    name,
+                    path,
+                    mark,
+                    meant,
+                })?;
                 Ok(None)
             }
             Shelved::Missing | Shelved::Unread => Ok(None),
@@ -113,8 +149,14 @@ impl Gathered {
             is_document: listed.is_document,
         };
         gathered.add_sources(alloc, place, listed.sources.as_slice())?;
+        if !listed.is_list {
+            gathered.missing.clear();
+        }
         if let Some(file) = &listed.alarms {
             gathered.alarms = gathered.text_of(alloc, place, file)?;
+        }
+        for missing in gathered.missing.as_mut_slice() {
+            missing.meant = meant_by(alloc, place, &listed, missing.name.as_str())?;
         }
         Ok(gathered)
     }

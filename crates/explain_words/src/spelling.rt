@@ -14,7 +14,7 @@ const MARKS: &str = "\
 /* a comment begins here, and no */ ends it
 \" texts in quotes aren't part of the language
 ' texts in quotes aren't part of the language
-{ braces aren't part of the language: there are no pragmas, and words as THEN and END_IF enclose statements
+{ braces aren't part of the language: there are no pragmas, words as THEN and END_IF enclose statements, and a remark is written // .. or (* .. *)
 } braces aren't part of the language: there are no pragmas, and words as THEN and END_IF enclose statements
 % this is no address: one is written as %IX0.0, %QD4 or %M*; a remainder is n MOD 2
 !-- a remark is written // .. or (* .. *)
@@ -50,6 +50,18 @@ pub fn run_len(bytes: &[u8]) -> usize {
         .count()
 }
 
+/// How many bytes stand behind the first one in its line and before the next mark there.
+pub fn quoted_len(bytes: &[u8], mark: u8) -> usize {
+    let inside = part(bytes, 1, bytes.len());
+    let is_inside = |byte: &u8| *byte != mark && *byte != b'\n';
+    inside.iter().take_while(|byte| is_inside(*byte)).count()
+}
+
+/// Whether a quote that bytes begin with is closed in its line.
+fn is_quoted(bytes: &[u8], mark: u8) -> bool {
+    bytes.get(quoted_len(bytes, mark).saturating_add(1)) == Some(&mark)
+}
+
 /// The character that bytes begin with; empty where they begin with none.
 pub fn first_character(bytes: &[u8]) -> &str {
     let mut lengths = 1..5;
@@ -62,24 +74,44 @@ fn is_unit(letters: &[u8]) -> bool {
     fits("d|h|m|s|ms", str::from_utf8(letters).unwrap_or(""))
 }
 
-/// Why a duration isn't allowed, by what stands behind its `#` and the byte behind all that.
-fn duration_fault(parts: &[u8], behind: Option<&u8>) -> &'static str {
+/// Whether a number of a duration has a point, and another number follows it.
+fn has_early_point(parts: &[u8]) -> bool {
+    let mut behind = parts
+        .iter()
+        .skip_while(|byte| **byte != b'.')
+        .skip_while(|byte| !byte.is_ascii_alphabetic());
+    behind.any(|byte| byte.is_ascii_digit())
+}
+
+/// Whether bytes begin with a blank and a unit of time.
+fn has_unit_apart(bytes: &[u8]) -> bool {
+    let word = part(bytes, 1, bytes.len());
+    let len = word.iter().take_while(|byte| is_name_byte(**byte)).count();
+    bytes.starts_with(b" ") && is_unit(part(word, 0, len))
+}
+
+/// Why a duration isn't allowed, by what stands behind its `#` and the bytes behind all that.
+fn duration_fault(parts: &[u8], behind: &[u8]) -> &'static str {
     let mut words = parts.split(|byte| !byte.is_ascii_alphabetic());
     match parts {
         [] => "' is no duration: right behind the # stand numbers and their units, as in T#1m30s",
         _ if words.any(|word| !word.is_empty() && !is_unit(word)) =>
             "' is no duration: its units are d, h, m, s and ms, as in T#1m30s",
-        [.., b'0'..=b'9'] if behind == Some(&b',') =>
+        [.., b'0'..=b'9'] if matches!(behind, [b',', b'0'..=b'9', ..]) =>
             "' is no duration: its decimals stand behind a point, as in T#1.5s",
+        [.., b'0'..=b'9'] if has_unit_apart(behind) =>
+            "' is no duration: no blank stands before a unit, as in T#1m30s",
         [.., b'0'..=b'9'] =>
             "' is no duration: behind each of its numbers stands a unit, d, h, m, s or ms, as in T#1m30s",
+        _ if has_early_point(parts) =>
+            "' is no duration: only the last of its numbers may have a point, as in T#1m30.5s",
         _ =>
             "' is no duration: its parts come in the order d, h, m, s, ms, each once, and it is a whole number of milliseconds",
     }
 }
 
-/// Why a word with a `#` isn't allowed, by the byte behind it.
-fn literal_fault(word: &str, behind: Option<&u8>) -> &'static str {
+/// Why a word with a `#` isn't allowed, by the bytes behind it.
+fn literal_fault(word: &str, behind: &[u8]) -> &'static str {
     match word.split_once("#") {
         None => "' is no word: it has letters, digits and underscores",
         Some((prefix, parts)) if fits("T|TIME", prefix) => duration_fault(parts.as_bytes(), behind),
@@ -161,6 +193,14 @@ fn mark_fault(bytes: &[u8]) -> &'static str {
     }
 }
 
+/// Whether a line has more than blanks from bytes on.
+fn goes_on(bytes: &[u8]) -> bool {
+    let mut blanks = bytes
+        .iter()
+        .skip_while(|byte| matches!(**byte, b' ' | b'\t' | b'\r'));
+    blanks.next().is_some_and(|byte| *byte != b'\n')
+}
+
 /// What is said of bytes that begin with another one than a letter or a digit, behind others.
 fn other_fault(before: &[u8], bytes: &[u8]) -> &'static str {
     match (before, bytes) {
@@ -170,15 +210,22 @@ fn other_fault(before: &[u8], bytes: &[u8]) -> &'static str {
         ([.., b'0'..=b'9'], [b'\'', b'0'..=b'9', ..]) =>
             "no ' stands in a number: underscores may part its digits, as in 1_000",
         (_, [b'"', ..]) if quotes_name(before, bytes) => "a name stands without quotes here",
+        (_, [mark @ (b'\'' | b'"'), ..]) if !is_quoted(bytes, *mark) =>
+            "texts in quotes aren't part of the language, and this quote isn't closed in its line; a remark is written // .. or (* .. *)",
         ([.., b'.'], [b'%', ..]) => "a bit of a number has no name",
         (_, [b'%', next, ..]) if *next != b' ' =>
             "this is no address: one is written as %IX0.0, %QD4 or %M*",
         (_, [b'$', next, ..]) if next.is_ascii_hexdigit() =>
             "a number to the base 16 is written 16#FF",
+        (_, bytes) if bytes.starts_with(b"#include") =>
+            "there is no #include: 'sources' in plant.toml lists the sources",
         (_, [b'#', b'0'..=b'9', ..]) =>
             "a # stands inside of literals, without blanks, as in T#5s or 16#FF; a remark is written // .. or (* .. *)",
         (_, [b'#', next, ..]) if is_name_byte(*next) =>
             "no # stands before a name or a word; a remark is written // .. or (* .. *)",
+        (_, [b'\\', b'\\', ..]) => "a remark is written // .. or (* .. *)",
+        (_, [b'\\', rest @ ..]) if goes_on(rest) =>
+            "a quotient is written with /, as in n / 2, and a remark // .. or (* .. *)",
         _ => mark_fault(bytes),
     }
 }
@@ -190,7 +237,10 @@ pub fn misspelled_at(alloc: Global, text: &[u8], at: usize) -> Result<Cause, All
     let word = str::from_utf8(part(text, at, until)).unwrap_or("");
     let why = match bytes {
         [b'0'..=b'9', ..] => number_fault(word.as_bytes()),
-        [b'a'..=b'z' | b'A'..=b'Z' | b'_', ..] => literal_fault(word, text.get(until)),
+        [b'a'..=b'z' | b'A'..=b'Z' | b'_', ..] => literal_fault(
+            word,
+            part(text, until, text.len()),
+        ),
         _ => {
             let said = String::from_str(alloc, other_fault(part(text, 0, at), bytes))?;
             let until = at.saturating_add(bytes.len().min(1));

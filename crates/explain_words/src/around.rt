@@ -1,0 +1,235 @@
+//! What stands around a token with which no source can go on: whether it is a label, a name that is declared, or behind something that isn't closed.
+
+use explain_tokens::{TokenPlace, closing_of, fits, sign_of};
+use plant_types::same_word;
+use std::cmp::Ordering;
+
+/// So many uses of a word are looked at for its declaration.
+const MOST_USES: usize = 64;
+
+/// The number of the first token of the declaration, or behind the labels before it of the statement, in which a token stands.
+pub fn statement_start(place: TokenPlace<'_>) -> usize {
+    let ends = if place.is_declared() {
+        ";|SECTION"
+    } else {
+        ";|:|THEN|DO|ELSE|OF|CLOSING|UNIT"
+    };
+    match place.open(ends, "", "") {
+        Some(end) if fits("UNIT", end.sign()) => end.number.saturating_add(2).min(place.number),
+        Some(end) => end.next().number,
+        None => 0,
+    }
+}
+
+/// The first keyword from a token on with which something else begins or ends, or the first `;`; else the place behind the last token.
+pub fn next_end(place: TokenPlace<'_>) -> TokenPlace<'_> {
+    place.ahead(if place.is_declared() {
+        ";|OUTER"
+    } else {
+        ";|OF|OUTER"
+    })
+}
+
+/// Whether a label of a CASE begins at a token.
+pub fn is_label(place: TokenPlace<'_>) -> bool {
+    let number = if place.sign() == "-" {
+        place.next()
+    } else {
+        place
+    };
+    number.sign() == "int" && fits(":|,|..", number.behind(1))
+}
+
+/// Whether a CASE is open around a token, perhaps with other statements in it.
+pub fn is_in_case(place: TokenPlace<'_>) -> bool {
+    place.open("CASE", "END_CASE", "UNIT").is_some()
+}
+
+/// Whether the IF or the CASE in which a token stands has its ELSE above it.
+pub fn has_else(place: TokenPlace<'_>) -> bool {
+    let Some(opened) = place.opened() else {
+        return false;
+    };
+    let mut inside = (opened.number..place.number).map(|number| place.at(number));
+    inside.any(|other| {
+        let is_its = |around: TokenPlace<'_>| around.number == opened.number;
+        other.sign() == "ELSE" && other.opened().is_some_and(is_its)
+    })
+}
+
+/// Whether a keyword stands more often in a unit than what it closes is opened there, or less often.
+pub fn closed_in(place: TokenPlace<'_>, closing: &str) -> Ordering {
+    let tokens = place.tokens.iter();
+    let closed = tokens
+        .filter(|token| sign_of(token.kind) == closing)
+        .count();
+    let tokens = place.tokens.iter();
+    let opened = tokens
+        .filter(|token| closing_of(sign_of(token.kind)) == closing)
+        .count();
+    closed.cmp(&opened)
+}
+
+/// Whether a label at a token parts a CASE around an IF, a FOR or a CASE with its ELSE that isn't closed, of which its unit has too few ends.
+pub fn parts_case(place: TokenPlace<'_>) -> bool {
+    let Some(opened) = place.opened() else {
+        return false;
+    };
+    let may_be = fits("IF|FOR", opened.sign()) || opened.sign() == "CASE" && has_else(place);
+    let is_inner = is_label(place) && may_be && is_in_case(opened);
+    is_inner && closed_in(place, closing_of(opened.sign())).is_lt()
+}
+
+/// Whether the section of declarations in which a call or an assignment stands isn't closed below it, before other statements or another section.
+pub fn lacks_end_var(place: TokenPlace<'_>) -> bool {
+    let end = place.ahead("CLOSING|SECTION|UNIT|IF|CASE|FOR");
+    let mut behind = (place.number..end.number).map(|number| place.at(number));
+    let may_be = match place.sign() {
+        "(" => true,
+        ":=" => place.opener() != "VAR_GLOBAL" && !behind.any(|other| other.sign() == ":"),
+        _ => false,
+    };
+    may_be && end.sign() != "END_VAR"
+}
+
+/// The declaration above a word in which it is a name: in its unit, or among the globals of its source.
+fn declared_at(place: TokenPlace<'_>) -> Option<TokenPlace<'_>> {
+    let word = place.word().as_bytes();
+    let unit = place.open("UNIT", "", "").map_or(0, |unit| unit.number);
+    let above = (0..place.number).map(|number| place.at(number));
+    let may_be = |other: &TokenPlace<'_>| {
+        same_word(other.word().as_bytes(), word) && fits(":|,|AT", other.behind(1))
+    };
+    let is_name = |other: &TokenPlace<'_>| {
+        fits("declaration|name", other.stand())
+            && (other.number > unit || other.opener() == "VAR_GLOBAL")
+    };
+    let mut same = above.filter(may_be).take(MOST_USES);
+    same.find(is_name).filter(|_| place.sign() == "word")
+}
+
+/// Whether a word is a name that is declared above it, in its unit or among the globals of its source.
+pub fn is_variable(place: TokenPlace<'_>) -> bool {
+    declared_at(place).is_some()
+}
+
+/// The sign of the kind with which a word is declared above it, in its unit or among the globals of its source; `word` where it is an instance, and empty where
+/// it isn't declared there.
+pub fn kind_sign(place: TokenPlace<'_>) -> &'static str {
+    match declared_at(place).map(|name| name.ahead(":|;|OUTER")) {
+        Some(colon) if colon.sign() == ":" => colon.behind(1),
+        _ => "",
+    }
+}
+
+/// Whether what stands from a token to the next `;` may be the right side of an assignment.
+pub fn is_right_side(place: TokenPlace<'_>) -> bool {
+    let end = place.ahead(";|:|:=|=>|..|,|OF|OUTER");
+    let mut inside = (place.number..end.number).map(|number| place.at(number));
+    let parts = |one: TokenPlace<'_>| {
+        fits("word|int|literal|TRUE|FALSE|)|]", one.sign())
+            && fits("word|int|literal|TRUE|FALSE|NOT|(", one.behind(1))
+    };
+    let begins = fits("word|int|literal|TRUE|FALSE|NOT|(|-", place.sign());
+    end.sign() == ";" && begins && !inside.any(parts)
+}
+
+/// Whether three words or more stand side by side in a line, of which a token is the second, and no name of three parts is assigned, called or declared by them.
+pub fn is_prose(place: TokenPlace<'_>) -> bool {
+    let mut behind = (place.number..place.tokens.len()).map(|number| place.at(number));
+    let end = behind.find(|other| other.sign() != "word" || !is_in_line(*other));
+    let end = end.unwrap_or(place.at(place.tokens.len()));
+    let is_name = fits(":=|(|[|:|,", end.sign()) && is_in_line(end);
+    end.number > place.next().number && !is_name
+}
+
+/// Whether a word is the name of a standard block.
+pub fn is_standard(place: TokenPlace<'_>) -> bool {
+    place.sign() == "word" && fits("TON|TOF|R_TRIG|TP|F_TRIG", place.word())
+}
+
+/// Whether a token stands in the line of the one before it.
+pub fn is_in_line(place: TokenPlace<'_>) -> bool {
+    !place.gap().contains(&b'\n')
+}
+
+/// Whether a word behind the kind of a declaration is another kind.
+pub fn is_second_kind(place: TokenPlace<'_>) -> bool {
+    let signs = [place.stand(), place.sign(), place.behind(1)];
+    signs == ["kinded", "word", ";"] && is_in_line(place)
+}
+
+/// Whether a `)` with nothing open to close stands behind a token, in what ends with the next `;` or keyword.
+pub fn has_loose_end(place: TokenPlace<'_>) -> bool {
+    let behind = place.next();
+    let end = behind.ahead(";|OUTER");
+    let mut between = (behind.number..end.number).map(|number| place.at(number));
+    between.any(|other| other.sign() == ")" && other.parenthesis().is_none())
+}
+
+/// Whether a `;` stands between the arguments of a call.
+fn parts_arguments(place: TokenPlace<'_>) -> bool {
+    place.sign() == ";"
+        && place.within() == "call"
+        && place.behind(1) == "word"
+        && fits(":=|=>", place.behind(2))
+        && has_loose_end(place)
+}
+
+/// Whether a `:=` gives an argument of a call that has brackets for its parentheses.
+pub fn is_braced(place: TokenPlace<'_>) -> bool {
+    let end = place.ahead(";|OUTER");
+    let count = |mark: &str| {
+        (place.number..end.number)
+            .filter(|number| place.at(*number).sign() == mark)
+            .count()
+    };
+    let before = [place.before(3), place.before(2), place.before(1)];
+    before == ["word", "[", "word"]
+        && place.sign() == ":="
+        && statement_start(place).saturating_add(3) == place.number
+        && count("[") < count("]")
+}
+
+/// Whether what seems to be a call is assigned: it is an element with parentheses for its brackets.
+pub fn is_element(place: TokenPlace<'_>) -> bool {
+    let Some(open) = place.parenthesis() else {
+        return false;
+    };
+    let end = place.ahead(")|;|OUTER");
+    let mut inside = (open.number..place.number).map(|number| place.at(number));
+    open.before(1) == "word"
+        && [end.sign(), end.behind(1)] == [")", ":="]
+        && !inside.any(|other| fits(",|:=|=>", other.sign()))
+}
+
+/// Whether a token begins a call in a line of its own, among the arguments of another one.
+pub fn begins_call(place: TokenPlace<'_>) -> bool {
+    [place.stand(), place.sign(), place.behind(1)] == ["argued", "(", "word"]
+        && fits(":=|=>", place.behind(2))
+        && !is_in_line(place.previous())
+}
+
+/// Whether three digits stand behind a number and a blank, and no label of a CASE begins with them.
+fn is_group(place: TokenPlace<'_>) -> bool {
+    place.word().len() == 3 && is_in_line(place) && !fits(":|,|..", place.behind(1))
+}
+
+/// What a token is that stands behind a value, or behind a variable that takes an output; empty where that is told by its sign.
+pub fn valued_sign(place: TokenPlace<'_>) -> &'static str {
+    let is_free = place.within().is_empty() && !place.is_declared();
+    let is_cut = is_free
+        && !is_in_line(place.previous())
+        && fits(
+            "+|-|*|/|=|<|>|<=|>=|<>|&|AND|OR|XOR|MOD|NOT|:=|.",
+            place.before(2),
+        );
+    match (place.sign(), place.before(1)) {
+        (":=", "word") if is_braced(place) => "braced",
+        (":=", "word") if is_cut => "unfinished",
+        (":", "int") if place.before(2) == "CASE" => "label",
+        ("int", "int") if is_group(place) => "thousands",
+        (";", _) if parts_arguments(place) => "parting",
+        _ => "",
+    }
+}

@@ -1,0 +1,21 @@
+//! What a word or a sign in a source is told as: what begins no token (C4), words of other dialects and words that are nearly a keyword (C5), and what stands
+//! around a token by which it is more than its sign, as a label, or a `:=` in a condition.
+//!
+//! Words and signs are told by tables of texts. A word that its unit declares is a name, and never one of another dialect. No clause says what is told; that is
+//! tried on examples.
+//!
+//! Layer explain_: it must not know events or commands.
+#![tactic(auto)]
+
+mod around;
+mod signs;
+mod spelling;
+mod words;
+
+pub use around::{
+    begins_call, closed_in, has_else, is_braced, is_in_case, is_label, is_second_kind,
+    lacks_end_var, next_end, parts_case, statement_start,
+};
+pub use signs::{is_behind_title, told_before, told_sign};
+pub use spelling::{first_character, misspelled_at, quoted_len, run_len};
+pub use words::{GRAMMAR, Misnomer, Said, misnomer};
