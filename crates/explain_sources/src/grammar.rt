@@ -1,9 +1,9 @@
 //! The token with which no source can go on (C5).
 
 use crate::rules::{told_by_place, too_deep, wanted};
-use explain_tokens::{Cause, TokenPlace, cause_at, closing_of, fits, tokens_of};
+use explain_tokens::{Cause, TokenPlace, cause_at, closing_of, fits, part, tokens_of};
 use explain_words::{
-    GRAMMAR, begins_call, is_braced, is_second_kind, lacks_end_var, misnomer, parts_case,
+    GRAMMAR, begins_call, closed_in, is_braced, is_second_kind, lacks_end_var, misnomer, parts_case,
 };
 use plant_types::same_word;
 use st_lexer::place_of;
@@ -31,6 +31,7 @@ fn left_open(place: TokenPlace<'_>) -> Option<TokenPlace<'_>> {
     let is_left = match (place.stand(), opened.sign(), place.sign()) {
         ("statement", "IF", "ELSE" | "ELSIF") | ("statement", "CASE", "ELSE") => false,
         ("declaration", _, "IF" | "CASE" | "FOR") => true,
+        ("declaration", _, sign) if fits("SECTION", sign) => place.before(1) == ";",
         ("declared", _, "(" | ":=") => lacks_end_var(place),
         ("statement", "IF" | "FOR", _) if parts_case(place) => true,
         ("statement" | "declaration", _, sign) => {
@@ -71,11 +72,17 @@ fn unclosed(
     place: TokenPlace<'_>,
     opened: TokenPlace<'_>,
 ) -> Result<Cause, AllocError> {
-    let (line, open) = (opened.line(), opened.sign());
+    let (line, open, sign) = (opened.line(), opened.sign(), place.sign());
+    if fits("UNIT", open) && fits("END_PROGRAM|END_FUNCTION_BLOCK", sign) {
+        let said = format!(in alloc;
+            "{sign} closes no {open}, which line {line} begins: one of the two keywords is wrong"
+        )?;
+        return Ok(cause_at(place.mark(), said, GRAMMAR));
+    }
     let closing = closing_of(open);
     let behind = led_to(alloc, place, opened)?;
     let said = format!(in alloc; "{closing} is missing for the {open} of line {line}{behind}")?;
-    let is_behind = fits("(|:=", place.sign());
+    let is_behind = fits("(|:=", sign);
     let mark = if is_behind {
         place.previous().mark()
     } else {
@@ -107,13 +114,14 @@ fn unpaired(place: TokenPlace<'_>) -> Option<TokenPlace<'_>> {
     }
 }
 
-/// Whether a token is the word or the keyword before it once more.
-fn is_doubled(place: TokenPlace<'_>) -> bool {
+/// Whether a token is the one before it once more, by its text and a pattern of signs.
+fn is_doubled(place: TokenPlace<'_>, signs: &str) -> bool {
     let word = place.previous().word().as_bytes();
+    let sign = place.sign();
     place.number > 0
-        && fits("word|KEYWORD", place.sign())
-        && !fits("CLOSING", place.sign())
+        && fits(signs, sign)
         && same_word(place.word().as_bytes(), word)
+        && (!fits("CLOSING", sign) || closed_in(place, sign).is_gt())
 }
 
 /// What seems to be missing before a token: among the arguments of a call a `,` alone before another argument.
@@ -126,12 +134,26 @@ fn lacking_said(place: TokenPlace<'_>) -> &'static str {
     }
 }
 
+/// Whether a remark begins behind a token in its line with // and has a `;`, by what stands between that and the next one.
+fn hides_end(gap: &[u8]) -> bool {
+    let mut lines = gap.split(|byte| *byte == b'\n');
+    let line = lines.next().unwrap_or(b"");
+    let remark = line
+        .windows(2)
+        .position(|pair| matches!(pair, [b'/', b'/']));
+    remark.is_some_and(|from| part(line, from, line.len()).contains(&b';'))
+}
+
 /// What is said behind a token.
 fn told(alloc: Global, place: TokenPlace<'_>) -> Result<String, AllocError> {
     let lacks = place.lacks_end();
-    let may_double = place.stand() != "argued" && (!lacks || is_second_kind(place));
+    let is_alone = !lacks || is_second_kind(place) || fits("CLOSING", place.sign());
+    let may_double = place.stand() != "argued" && is_alone;
     let told = match told_by_place(place) {
-        _ if is_doubled(place) && may_double => "it stands here twice",
+        _ if may_double && is_doubled(place, "word|KEYWORD") => "it stands here twice",
+        "" if is_doubled(place, ":=|=>|:|,|.|+|*|/|=|<|>|int|literal|address") => {
+            "it stands here twice"
+        }
         told => told,
     };
     match unpaired(place) {
@@ -141,6 +163,12 @@ fn told(alloc: Global, place: TokenPlace<'_>) -> Result<String, AllocError> {
             let (line, column) = place_of(open.text, open.tokens, open.number);
             format!(in alloc;
                 "the '{opening}' of line {line}, column {column} has no '{closing}' before it"
+            )
+        }
+        _ if told.is_empty() && lacks && hides_end(place.gap()) => {
+            let line = place.previous().line();
+            format!(in alloc;
+                "the ';' of line {line} stands in a remark, which begins with //; a quotient is written n / 2"
             )
         }
         _ if told.is_empty() && lacks => {
@@ -178,7 +206,7 @@ fn cause_of_token(alloc: Global, place: TokenPlace<'_>) -> Result<Cause, AllocEr
         format!(in alloc;
             "found '{word}': the comment before it ends at the first *), since comments don't stand in one another"
         )?
-    } else if !unopened.is_empty() && fits("head|statement|behind", place.stand()) {
+    } else if !unopened.is_empty() && fits("head|statement|top|behind", place.stand()) {
         format!(in alloc; "found '{word}': no {unopened} is open here")?
     } else if let Some(opened) = left_open(place) {
         return unclosed(alloc, place, opened);

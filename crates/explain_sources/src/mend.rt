@@ -3,8 +3,9 @@
 use crate::grammar::{has_nested, unopened};
 use explain_tokens::{TokenPlace, closing_of, fits, opens_section, sign_at};
 use explain_words::{
-    closed_in, has_else, is_behind_title, is_in_case, is_label, is_second_kind, lacks_end_var,
-    misnomer, next_end, parts_case, statement_start,
+    begins_statement, closed_in, has_else, has_loose_end, is_behind_title, is_chosen, is_colon,
+    is_in_case, is_in_line, is_label, is_labelling, is_marked, is_second_kind, lacks_end_var,
+    misnomer, next_end, parted_len, parts_arguments, parts_case, statement_start,
 };
 use plant_types::same_word;
 use st_lexer::Token;
@@ -152,9 +153,34 @@ fn past_colon(place: TokenPlace<'_>) -> Mend {
     }
 }
 
+/// Behind the line of a word, which has the place of the head of a CASE; behind that word alone, where OF ends the head.
+fn past_line(place: TokenPlace<'_>) -> Mend {
+    if place.ahead(";|:|OF|OUTER").sign() == "OF" {
+        return instead(place, "CASE");
+    }
+    let mut behind = (place.next().number..place.tokens.len()).map(|number| place.at(number));
+    let end = behind.find(|other| !is_in_line(*other));
+    let end = end.map_or(place.tokens.len(), |end| end.number);
+    with(place.number, end, "CASE 0 OF")
+}
+
 /// How to read on behind a word that is written otherwise.
 fn past_word(place: TokenPlace<'_>, way: &'static str) -> Option<Mend> {
+    let (here, len) = (place.number, parted_len(place, way));
+    let until = here.saturating_add(len);
+    let (closing, closed) = (
+        closing_of(place.opener()),
+        closing_of(place.at(until).before(1)),
+    );
     match way {
+        "_" if len > 1 && closed.is_empty() => Some(with(here, until, closing)),
+        "_" if len > 1 => Some(with(here, until, closed)),
+        _ if len > 1 => Some(with(here, until, way)),
+        "_" if fits("END", place.word()) && closed_in(place, closing).is_lt() => Some(instead(
+            place, closing,
+        )),
+        "<" | ">" | "&" => Some(with(place.previous().number, place.next().next().number, way)),
+        "head" => Some(past_line(place)),
         "END_WHILE" | "END_REPEAT" => past_loop(place, way),
         "skip" => Some(instead(place, "")),
         "_" => opens_section(place.before(1)).then_some(instead(place, "")),
@@ -177,46 +203,110 @@ fn follows_loose_end(place: TokenPlace<'_>) -> bool {
     is_behind_title(place) || [place.before(2), place.before(1)] == ["END_VAR", ";"]
 }
 
-/// How to read on behind a token with which no source can go on; `None` where that isn't certain.
-pub fn way_on(place: TokenPlace<'_>) -> Option<Mend> {
+/// At an ELSE behind the last part of its IF or its CASE: with what closes that, where the unit has too few of it, or else without it; where none is open, with
+/// the head of one, where the unit has an end too many.
+fn past_else(place: TokenPlace<'_>) -> Mend {
+    let (here, is_loose) = (place.number, !unopened(place).is_empty());
+    match place.opener() {
+        "FOR" => with(here, here, "END_FOR;"),
+        "IF" if closed_in(place, "END_IF").is_lt() => with(here, here, "END_IF;"),
+        "CASE" if closed_in(place, "END_CASE").is_lt() => with(here, here, "END_CASE;"),
+        _ if is_loose && closed_in(place, "END_IF").is_gt() => instead(place, "IF TRUE THEN"),
+        _ if is_loose && closed_in(place, "END_CASE").is_gt() => instead(place, "CASE 0 OF ELSE"),
+        _ => instead(place, ""),
+    }
+}
+
+/// At a token that is too many, or stands for another one, where the rest of its statement or declaration seems right: without it, or with that one.
+fn past_slip(place: TokenPlace<'_>) -> Option<Mend> {
     let (here, previous) = (place.number, place.previous().number);
-    if let Some(mend) = past_comment(place) {
-        return Some(mend);
-    }
-    match misnomer(place) {
-        Some((place, way, ..)) if way != "part" => return past_word(place, way),
-        _ => {}
-    }
     match (place.stand(), place.sign()) {
-        _ if is_second_kind(place) => Some(instead(place, "")),
-        _ if place.lacks_end() => Some(with(here, here, missing(place))),
-        ("declared", _) if lacks_end_var(place) => Some(with(previous, previous, "END_VAR")),
-        ("declaration", "IF" | "CASE" | "FOR") => Some(with(here, here, "END_VAR")),
-        _ if place.is_declared() => past_statement(place),
-        ("label" | "labelled", _) => past_label(place),
-        ("begun", ":") if place.opener() == "CASE" => past_label(place),
-        ("statement", ":") => Some(past_colon(place)),
-        ("statement" | "head", "END_VAR") => Some(instead(place, "")),
-        ("statement", _) if is_label(place) => past_loose_label(place),
-        ("statement", sign) if fits("SECTION", sign) && follows_loose_end(place) => Some(with(
-            previous, here, "",
+        ("statement" | "head" | "declaration", "+" | "-") if is_marked(place) => Some(instead(
+            place, "",
         )),
-        ("statement", sign) if fits("SECTION", sign) => {
+        ("valued", "IF") if is_chosen(place) => Some(with(here, place.ahead(";").number, "")),
+        ("value", "IF") if is_chosen(place) => Some(with(here, place.ahead(";").number, "0")),
+        ("valued", ";") if fits("THEN|DO|OF", place.behind(1)) => Some(instead(place, "")),
+        ("value", "ELSE") if place.before(1) == "CASE" => Some(with(previous, here, "")),
+        ("label", "CASE") => Some(with(here, place.ahead("OF").next().number, "")),
+        ("declaration", ";") => Some(instead(place, "")),
+        ("ended", "IF" | "CASE" | "FOR") if place.behind(1) == ";" => Some(instead(place, "")),
+        ("ended", "." | "," | ":") if !has_loose_end(place) => Some(instead(place, ";")),
+        ("declared" | "addressed", _) if is_colon(place) => Some(instead(place, ":")),
+        ("name", sign) if fits("KIND", sign) => Some(with(previous, here, ":")),
+        ("valued" | "taken", ";") if parts_arguments(place) => Some(instead(place, ",")),
+        _ if is_second_kind(place) => Some(instead(place, "")),
+        _ => None,
+    }
+}
+
+/// At a token with which no declaration goes on: with the END of its section before a statement or another section, or else without the declaration.
+fn past_declaration(place: TokenPlace<'_>) -> Option<Mend> {
+    let (here, previous) = (place.number, place.previous().number);
+    match (place.stand(), place.sign()) {
+        ("declared", _) if lacks_end_var(place) => Some(with(previous, previous, "END_VAR")),
+        ("declaration", sign) if fits("IF|CASE|FOR|SECTION", sign) => Some(with(
+            here, here, "END_VAR",
+        )),
+        _ => past_statement(place),
+    }
+}
+
+/// At a token with which no statement goes on: with a head that is right, where it stands in one, or else without the statement.
+fn past_inside(place: TokenPlace<'_>) -> Option<Mend> {
+    let ends = ";|THEN|DO|OF|ELSE|CLOSING|SECTION|UNIT";
+    match place.open("IF|ELSIF|CASE|FOR", "", ends) {
+        Some(head) => past_head(place, head),
+        None => past_statement(place),
+    }
+}
+
+/// At a token with which no statement begins.
+fn past_first(place: TokenPlace<'_>) -> Option<Mend> {
+    let (here, previous, sign) = (place.number, place.previous().number, place.sign());
+    match sign {
+        ":" => Some(past_colon(place)),
+        "ELSE" => Some(past_else(place)),
+        "END_VAR" => Some(instead(place, "")),
+        _ if is_label(place) => past_loose_label(place),
+        _ if fits("SECTION", sign) && follows_loose_end(place) => Some(with(previous, here, "")),
+        _ if fits("SECTION", sign) => {
             let end = place.next().ahead("OUTER");
             (end.sign() == "END_VAR").then_some(with(here, end.next().number, ""))
         }
-        ("statement", sign) if fits("ELSIF|CLOSING", sign) && sign != "END_VAR" => past_keyword(
-            place,
-        ),
+        _ if fits("ELSIF|CLOSING", sign) => past_keyword(place),
+        _ => past_inside(place),
+    }
+}
+
+/// What is left out and put in at a token with which no source can go on; `None` where that isn't certain, and nothing where no statement can be left out.
+fn mend_at(place: TokenPlace<'_>) -> Option<Mend> {
+    let (here, told) = (place.number, misnomer(place));
+    let certain = match told {
+        Some((place, way, ..)) if way != "part" => return past_word(place, way),
+        _ => past_slip(place),
+    };
+    if certain.is_some() {
+        return certain;
+    }
+    match (place.stand(), place.sign()) {
+        _ if told.is_none() && place.lacks_end() => Some(with(here, here, missing(place))),
+        _ if place.is_declared() => past_declaration(place),
+        ("label" | "labelled", _) => past_label(place),
+        ("begun", ":") if place.opener() == "CASE" && begins_statement(place.next()) => {
+            past_label(place)
+        }
+        ("begun", _) if is_labelling(place) => past_label(place),
+        ("statement", _) => past_first(place),
+        ("head", "END_VAR") => Some(instead(place, "")),
         ("head", "VAR_INPUT" | "VAR_OUTPUT") => Some(instead(place, "VAR")),
         ("top" | "behind" | "head" | "title", _) => None,
-        _ => match place.open(
-            "IF|ELSIF|CASE|FOR",
-            "",
-            ";|THEN|DO|OF|ELSE|CLOSING|SECTION|UNIT",
-        ) {
-            Some(head) => past_head(place, head),
-            None => past_statement(place),
-        },
+        _ => past_inside(place),
     }
+}
+
+/// How to read on behind a token with which no source can go on; `None` where that isn't certain.
+pub fn way_on(place: TokenPlace<'_>) -> Option<Mend> {
+    let mend = past_comment(place).or_else(|| mend_at(place));
+    mend.filter(|mend| mend.from < mend.until || !mend.put.is_empty())
 }

@@ -5,7 +5,7 @@ use crate::holes::{Lexed, tokens_with_holes};
 use crate::mend::{Mend, way_on};
 use crate::parts::Parts;
 use explain_tokens::{Cause, TokenPlace, fits, part, tokens_of};
-use explain_words::{misspelled_at, statement_start};
+use explain_words::{misnomer, misspelled_at, statement_start};
 use st_lexer::Token;
 use st_parser::{ParseFault, Unit, parse};
 use std::alloc::{AllocError, Global};
@@ -48,6 +48,12 @@ fn may_declare(place: TokenPlace<'_>, mend: Option<Mend>) -> bool {
         fits(":|END_VAR", place.sign()) || word.eq_ignore_ascii_case(b"VAR")
     };
     place.is_declared() || place.stand() == "head" || tokens.any(is_of_section)
+}
+
+/// Whether a token is told by a word that is written otherwise, where no bytes between that and a number begin no token.
+fn is_word_before(lexed: &Lexed<'_>, place: TokenPlace<'_>, from: usize) -> bool {
+    let told = misnomer(place);
+    told.is_some_and(|told| !lexed.has_hole(from, told.0.mark().1))
 }
 
 /// Whether words are left out between the one behind a unit's keyword and its first section, at which it stops: then it isn't certain which of them is its
@@ -157,7 +163,8 @@ impl Told {
             }
             let (mend, at) = (way_on(place), place.mark().0);
             let (from, until) = around(place, mend);
-            if last.is_none_or(|last| last < at) && !lexed.has_hole(from, until) {
+            let is_told = || !lexed.has_hole(from, until) || is_word_before(lexed, place, from);
+            if last.is_none_or(|last| last < at) && is_told() {
                 self.tell(alloc, place)?;
             }
             last = Some(at);

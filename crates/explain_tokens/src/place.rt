@@ -1,8 +1,8 @@
 //! The tokens of a source, what they stand in, and what may stand there.
 
 use crate::cause::part;
-use crate::patterns::{closing_of, fits, is_closing, said_of};
-use crate::tokens::{opens_section, sign_at, sign_before, span_of, word_at};
+use crate::patterns::{fits, said_of};
+use crate::tokens::{Nesting, nesting_of, opens_section, sign_at, sign_before, span_of, word_at};
 use st_lexer::{Token, place_of};
 
 /// Where a token stands, by what opens that in which it does, what is known of the token before it (`role`), the one before that and the one before it. It is
@@ -155,14 +155,12 @@ impl<'a> TokenPlace<'a> {
     pub fn opened(self) -> Option<TokenPlace<'a>> {
         let mut closed = 0usize;
         for number in (0..self.number).rev() {
-            let sign = sign_at(self.tokens, number);
-            if is_closing(sign) {
-                closed = closed.saturating_add(1);
-            } else if !closing_of(sign).is_empty() {
-                if closed == 0 {
-                    return Some(self.at(number));
-                }
-                closed = closed.saturating_sub(1);
+            let token = self.tokens.get(number);
+            match token.and_then(|token| nesting_of(token.kind)) {
+                Some(Nesting::Closes) => closed = closed.saturating_add(1),
+                Some(Nesting::Opens) if closed == 0 => return Some(self.at(number)),
+                Some(Nesting::Opens) => closed = closed.saturating_sub(1),
+                None => {}
             }
         }
         None

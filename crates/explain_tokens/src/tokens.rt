@@ -1,7 +1,7 @@
 //! The tokens of a text, and their signs.
 
 use crate::cause::part;
-use st_lexer::{LexFault, Token, TokenKind, lex};
+use st_lexer::{Keyword, LexFault, Token, TokenKind, lex};
 use std::alloc::{AllocError, Global};
 use std::str;
 
@@ -69,6 +69,32 @@ pub fn sign_of(kind: TokenKind) -> &'static str {
         TokenKind::Address(_) => "address",
         TokenKind::Keyword(keyword) => KEYWORDS.get(keyword as usize).copied().unwrap_or(""),
         TokenKind::Symbol(symbol) => SYMBOLS.get(symbol as usize).copied().unwrap_or(""),
+    }
+}
+
+/// What a keyword does to those that stand in one another.
+#[derive(Clone, Copy, Drop)]
+pub(crate) enum Nesting {
+    /// It opens a statement, a section or a unit.
+    Opens,
+    /// It closes one.
+    Closes,
+}
+
+/// What a kind of tokens does to those that stand in one another; `None` of one that opens and closes nothing.
+pub(crate) fn nesting_of(kind: TokenKind) -> Option<Nesting> {
+    let TokenKind::Keyword(keyword) = kind else {
+        return None;
+    };
+    match keyword {
+        Keyword::If | Keyword::Case | Keyword::For => Some(Nesting::Opens),
+        Keyword::Program | Keyword::FunctionBlock => Some(Nesting::Opens),
+        Keyword::Var | Keyword::VarExternal | Keyword::VarGlobal => Some(Nesting::Opens),
+        Keyword::VarInput | Keyword::VarOutput => Some(Nesting::Opens),
+        Keyword::EndIf | Keyword::EndCase | Keyword::EndFor => Some(Nesting::Closes),
+        Keyword::EndVar | Keyword::EndProgram => Some(Nesting::Closes),
+        Keyword::EndFunctionBlock => Some(Nesting::Closes),
+        _ => None,
     }
 }
 

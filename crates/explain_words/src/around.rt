@@ -1,6 +1,6 @@
 //! What stands around a token with which no source can go on: whether it is a label, a name that is declared, or behind something that isn't closed.
 
-use explain_tokens::{TokenPlace, closing_of, fits, sign_of};
+use explain_tokens::{TokenPlace, closing_of, fits, part, sign_of};
 use plant_types::same_word;
 use std::cmp::Ordering;
 
@@ -38,6 +38,12 @@ pub fn is_label(place: TokenPlace<'_>) -> bool {
         place
     };
     number.sign() == "int" && fits(":|,|..", number.behind(1))
+}
+
+/// Whether a comparison with a number stands behind the first word of a statement in the place of a label.
+pub fn is_labelling(place: TokenPlace<'_>) -> bool {
+    let is_compared = fits("=|<|>|<=|>=|<>", place.sign());
+    is_compared && [place.behind(1), place.behind(2)] == ["int", ":"] && place.opener() == "CASE"
 }
 
 /// Whether a CASE is open around a token, perhaps with other statements in it.
@@ -98,7 +104,8 @@ fn declared_at(place: TokenPlace<'_>) -> Option<TokenPlace<'_>> {
     let unit = place.open("UNIT", "", "").map_or(0, |unit| unit.number);
     let above = (0..place.number).map(|number| place.at(number));
     let may_be = |other: &TokenPlace<'_>| {
-        same_word(other.word().as_bytes(), word) && fits(":|,|AT", other.behind(1))
+        let is_word = other.sign() == "word" && fits(":|,|AT", other.behind(1));
+        is_word && same_word(other.word().as_bytes(), word)
     };
     let is_name = |other: &TokenPlace<'_>| {
         fits("declaration|name", other.stand())
@@ -168,12 +175,13 @@ pub fn has_loose_end(place: TokenPlace<'_>) -> bool {
 }
 
 /// Whether a `;` stands between the arguments of a call.
-fn parts_arguments(place: TokenPlace<'_>) -> bool {
+pub fn parts_arguments(place: TokenPlace<'_>) -> bool {
+    let is_closed = || place.next().ahead("(|)|OUTER").sign() == ")" || has_loose_end(place);
     place.sign() == ";"
         && place.within() == "call"
         && place.behind(1) == "word"
         && fits(":=|=>", place.behind(2))
-        && has_loose_end(place)
+        && is_closed()
 }
 
 /// Whether a `:=` gives an argument of a call that has brackets for its parentheses.
@@ -212,7 +220,55 @@ pub fn begins_call(place: TokenPlace<'_>) -> bool {
 
 /// Whether three digits stand behind a number and a blank, and no label of a CASE begins with them.
 fn is_group(place: TokenPlace<'_>) -> bool {
-    place.word().len() == 3 && is_in_line(place) && !fits(":|,|..", place.behind(1))
+    let is_free = place.within() == "call" || !fits(":|,|..", place.behind(1));
+    place.word().len() == 3 && is_in_line(place) && is_free
+}
+
+/// Whether an IF stands in the place of a value or behind one as the operator of another language does, which chooses between two values.
+pub fn is_chosen(place: TokenPlace<'_>) -> bool {
+    let end = place.next().ahead(";|ELSE|CLOSING|CASE|FOR");
+    let may_be = match place.stand() {
+        "value" => true,
+        stand => stand == "valued" && is_in_line(place),
+    };
+    [place.sign(), end.sign()] == ["IF", "ELSE"] && may_be
+}
+
+/// Whether a statement or a part of one seems to begin at a token, or nothing follows.
+pub fn begins_statement(place: TokenPlace<'_>) -> bool {
+    match place.sign() {
+        "word" => fits(":=|(|[", place.behind(1)),
+        sign => fits("none|PART", sign),
+    }
+}
+
+/// Whether two words are the parts of a third one.
+pub fn is_joined(first: &str, second: &str, word: &str) -> bool {
+    let (first, second, word) = (first.as_bytes(), second.as_bytes(), word.as_bytes());
+    let len = first.len();
+    same_word(part(word, 0, len), first) && same_word(part(word, len, word.len()), second)
+}
+
+/// Whether a mark stands before the kind of a declaration in the place of its colon.
+pub fn is_colon(place: TokenPlace<'_>) -> bool {
+    let is_kind = fits("KIND", place.behind(1)) || is_standard(place.next());
+    fits("declared|addressed", place.stand()) && fits(";|.|,|<|>|-|=", place.sign()) && is_kind
+}
+
+/// Whether an argument seems to begin behind a token.
+fn is_before_argument(place: TokenPlace<'_>) -> bool {
+    place.within() == "call" && place.behind(1) == "word" && fits(":=|=>", place.behind(2))
+}
+
+/// Whether a word behind a number in its line seems to be its unit: an operator, or what ends an expression, stands behind it.
+fn is_measure(place: TokenPlace<'_>) -> bool {
+    let ends = ";|,|)|]|THEN|DO|OF|TO|BY|AND|OR|XOR|MOD|+|-|*|/|=|<|>|<=|>=|<>|&";
+    is_in_line(place) && fits(ends, place.behind(1))
+}
+
+/// Whether a `,` stands outside of all calls, but seems to part arguments: a `)` with nothing open to close stands behind it.
+fn is_beyond(place: TokenPlace<'_>) -> bool {
+    place.within().is_empty() && !place.is_declared() && has_loose_end(place)
 }
 
 /// What a token is that stands behind a value, or behind a variable that takes an output; empty where that is told by its sign.
@@ -227,9 +283,17 @@ pub fn valued_sign(place: TokenPlace<'_>) -> &'static str {
     match (place.sign(), place.before(1)) {
         (":=", "word") if is_braced(place) => "braced",
         (":=", "word") if is_cut => "unfinished",
+        (":=", _) if place.within() == "call" => "assigning",
+        (".", "int") if is_before_argument(place) => "point",
+        ("..", "word") if place.behind(1) == "word" && !fits("FOR|TO", place.head()) => "dots",
+        ("IF", _) if is_chosen(place) => "chosen",
         (":", "int") if place.before(2) == "CASE" => "label",
         ("int", "int") if is_group(place) => "thousands",
+        ("word", "int") if is_measure(place) => "measure",
         (";", _) if parts_arguments(place) => "parting",
+        (",", _) if is_beyond(place) => "beyond",
+        (":" | ",", _) if is_free && begins_statement(place.next()) => "ending",
+        ("word" | "int", "word") if is_in_line(place) && !place.lacks_end() => "beside",
         _ => "",
     }
 }

@@ -13,9 +13,10 @@ mod spelling;
 mod words;
 
 pub use around::{
-    begins_call, closed_in, has_else, is_braced, is_in_case, is_label, is_second_kind,
-    lacks_end_var, next_end, parts_case, statement_start,
+    begins_call, begins_statement, closed_in, has_else, has_loose_end, is_braced, is_chosen,
+    is_colon, is_in_case, is_in_line, is_label, is_labelling, is_second_kind, is_variable,
+    lacks_end_var, next_end, parts_arguments, parts_case, statement_start,
 };
-pub use signs::{is_behind_title, told_before, told_sign};
+pub use signs::{is_behind_title, is_marked, told_before, told_sign};
 pub use spelling::{first_character, misspelled_at, quoted_len, run_len};
-pub use words::{GRAMMAR, Misnomer, Said, misnomer};
+pub use words::{GRAMMAR, Misnomer, Said, misnomer, parted_len};

@@ -1,8 +1,9 @@
 //! The signs of tokens as the rules tell them: some are told by what else stands around them.
 
 use crate::around::{
-    closed_in, has_else, has_loose_end, is_element, is_in_case, is_in_line, is_label, is_prose,
-    is_right_side, is_second_kind, is_standard, kind_sign, valued_sign,
+    closed_in, has_else, has_loose_end, is_chosen, is_colon, is_element, is_in_case, is_in_line,
+    is_label, is_labelling, is_prose, is_right_side, is_second_kind, is_standard, kind_sign,
+    valued_sign,
 };
 use explain_tokens::{TokenPlace, fits};
 use st_lexer::{Token, TokenKind};
@@ -50,10 +51,38 @@ pub fn told_before(place: TokenPlace<'_>) -> &'static str {
     }
 }
 
-/// Whether a mark with which nothing begins has words side by side behind it, as a remark has.
+/// Whether a mark or a number with which nothing begins has words side by side behind it, as a remark has, or a `(` the end of one in its line.
 fn is_remark(place: TokenPlace<'_>) -> bool {
     let are_words = [place.behind(1), place.behind(2)] == ["word", "word"];
-    fits("/|*|-", place.sign()) && are_words && is_in_line(place.next().next())
+    let mut behind = (place.next().number..place.tokens.len()).map(|number| place.at(number));
+    let ends = |other: TokenPlace<'_>| {
+        [other.sign(), other.behind(1)] == ["*", ")"] && other.next().gap().is_empty()
+    };
+    match place.sign() {
+        "(" if place.behind(1) != "*" => behind
+            .find(|other| !is_in_line(*other) || ends(*other))
+            .is_some_and(ends),
+        sign => fits("/|*|-|int", sign) && are_words && is_in_line(place.next().next()),
+    }
+}
+
+/// Whether a statement or a declaration follows a sign that begins a line, as in a list of changes.
+pub fn is_marked(place: TokenPlace<'_>) -> bool {
+    let begins = match (place.behind(1), place.behind(2)) {
+        ("word", ":=") => true,
+        ("word", "(") => [place.behind(3), place.behind(4)] == ["word", ":="],
+        ("word", ":" | ",") => place.is_declared(),
+        (first, _) => fits("PART", first),
+    };
+    fits("+|-", place.sign()) && begins && (place.number == 0 || !is_in_line(place))
+}
+
+/// Whether a value that is no variable is assigned something.
+fn is_reversed(place: TokenPlace<'_>) -> bool {
+    match place.sign() {
+        "NOT" => place.ahead(";|:=|OUTER").sign() == ":=",
+        sign => fits("TRUE|FALSE|int|literal", sign) && place.behind(1) == ":=",
+    }
 }
 
 /// Whether a `:` begins a line of a CASE behind a statement, and a statement follows in that line: so a label is missing before it.
@@ -92,6 +121,9 @@ fn statement_sign(place: TokenPlace<'_>) -> &'static str {
         ":" if is_in_it && lacks_label(place) => "unlabelled",
         ":" if is_in_case(place) && place.before(1) == ";" => "stray",
         "(" if is_unnamed(place) => "unnamed",
+        _ if is_marked(place) => "marked",
+        _ if is_reversed(place) => "reversed",
+        "(" | "NOT" | "TRUE" | "FALSE" if place.ahead(";|OUTER").sign() == "THEN" => "headless",
         _ if is_remark(place) => "remark",
         _ => "",
     }
@@ -117,6 +149,8 @@ fn begun_sign(place: TokenPlace<'_>) -> &'static str {
             "headless"
         }
         ("word", ..) => second_sign(place),
+        _ if is_labelling(place) => "labelling",
+        ("=>", ..) if has_loose_end(place) => "outlet",
         (":", "word", ";") if is_standard(place.next()) => "declaring",
         (":", "word", ";") => "given",
         ("NOT" | "TRUE" | "FALSE" | "int" | "literal", ..) if is_right_side(place) => "right",
@@ -163,10 +197,16 @@ fn sign_there(place: TokenPlace<'_>, stand: &str) -> &'static str {
         "top" | "behind" => outer_sign(place),
         "statement" | "head" => statement_sign(place),
         "begun" => begun_sign(place),
+        "declared" | "addressed" if is_colon(place) => "colon",
         "declared" => declared_sign(place),
         "valued" | "taken" => valued_sign(place),
+        "value" if is_chosen(place) => "chosen",
         "argument" | "argued" if is_element(place) => "element",
+        "argument"
+            if [place.sign(), place.behind(1)] == ["(", "word"] && fits(":=|=>", place.behind(2)) =>
+            { "double" }
         "kinded" if is_second_kind(place) => "another",
+        "declaration" if is_marked(place) => "marked",
         "declaration" if is_remark(place) => "remark",
         _ => "",
     }

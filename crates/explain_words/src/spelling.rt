@@ -23,7 +23,7 @@ const MARKS: &str = "\
 ! not is written NOT, as in NOT a
 ~ not is written NOT, as in NOT a
 | or is written OR, as in a OR b
-^ pointers and powers aren't part of the language
+^ either, and not both, is written XOR; pointers and powers aren't part of the language
 ?= an assignment is written :=
 ? this isn't part of the language: an IF chooses between two values
 \\ a statement goes on in the next line without a mark, up to its ;
@@ -34,6 +34,8 @@ const MARKS: &str = "\
 \u{200b}\u{200c}\u{200d}\u{200e}\u{200f}\u{2060}\u{ad} this character can't be seen: delete it
 ‐‑‒–—―− this is a dash, which only looks like a minus: put a - in its place
 ‘’‚‛“”„‟«» texts in quotes aren't part of the language
+→⇒ an output is taken with =>, as in t(Q => b)
+← an assignment is written :=
 ≠ unequal is written <>
 ≤ at most is written <=
 ≥ at least is written >=
@@ -90,12 +92,23 @@ fn has_unit_apart(bytes: &[u8]) -> bool {
     bytes.starts_with(b" ") && is_unit(part(word, 0, len))
 }
 
+/// Whether letters are a unit of time behind one that looks like a digit.
+fn looks_like_digit(letters: &[u8]) -> bool {
+    match letters {
+        [b'o' | b'O' | b'l' | b'I', unit @ ..] => is_unit(unit),
+        _ => false,
+    }
+}
+
 /// Why a duration isn't allowed, by what stands behind its `#` and the bytes behind all that.
 fn duration_fault(parts: &[u8], behind: &[u8]) -> &'static str {
     let mut words = parts.split(|byte| !byte.is_ascii_alphabetic());
+    let mut units = parts.split(|byte| !byte.is_ascii_alphabetic());
     match parts {
         [] => "' is no duration: right behind the # stand numbers and their units, as in T#1m30s",
-        _ if words.any(|word| !word.is_empty() && !is_unit(word)) =>
+        _ if words.any(looks_like_digit) =>
+            "' is no duration: a letter stands in it that only looks like a digit",
+        _ if units.any(|word| !word.is_empty() && !is_unit(word)) =>
             "' is no duration: its units are d, h, m, s and ms, as in T#1m30s",
         [.., b'0'..=b'9'] if matches!(behind, [b',', b'0'..=b'9', ..]) =>
             "' is no duration: its decimals stand behind a point, as in T#1.5s",
@@ -147,6 +160,8 @@ fn number_fault(word: &[u8]) -> &'static str {
             "' is no number: its digits are written out, as 1000 for 1e3",
         (_, behind) if is_unit(behind) =>
             "' is no number; a duration has T# before it, as in T#5s, and no blanks in it",
+        (_, [b'.', b'0'..=b'9', b'0'..=b'9', b'0'..=b'9']) =>
+            "' is no number: no point stands in one, and underscores may part its digits, as in 1_000; there are no REALs",
         (_, [b'.', b'0'..=b'9', ..]) =>
             "' is no number: there are no REALs, and an integer is at most 2147483648; 12.5 is written as 125, in tenths",
         (_, [] | [b'.', ..]) => "' is too large: an integer is at most 2147483648",
@@ -213,6 +228,7 @@ fn other_fault(before: &[u8], bytes: &[u8]) -> &'static str {
         (_, [mark @ (b'\'' | b'"'), ..]) if !is_quoted(bytes, *mark) =>
             "texts in quotes aren't part of the language, and this quote isn't closed in its line; a remark is written // .. or (* .. *)",
         ([.., b'.'], [b'%', ..]) => "a bit of a number has no name",
+        ([.., b'0'..=b'9'], [b'%', ..]) => "no % stands behind a number: a share is a number alone",
         (_, [b'%', next, ..]) if *next != b' ' =>
             "this is no address: one is written as %IX0.0, %QD4 or %M*",
         (_, [b'$', next, ..]) if next.is_ascii_hexdigit() =>
@@ -230,12 +246,39 @@ fn other_fault(before: &[u8], bytes: &[u8]) -> &'static str {
     }
 }
 
+/// Whether the statement around a byte has more `)` than `(`.
+fn has_loose_end(text: &[u8], at: usize) -> bool {
+    let before = part(text, 0, at).split(|byte| *byte == b';').last();
+    let behind = part(text, at, text.len())
+        .split(|byte| *byte == b';')
+        .next();
+    let (before, behind) = (before.unwrap_or(b""), behind.unwrap_or(b""));
+    let count = |mark: u8| {
+        let above = before.iter().filter(|byte| **byte == mark).count();
+        let below = behind.iter().filter(|byte| **byte == mark).count();
+        above.saturating_add(below)
+    };
+    count(b'(') < count(b')')
+}
+
+/// Whether bytes end with the word AT.
+fn follows_at(before: &[u8]) -> bool {
+    match before.trim_ascii_end() {
+        [.., blank, b'a' | b'A', b't' | b'T'] => blank.is_ascii_whitespace(),
+        _ => false,
+    }
+}
+
 /// The cause of a fault of spelling at a byte of a source.
 pub fn misspelled_at(alloc: Global, text: &[u8], at: usize) -> Result<Cause, AllocError> {
     let bytes = part(text, at, text.len());
     let until = at.saturating_add(run_len(bytes));
     let word = str::from_utf8(part(text, at, until)).unwrap_or("");
     let why = match bytes {
+        [b'0'..=b'9', ..] if follows_at(part(text, 0, at)) =>
+            "' is no address: one begins with %, as in %IX0.3",
+        [b'8' | b'9', b'a'..=b'z' | b'A'..=b'Z' | b'_', ..] if has_loose_end(text, at) =>
+            "' is no number and no name: a '(' stands before the name, as the ')' behind it shows",
         [b'0'..=b'9', ..] => number_fault(word.as_bytes()),
         [b'a'..=b'z' | b'A'..=b'Z' | b'_', ..] => literal_fault(
             word,

@@ -1,6 +1,6 @@
 //! Words that are written otherwise here: those of other dialects, and words that are nearly a keyword (C5).
 
-use crate::around::{closed_in, is_right_side, is_variable};
+use crate::around::{closed_in, is_in_line, is_joined, is_right_side, is_variable};
 use explain_tokens::{TokenPlace, closing_of, fits, part, said_of, within_one};
 use plant_types::same_word;
 
@@ -10,10 +10,16 @@ pub const GRAMMAR: &str = "docs/LANGUAGE.md, \"Grammar\"";
 /// Where it stands what of the standard isn't there.
 const STANDARD: &str = "docs/LANGUAGE.md, \"What of IEC 61131-3 is here\"";
 
-/// Words of other dialects beside something: behind a `number`, as an `operator` behind another value, in the place of a `kind`, behind the name of a `unit`,
-/// or in a `pair` with BLOCK. Behind each stands how a source is read on (`Misnomer`), and what is said.
+/// Words of other dialects beside something: behind a `number`, as an `operator` behind another value, before the list of which a value is a `member`, between
+/// & and ; as an `entity` of a page, in the place of a `kind`, before the `title` or behind the name of a `unit`, or in a `pair` with BLOCK. Behind each stands how a source is read on (`Misnomer`), and what is said.
 const BESIDE: &str = "\
 number s|ms|m|h|d part is no unit here: a duration is written as T#5s, without blanks
+number|operator ANDN part isn't part of the language: both, the second of them not, is written a AND NOT b
+number|operator ORN part isn't part of the language: either, the second of them not, is written a OR NOT b
+number|operator XORN part isn't part of the language: it is written a XOR NOT b
+number|operator NAND part isn't part of the language: not both is written NOT (a AND b)
+number|operator NOR part isn't part of the language: neither is written NOT (a OR b)
+number|operator XNOR part isn't part of the language: equal is written =
 number|operator DIV part isn't part of the language: a quotient is written n / 2
 number|operator STEP part isn't part of the language: the step of a FOR stands behind BY
 number|operator DOWNTO part isn't part of the language: a FOR counts down with BY -1
@@ -26,11 +32,19 @@ number|operator GT part isn't part of the language: greater is written >
 number|operator LE part isn't part of the language: at most is written <=
 number|operator GE part isn't part of the language: at least is written >=
 number|operator REM part isn't part of the language: a remainder is written n MOD 2
+member IN part isn't part of the language: one of several is written n = 1 OR n = 2
+entity LT < with its & and ; is how a page writes <: that itself stands here
+entity GT > with its & and ; is how a page writes >: that itself stands here
+entity AMP & with its & and ; is how a page writes &: that itself stands here
+number|operator ANDNOT AND is two words: AND NOT
+number|operator ORNOT OR is two words: OR NOT
+number|operator XORNOT XOR is two words: XOR NOT
 number|operator IN part isn't part of the language: CASE n OF has labels behind OF, and FOR i := 1 TO 8 its bounds behind :=
 kind POINTER|REFERENCE|REF_TO part isn't part of the language: there are no pointers, and a variable is named itself
 kind STRING|WSTRING part isn't part of the language: it has no texts, and its kinds are BOOL, DINT and TIME
 kind STRUCT|UNION _ isn't part of the language: its kinds are BOOL, DINT and TIME
 unit VERSION|TITLE|AUTHOR|FAMILY|NAME|KNOW_HOW_PROTECT _ isn't part of the language: a unit has a name alone, and a remark may tell the rest
+title PUBLIC|PRIVATE|PROTECTED|INTERNAL|FINAL|ABSTRACT skip isn't part of the language: a unit has a name alone
 pair FUNCTION _ and BLOCK are one word: FUNCTION_BLOCK
 pair END_FUNCTION _ and BLOCK are one word: END_FUNCTION_BLOCK
 ";
@@ -45,11 +59,13 @@ LD|LDN|ST|STN _ isn't part of the language: there are no lists of instructions, 
 __TRY _ isn't part of the language: a program that traps stops until an operator restarts it
 BREAK part isn't part of the language: the statements of a label end before the next one
 ELSEIF|ELIF ELSIF is written ELSIF
+IFNOT IF is two words: IF NOT
+ELSIFNOT ELSIF is two words: ELSIF NOT
 ENDIF|FI END_IF is written END_IF
 ENDCASE END_CASE is written END_CASE
 ENDFOR END_FOR is written END_FOR
 NEXT _ isn't part of the language: a FOR ends with END_FOR
-SWITCH _ is written CASE n OF
+SWITCH head is written CASE n OF
 WHEN _ isn't part of the language: IF and CASE choose
 OTHERWISE ELSE is written ELSE
 DEFAULT|OTHERS part isn't part of the language: the last part of a CASE is ELSE, without a :
@@ -75,13 +91,17 @@ VAR_STAT|VAR_INST VAR is written VAR
 VAR_CONFIG _ isn't part of the language: an address stands in VAR_GLOBAL, as in pump AT %QX0.0 : BOOL
 VAR_IN_OUT VAR isn't part of the language: VAR_INPUT takes a value, and VAR_OUTPUT gives one
 CONST _ isn't part of the language: VAR is, with initial values that nothing assigns
+JSR|SBR|RET part isn't part of the language: each program runs once in a scan, in the order of the sources
+INC|INCR part isn't part of the language: one more is written n := n + 1
+DEC|DECR part isn't part of the language: one less is written n := n - 1
 CAL|CALL part isn't part of the language: an instance is called as t(IN := a);
 PASS part isn't part of the language: an empty statement is a ; alone
 ";
 
 /// The keywords that may stand where a token does, by the word for that; those that are looked at first stand first.
 const KEYWORDS: &str = "\
-valued THEN AND XOR MOD
+value NOT
+valued THEN AND XOR MOD OR
 top|behind PROGRAM FUNCTION_BLOCK VAR_GLOBAL
 declaration VAR VAR_INPUT VAR_OUTPUT VAR_EXTERNAL END_VAR
 statement|label IF CASE FOR ELSE ELSIF END_IF END_CASE END_FOR END_PROGRAM END_FUNCTION_BLOCK
@@ -90,7 +110,7 @@ head VAR VAR_INPUT VAR_OUTPUT VAR_EXTERNAL END_VAR IF CASE FOR ELSE ELSIF END_IF
 
 /// A word that is written otherwise here; how a source is read on; what is said behind the word, in three parts; and where to read more. A source is read on
 /// with a keyword in its place, or behind what it ends with, END_WHILE or END_REPEAT; without it (`skip`), or without the statement or the declaration of which
-/// it is a `part`; where that isn't certain, there stands `_`.
+/// it is a `part`, or with the `head` of a CASE in the place of its line; where that isn't certain, there stands `_`.
 pub type Misnomer<'a> = (TokenPlace<'a>, &'static str, Said, &'static str);
 
 /// What is said behind a word, in three parts.
@@ -106,7 +126,7 @@ fn said_at(site: &str, word: &str, is_first: bool) -> &'static str {
 
 /// Words of other dialects that are hardly names, so that one is no variable which lacks the := behind it.
 const UNNAMED: &str =
-    "WHILE|REPEAT|EXIT|CONTINUE|RETURN|GOTO|JMP|ELSEIF|ELIF|ENDIF|ENDCASE|ENDFOR|OTHERWISE|VAR_TEMP|VAR_IN_OUT";
+    "WHILE|REPEAT|EXIT|CONTINUE|RETURN|GOTO|JMP|ELSEIF|ELIF|ENDIF|ENDCASE|ENDFOR|OTHERWISE|VAR_TEMP|VAR_IN_OUT|INC|DEC|JSR";
 
 /// Whether a word may be a variable, perhaps of another source, by what follows it: behind a value no value, at the beginning of a statement the right side of
 /// an assignment or an operator, and in a declaration a kind.
@@ -130,8 +150,14 @@ fn may_be_name(place: TokenPlace<'_>, site: &str, stand: &str) -> bool {
 /// Where a word stands that may be one of another dialect, as the tables tell it.
 fn site_of(place: TokenPlace<'_>, stand: &str) -> &'static str {
     let behind = place.behind(1);
+    let around = [place.before(1), behind];
     match stand {
+        _ if around == ["&", ";"] && place.gap().is_empty() && place.next().gap().is_empty() => {
+            "entity"
+        }
+        "valued" if fits("IN", place.word()) && !fits("FOR|CASE", place.head()) => "member",
         "kind" => "kind",
+        "title" if behind == "word" => "title",
         "head" if fits(":|=", behind) => "unit",
         "valued" | "assigned" | "controlled" if fits(":=|=>|.", behind) => "",
         "valued" if fits("int|literal", place.before(1)) => "number",
@@ -172,6 +198,8 @@ fn may_stand(place: TokenPlace<'_>, keyword: &str) -> bool {
     match keyword {
         "THEN" => fits("IF|ELSIF", place.head()) && fits("word|;|PART", behind),
         "AND" | "XOR" | "MOD" => fits("word|int|literal|TRUE|FALSE|NOT|(|-", behind),
+        "NOT" => fits("word|TRUE|FALSE", behind),
+        "OR" => fits("word|TRUE|FALSE|NOT|(", behind),
         "IF" | "ELSIF" => end == "THEN",
         "CASE" => end == "OF",
         "FOR" => end == "TO",
@@ -187,50 +215,99 @@ fn may_stand(place: TokenPlace<'_>, keyword: &str) -> bool {
 
 /// The keyword that a word nearly is, but for one letter that isn't its first, or two that changed places, and which goes on as that does. `None` where it is none.
 fn meant(place: TokenPlace<'_>) -> Option<Misnomer<'_>> {
-    let word = place.word().as_bytes();
-    let mut keywords = said_of(KEYWORDS, &[place.stand()]).split(" ");
+    let (word, stand) = (place.word().as_bytes(), place.stand());
+    let mut keywords = said_of(KEYWORDS, &[stand]).split(" ");
     let keyword = keywords.find(|keyword| {
         let (first, other) = (part(word, 0, 1), part(keyword.as_bytes(), 0, 1));
-        same_word(first, other) && within_one(word, keyword.as_bytes())
+        same_word(first, other) && (within_one(word, keyword.as_bytes()) || joins(place, keyword))
     })?;
+    let is_parted = joins(place, keyword);
+    let last = if is_parted { place.next() } else { place };
     let said = ("is no keyword; did you mean ", keyword, "?");
-    let is_word = place.sign() == "word" && word.len() > 2;
-    (is_word && may_stand(place, keyword)).then_some((place, keyword, said, GRAMMAR))
+    let least = if fits("value|valued", stand) { 2 } else { 3 };
+    let may_be = is_parted || word.len() >= least;
+    (may_be && may_stand(last, keyword)).then_some((place, keyword, said, GRAMMAR))
+}
+
+/// Whether a word and the one behind it in its line are the parts of a keyword.
+fn joins(place: TokenPlace<'_>, keyword: &str) -> bool {
+    let next = place.next();
+    is_joined(place.word(), next.word(), keyword) && is_in_line(next)
+}
+
+/// How many tokens a word has that stands for a keyword: more than 1 where this is parted, as in END IF, END-IF or END_I F.
+pub fn parted_len(place: TokenPlace<'_>, keyword: &str) -> usize {
+    let is_end = fits("END|END_", place.word()) && is_in_line(place.next());
+    match place.behind(1) {
+        "-" if is_end && !closing_of(place.behind(2)).is_empty() => 3,
+        opening if is_end && !closing_of(opening).is_empty() => 2,
+        _ if is_end && joins(place, closing_of(place.opener())) => 2,
+        _ if joins(place, keyword) => 2,
+        _ => 1,
+    }
 }
 
 /// The keyword that closes what is open, where a word begins as those do that close something; `None` where it doesn't.
 fn closing(place: TokenPlace<'_>) -> Option<Misnomer<'_>> {
-    let is_end = same_word(part(place.word().as_bytes(), 0, 3), b"END") && place.sign() == "word";
+    if !same_word(part(place.word().as_bytes(), 0, 1), b"E") {
+        return None;
+    }
     let keyword = closing_of(place.opener());
+    let len = parted_len(place, keyword);
+    let is_end = same_word(part(place.word().as_bytes(), 0, 3), b"END") || len > 1;
     let said = ("is no keyword: ", keyword, " closes what is open here");
-    let may_end = fits("statement|declaration", place.stand()) && may_close(place);
+    let may_end = fits("statement|declaration", place.stand()) && (may_close(place) || len > 1);
     (is_end && may_end).then_some((place, keyword, said, GRAMMAR))
 }
 
 /// What is said of a word that begins as those do that open a section, where declarations follow it; `None` of any other.
 fn section(place: TokenPlace<'_>) -> Option<Misnomer<'_>> {
-    let is_var = same_word(part(place.word().as_bytes(), 0, 4), b"VAR_") && place.sign() == "word";
+    if !same_word(part(place.word().as_bytes(), 0, 4), b"VAR_") {
+        return None;
+    }
     let may_open = fits("top|behind|head|declaration|statement", place.stand());
     let said = (
         "opens no section: VAR, VAR_INPUT, VAR_OUTPUT, VAR_EXTERNAL and VAR_GLOBAL do",
         "",
         "",
     );
-    (is_var && may_open && begins_names(place)).then_some((place, "_", said, GRAMMAR))
+    (may_open && begins_names(place)).then_some((place, "_", said, GRAMMAR))
 }
 
-/// The word by which a token can't be there, that one or the one before it, unless it is a name that is declared; behind the last token one that is meant to close what is open.
+/// Whether the word that is told isn't a name that is declared.
+fn is_undeclared(told: &Misnomer<'_>) -> bool {
+    !is_variable(told.0)
+}
+
+/// The word with which a statement begins as a call does, among whose arguments a token stands; else that token.
+fn called(place: TokenPlace<'_>) -> TokenPlace<'_> {
+    let open = place
+        .parenthesis()
+        .filter(|_| fits("argument|argued", place.stand()));
+    open.map_or(place, |open| open.previous())
+}
+
+/// The word behind the keyword of a unit, where the second one behind it stands before a token; else that token.
+fn titled(place: TokenPlace<'_>) -> TokenPlace<'_> {
+    if place.before(1) == "word" && fits("UNIT", place.before(3)) {
+        place.previous().previous()
+    } else {
+        place
+    }
+}
+
+/// The word by which a token can't be there, that one, the one before it, the one with which its call begins or the one behind its unit's keyword, unless it is a name that is declared; behind the last token one that is meant to close what is open.
 pub fn misnomer(place: TokenPlace<'_>) -> Option<Misnomer<'_>> {
     let words = || {
-        let both = [place, place.previous()];
-        both.into_iter().filter(|word| !is_variable(*word))
+        let all = [place, place.previous(), called(place), titled(place)];
+        all.into_iter().filter(|word| word.sign() == "word")
     };
-    let closing = words().find_map(closing);
+    let closing = words().filter_map(closing).find(is_undeclared);
     if place.number >= place.tokens.len() {
         return closing;
     }
-    let foreign = words().find_map(foreign);
-    let meant = words().find_map(meant);
-    let section = words().find_map(section);
+    let foreign = words().filter_map(foreign).find(is_undeclared);
+    let meant = words().filter_map(meant).find(is_undeclared);
+    let section = words().filter_map(section).find(is_undeclared);
     foreign.or(meant).or(section).or(closing)
 }
