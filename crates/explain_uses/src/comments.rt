@@ -41,13 +41,16 @@ pub fn comment_at(text: &[u8], from: usize) -> Option<Comment> {
     let (opens, closes) = *BRACKETS.iter().find(|pair| rest.starts_with(pair.0))?;
     let inside = from.saturating_add(2);
     let end = find_from(text, inside, closes).unwrap_or(text.len());
-    let inner = find_from(text.get(..end)?, inside, opens);
-    let before = text.get(inside..inner.unwrap_or(inside)).unwrap_or(b"");
+    let mut bytes = text.get(inside..end).unwrap_or(b"").iter();
+    let first_end = bytes.position(|byte| *byte == b';');
+    let inner = first_end.and_then(|len| {
+        find_from(text.get(..end)?, inside.saturating_add(len), opens)
+    });
     let is_of_line = closes.len() == 1;
     Some(Comment {
         from,
         until: end.saturating_add(closes.len()),
-        inner: inner.filter(|_| !is_of_line && before.contains(&b';')),
+        inner: inner.filter(|_| !is_of_line),
     })
 }
 
