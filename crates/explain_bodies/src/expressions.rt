@@ -24,6 +24,16 @@ pub fn wanted_beside(op: Binary) -> Wanted {
     }
 }
 
+/// What the operand behind an operator has to be, where one of a kind stands before it.
+fn wanted_behind(op: Binary, left: Option<Kind>) -> Wanted {
+    match (wanted_beside(op), left) {
+        (Wanted::Any, Some(kind)) => Wanted::Of(kind),
+        (Wanted::Number, Some(Kind::Dint)) => Wanted::Of(Kind::Dint),
+        (Wanted::Number, Some(Kind::Time)) => Wanted::Of(Kind::Time),
+        (wanted, _) => wanted,
+    }
+}
+
 /// Whether an operator compares, by order or else, or has a comparison behind it beside AND, OR or XOR.
 fn form_of(op: Binary, right: Form) -> Form {
     match (op, right) {
@@ -189,6 +199,35 @@ impl<'t> Teller<'t> {
         whole
     }
 
+    /// Walks an instance and one of its outputs with an operator between them, as edge>Q, which is told; `None` where these operands are no such ones.
+    fn pointless(&mut self, left: &'t Expr<Text>, right: &'t Expr<Text>) -> Option<Operand> {
+        let mut operand = left;
+        if let Expr::Unary(_, inner) = left {
+            operand = inner;
+        }
+        let (Expr::Read(instance), Expr::Read(name)) = (operand, right) else {
+            return None;
+        };
+        let kind = self.body.scope.output_kind(instance, name);
+        let is_there = self.body.scope.find(name).is_some() || self.body.doubts(name);
+        if kind.is_none() || is_there || self.body.doubts(instance) {
+            return None;
+        }
+        let first = self.cursor.pass_name(instance);
+        let last = self.cursor.pass_name(name);
+        let tokens = (first, last.saturating_add(1));
+        let words = [instance.as_str(), name.as_str()];
+        self.say(
+            MEMBERS,
+            tokens,
+            "an output is read with a point, as in %.%",
+            &words,
+        );
+        let mut whole = Operand::varies(tokens);
+        whole.kind = kind;
+        Some(whole)
+    }
+
     /// Walks an expression; a name that isn't there may be one that is what is wanted.
     #[cycle(expressions)]
     pub fn expr(&mut self, expr: &'t Expr<Text>, wanted: Wanted) -> Operand {
@@ -207,9 +246,12 @@ impl<'t> Teller<'t> {
                 self.unary(*op, number, &part)
             }
             Expr::Binary(op, a, b) => {
+                if let Some(whole) = self.pointless(a, b) {
+                    return whole;
+                }
                 let left = self.expr(a, wanted_beside(*op));
                 let number = self.cursor.pass(Sought::Infix);
-                let right = self.expr(b, wanted_beside(*op));
+                let right = self.expr(b, wanted_behind(*op, left.kind));
                 self.binary(*op, number, &left, &right)
             }
         }

@@ -4,11 +4,21 @@ use crate::expressions::wanted_beside;
 use crate::part::{Form, Operand};
 use crate::teller::{KINDS, MEMBERS, NAMES, Teller, alone};
 use explain_names::{Member, Wanted, members_of, other_use, variable_hint};
+use explain_tokens::fits;
 use explain_trees::kind_text;
 use plant_types::{Kind, Text};
 use st_names::Scope;
 use st_tree::{Argument, Binary, Unary};
 use std::alloc::AllocError;
+
+/// The signs that compare.
+const COMPARING: &str = "=|<>|<|>|<=|>=";
+
+/// The signs that compute.
+const COMPUTING: &str = "+|-|*|/|MOD";
+
+/// What ends a comparison.
+const ENDING: &str = "AND|&|OR|XOR|THEN|;|,|)|]";
 
 /// What is said beside two kinds that don't fit: how what is wanted is written.
 fn beside(wanted: Kind, part: &Operand) -> &'static str {
@@ -30,6 +40,18 @@ fn beside_operand(wanted: Option<Kind>, part: &Operand) -> &'static str {
     }
 }
 
+/// What is said of an input that a block hasn't, and that blocks of other dialects have; empty of others.
+fn said_of_foreign(block: &Text, name: &Text) -> &'static str {
+    let is_reset = fits("TON", block.as_str()) && fits("R|RST|RESET", name.as_str());
+    match is_reset {
+        true => "a call with IN := FALSE sets it back",
+        false if fits("EN", name.as_str()) => {
+            "a call that is to be left out at times stands in an IF"
+        }
+        false => "",
+    }
+}
+
 /// The kind of a part, as it is told; none of one that isn't known.
 fn kind_of(part: &Operand) -> &'static str {
     part.kind.map_or("", kind_text)
@@ -44,7 +66,8 @@ impl<'t> Teller<'t> {
             return self.tell(NAMES, alone(number), [text, more], &[name.as_str()]);
         }
         if self.plant.is_program(name) {
-            let text = "@ is a program, and no variable";
+            let text =
+                "@ is a program, and no variable: each program runs once in a scan, by itself";
             return self.tell(NAMES, alone(number), [text, ""], &[]);
         }
         let hint = variable_hint(&self.body, name, wanted, self.behind);
@@ -106,10 +129,9 @@ impl<'t> Teller<'t> {
         if !self.takes(MEMBERS) {
             return;
         }
-        let what = if member == Member::Given {
-            "input"
-        } else {
-            "output"
+        let what = match member {
+            Member::Given => "input",
+            _ => "output",
         };
         let arguments: &[Argument<Text>] = match member {
             Member::Read => &[],
@@ -119,9 +141,19 @@ impl<'t> Teller<'t> {
         let Some((list, hint)) = self.told.got(members) else {
             return;
         };
-        let other = other_use(self.plant, word, name, member);
+        let mut other = other_use(self.plant, word, (name, member), list.is_empty());
+        if other.is_empty() && member == Member::Given {
+            other = said_of_foreign(word, name);
+        }
         if !other.is_empty() {
-            let block = word.as_str();
+            let (block, own) = (word.as_str(), name.as_str());
+            let key = format!(in self.alloc; "{block}.{own}");
+            let key = self.made(key);
+            let added = self.strays.add(self.alloc, key.as_str());
+            let is_new = self.told.got(added) == Some(true);
+            if other.starts_with("it stands in VAR") && !is_new {
+                return;
+            }
             let text = format!(in self.alloc; "block {block} has no {what} @: {other}");
             let text = self.made(text);
             return self.say(MEMBERS, alone(number), text.as_str(), &[]);
@@ -135,6 +167,40 @@ impl<'t> Teller<'t> {
         self.say(MEMBERS, alone(number), text, &words);
     }
 
+    /// What is said of the one output of a kind of an instance, beside another output that these tokens read; empty where there is none, or there are several.
+    fn output_of(&mut self, (from, until): (usize, usize), wanted: Kind) -> String {
+        let none = String::new(self.alloc);
+        let word = self.cursor.word(from);
+        let is_read = self.cursor.word(from.saturating_add(1)) == ".";
+        let made = Text::from_str(self.alloc, word);
+        let (Some(instance), true) = (self.told.got(made), is_read) else {
+            return none;
+        };
+        let Some(block) = self.body.block_word(&instance) else {
+            return none;
+        };
+        let members = members_of(self.plant, block, (block, Member::Read), &[]);
+        let Some((list, _)) = self.told.got(members) else {
+            return none;
+        };
+        let (mut count, mut found) = (0usize, String::new(self.alloc));
+        for output in list.as_str().split(" ") {
+            let made = Text::from_str(self.alloc, output);
+            if let Some(name) = self.told.got(made) {
+                if self.body.scope.output_kind(&instance, &name) == Some(wanted) {
+                    count = count.saturating_add(1);
+                    found = self.made(String::from_str(self.alloc, output));
+                }
+            }
+        }
+        if count != 1 || until != from.saturating_add(3) {
+            return none;
+        }
+        let (kind, found) = (kind_text(wanted), found.as_str());
+        let text = format!(in self.alloc; ", and the {kind} of its instance is '{word}.{found}'");
+        self.made(text)
+    }
+
     /// Tells of a part that isn't of the kind that it has to be, for what takes it. In the place of a name that is given another name may be meant.
     pub fn tell_unfit(&mut self, part: &Operand, wanted: Kind, taker: Option<&Text>) {
         let (from, until) = part.tokens;
@@ -144,13 +210,16 @@ impl<'t> Teller<'t> {
         } else {
             beside(wanted, part)
         };
-        let (kind, found) = (kind_text(wanted), kind_of(part));
+        let output = self.output_of(part.tokens, wanted);
+        let (kind, found, output) = (kind_text(wanted), kind_of(part), output.as_str());
         let text = match taker {
             Some(name) => {
                 let name = name.as_str();
-                format!(in self.alloc; "'{name}' is a {kind}, and @ is a {found}{more}")
+                format!(in self.alloc; "'{name}' is a {kind}, and @ is a {found}{output}{more}")
             }
-            None => format!(in self.alloc; "a {kind} is wanted here, and @ is a {found}{more}"),
+            None => format!(in self.alloc;
+                "a {kind} is wanted here, and @ is a {found}{output}{more}"
+            ),
         };
         let text = self.made(text);
         self.say(KINDS, part.tokens, text.as_str(), &[]);
@@ -189,18 +258,51 @@ impl<'t> Teller<'t> {
             None => part.kind != Some(Kind::Bool),
         };
         if !is_fit {
-            let word = self.cursor.word(number);
-            let (found, more) = (kind_of(part), beside_operand(wanted, part));
+            let output = match wanted {
+                Some(kind) => self.output_of(part.tokens, kind),
+                None => String::new(self.alloc),
+            };
+            let (word, found, output) = (self.cursor.word(number), kind_of(part), output.as_str());
+            let more = beside_operand(wanted, part);
             let text = format!(in self.alloc;
-                "'{word}' takes {takes}, and @{side} is a {found}{more}"
+                "'{word}' takes {takes}, and @{side} is a {found}{output}{more}"
             );
             let text = self.made(text);
             self.say(KINDS, part.tokens, text.as_str(), &[]);
         }
     }
 
+    /// Tells of the operand of the NOT at the token of a number, which is no BOOL, where a sign behind it compares or computes with it: NOT binds tighter. Returns
+    /// whether one does.
+    fn tell_tight_not(&mut self, number: usize, part: &Operand) -> bool {
+        let (from, until) = part.tokens;
+        let sign = self.cursor.word(until);
+        let is_compared = fits(COMPARING, sign);
+        if !is_compared && !fits(COMPUTING, sign) {
+            return false;
+        }
+        let behind = until.saturating_add(2);
+        let (word, found) = (self.cursor.word(number), kind_of(part));
+        let text = if is_compared && fits(ENDING, self.cursor.word(behind)) {
+            let whole = self.cursor.quote((from, behind));
+            format!(in self.alloc;
+                "'{word}' takes a BOOL, and @ is a {found}; NOT binds tighter than '{sign}': write NOT ({whole})"
+            )
+        } else {
+            format!(in self.alloc;
+                "'{word}' takes a BOOL, and @ is a {found}; NOT binds tighter than '{sign}': a comparison behind it stands in parentheses"
+            )
+        };
+        let text = self.made(text);
+        self.say(KINDS, part.tokens, text.as_str(), &[]);
+        true
+    }
+
     /// Tells of the operand of NOT or of a minus, which isn't of its kind.
     pub fn tell_unary(&mut self, op: Unary, number: usize, part: &Operand) {
+        if matches!(op, Unary::Not) && self.tell_tight_not(number, part) {
+            return;
+        }
         let takes = match op {
             Unary::Not => ("a BOOL", Some(Kind::Bool)),
             _ => ("a DINT or a TIME", None),
@@ -237,10 +339,24 @@ impl<'t> Teller<'t> {
         true
     }
 
+    /// Tells of a DINT before AND, OR or XOR at the token of a number, behind which a number stands, as in n AND 16#01 = 0; returns whether there is one.
+    fn tell_bits(&mut self, number: usize, left: &Operand, right: &Operand) -> bool {
+        let mask = self.cursor.word(right.tokens.0).as_bytes();
+        if left.kind != Some(Kind::Dint) || !matches!(mask, [b'0'..=b'9', ..]) {
+            return false;
+        }
+        let word = self.cursor.word(number);
+        let text = "'%' takes two BOOL, and @ before it is a DINT: bits of numbers aren't joined";
+        self.say(KINDS, left.tokens, text, &[word]);
+        true
+    }
+
     /// Tells of the operands of an operator at the token of a number, which it doesn't take.
     pub fn tell_binary(&mut self, op: Binary, number: usize, left: &Operand, right: &Operand) {
         let is_logic = matches!(op, Binary::And | Binary::Or | Binary::Xor);
-        if is_logic && self.tell_half(number, left, right) {
+        if is_logic
+            && (self.tell_half(number, left, right) || self.tell_bits(number, left, right))
+        {
             return;
         }
         let are_numbers = left.kind != Some(Kind::Bool) && right.kind != Some(Kind::Bool);

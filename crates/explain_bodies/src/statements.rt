@@ -80,8 +80,8 @@ impl<'t> Teller<'t> {
         }
     }
 
-    /// The kind of an input that a call gives to an instance of a block, or of an output that it takes, where that is sure; tells of one that isn't there, or
-    /// is there twice.
+    /// The kind of an input that a call gives to an instance of a block, or of an output that it takes, where that is sure and it is there once; tells of one that
+    /// isn't there, or is there twice.
     fn member(
         &mut self,
         (instance, word): (&Text, &Text),
@@ -99,12 +99,9 @@ impl<'t> Teller<'t> {
         }
         let added = self.given.add(self.alloc, name.as_str());
         if self.told.got(added) == Some(false) {
-            self.say(
-                MEMBERS,
-                alone(number),
-                "the % @ is there twice in this call",
-                &[what],
-            );
+            let text = "the % @ is there twice in this call";
+            self.say(MEMBERS, alone(number), text, &[what]);
+            return None;
         }
         kind
     }
@@ -153,6 +150,11 @@ impl<'t> Teller<'t> {
         true
     }
 
+    /// Whether the block of an instance, of a word where that is known, has an input of a name.
+    fn is_input(&self, instance: &Text, word: Option<&Text>, name: &Text) -> bool {
+        word.is_some() && self.body.scope.input_kind(instance, name).is_some()
+    }
+
     /// Walks an argument of the call of an instance, whose block is of a word, where that is known.
     fn argument(&mut self, instance: &Text, word: Option<&Text>, argument: &'t Argument<Text>) {
         let (name, member) = match argument {
@@ -167,6 +169,10 @@ impl<'t> Teller<'t> {
         match argument {
             Argument::Input(_, expr) => {
                 self.value(expr, kind, Some(name));
+            }
+            Argument::Output(_, variable) if self.is_input(instance, word, name) => {
+                let number = self.cursor.pass_name(variable);
+                self.is_named(variable, number, Wanted::Any);
             }
             Argument::Output(_, variable) => self.taker(number, kind, variable),
         }

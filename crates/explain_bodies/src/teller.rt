@@ -55,6 +55,8 @@ pub struct Teller<'t> {
     /// The names that the unit uses and that aren't there, and the number of the mistake at which each is told.
     pub missing: Names,
     pub kept: Vec<usize>,
+    /// The names behind their blocks' and a point, of inputs and outputs that were told of, as of another use.
+    pub strays: Names,
     /// The inputs and outputs that the call names.
     pub given: Names,
     pub told: Told,

@@ -72,6 +72,7 @@ fn mistakes_in<'t>(
         arguments: &[],
         missing: Names::new(alloc),
         kept: Vec::new(alloc),
+        strays: Names::new(alloc),
         given: Names::new(alloc),
         told: Told::new(alloc, refused),
         blocks_left: MOST_BLOCKS,

@@ -6,18 +6,25 @@ use explain_trees::{Form, Trees};
 
 /// Blocks and kinds that other dialects have, and what stands in their place.
 const DIALECTS: &str = "\
-F_TRIG an R_TRIG with CLK := NOT x has Q TRUE when x falls
-REAL|LREAL there are no fractions: a DINT counts in tenths or hundredths
-INT|SINT|LINT|UINT|USINT|UDINT|ULINT whole numbers are of the kind DINT
+F_TRIG|OSF|OSFI|F_EDGE|FALLING_EDGE an R_TRIG with CLK := NOT x has Q TRUE when x falls
+OSR|OSRI|ONS|R_EDGE|RISING_EDGE an R_TRIG has Q TRUE when its CLK rises
+REAL|LREAL|FLOAT|DOUBLE there are no fractions: a DINT counts in tenths or hundredths
+INT|SINT|LINT|UINT|USINT|UDINT|ULINT|INTEGER|LONG|INT8|INT16|INT32|UINT8|UINT16|INT16_T|INT32_T|UINT8_T|UINT16_T whole numbers are of the kind DINT
 BYTE|WORD|DWORD|LWORD numbers are of the kind DINT, and each bit is a BOOL of its own
 BOOLEAN|BIT truths are of the kind BOOL
-LTIME|S5TIME|DATE|TOD|DT durations are of the kind TIME, and moments there are none
-TP there is no timer of one pulse
+LTIME|S5TIME durations are of the kind TIME
+DATE|TOD|DT|LDATE|LTOD|LDT|DATE_AND_TIME|TIME_OF_DAY|DTL durations are of the kind TIME, and moments there are none
+STRING|WSTRING|CHAR|WCHAR there are no texts
+TP|TP_TIME|LTP there is no timer of one pulse: a TOF with the Q of an R_TRIG as its IN gives one, which a new edge lengthens
 SR a BOOL keeps its value: IF s THEN q := TRUE; ELSIF r THEN q := FALSE; END_IF
 RS a BOOL keeps its value: IF r THEN q := FALSE; ELSIF s THEN q := TRUE; END_IF
-CTU|CTD|CTUD a DINT counts, with an R_TRIG for the edge
-TONR there is no timer that keeps its time while IN is FALSE
-TIMER|TOFR a timer is an instance of TON or TOF
+CTU|CTD|CTUD|COUNTER|IEC_COUNTER a DINT counts, with an R_TRIG for the edge
+TONR|TONR_TIME there is no timer that keeps its time while IN is FALSE, and none with a reset
+RTO|RTOR there is no timer that keeps its time while IN is FALSE
+TOFR there is no timer with a reset
+TON_TIME|LTON|ON_DELAY the timer that delays on is TON
+TOF_TIME|LTOF|OFF_DELAY the timer that delays off is TOF
+TIMER|IEC_TIMER|FBD_TIMER a timer is an instance of TON, which delays on, or of TOF, which delays off
 ";
 
 /// The kinds, and the blocks that are there from the start.
@@ -54,14 +61,9 @@ fn nearest_type<'t>(plant: &Trees<'t>, word: &'t str) -> Said<'t> {
     }
 }
 
-/// What stands in the place of a word of other dialects; empty where it is none.
-fn dialect_of<'t>(word: &'t str) -> &'t str {
-    said_of(DIALECTS, &[word])
-}
-
 /// What is said of a word of other dialects; `None` where it is none.
 fn dialect_said(word: &str) -> Option<Said<'_>> {
-    let told = dialect_of(word);
+    let told = said_of(DIALECTS, &[word]);
     if told.is_empty() {
         return None;
     }

@@ -27,22 +27,16 @@ fn beside<'t>(
 
 /// The block or program that has a name for itself, the first in order of text; empty if none has.
 fn owner_of<'t>(entries: &[DeclaredName<'t>], name: &str) -> &'t str {
-    for entry in entries {
-        if !entry.owner.is_empty() && entry.is_called(name) {
-            return entry.owner;
-        }
-    }
-    ""
+    let mut entries = entries.iter();
+    let owned = entries.find(|entry| !entry.owner.is_empty() && entry.is_called(name));
+    owned.map_or("", |entry| entry.owner)
 }
 
 /// What the global of a name is declared as; `None` if there is none.
 fn sort_of<'t>(entries: &[DeclaredName<'t>], name: &str) -> Option<&'t Sort> {
-    for entry in entries {
-        if entry.is_global(None) && entry.is_called(name) {
-            return entry.sort();
-        }
-    }
-    None
+    let mut entries = entries.iter();
+    let global = entries.find(|entry| entry.is_global(None) && entry.is_called(name))?;
+    global.sort()
 }
 
 /// Why a name is no BOOL global's, in a plant of units.

@@ -1,6 +1,6 @@
 //! The names that may be meant by one that isn't there.
 
-use crate::owners::{has_output, instance_hint, owner_hint, takes_all};
+use crate::owners::{has_output, instance_hint, list_hint, owner_hint, takes_all};
 use crate::slips::{
     Nearness, Said, Slips, nearness_of, nothing, plain, question, question_or_nothing, with_words,
 };
@@ -145,7 +145,7 @@ impl<'n> Near<'n> {
     fn offer(&mut self, body: &Body<'_>, declared: &Declared<'n>) {
         let name = declared.name().as_str();
         let word = self.fit.word;
-        if let (Sort::Block(block), true) = (declared.sort(), goes_on(word, name, 64)) {
+        if let (Sort::Block(block), true) = (declared.sort(), goes_on(word, name, 3)) {
             let text = "; '%' is there, and is an instance of %";
             self.instance = Some(with_words(text, name, block.as_str()));
         }
@@ -209,7 +209,7 @@ fn is_point(plant: &Trees<'_>, name: &str) -> bool {
 /// What is said of a name whose declaration is missing, by where it is used; `is_listed` tells whether an alarm names it.
 fn missing(wanted: Wanted, count: Count, is_listed: bool) -> &'static str {
     if matches!(wanted, Wanted::Control) {
-        "; the variable of a FOR is declared in VAR of the program or block itself"
+        "; the variable of a FOR is declared in VAR of its unit, or another one is meant"
     } else if is_listed || count.elsewhere > 0 {
         "; its declaration is missing: VAR_GLOBAL hasn't it"
     } else {
@@ -246,9 +246,6 @@ struct Lacking<'t> {
 impl<'t> Lacking<'t> {
     /// What is said where it is used in one place: it may be a slip.
     fn once(&self, near: &Near<'t>) -> Option<Said<'t>> {
-        if self.owner.is_some() {
-            return self.owner;
-        }
         let is_read = matches!(self.wanted, Wanted::Instance);
         let word = near.fit.word;
         let name = match (self.unused, near.fit.likely(), near.longer.only()) {
@@ -256,7 +253,8 @@ impl<'t> Lacking<'t> {
             ("", likely, _) => likely,
             (unused, _, _) => unused,
         };
-        let told = question(name).or(literal_hint(word, self.wanted, false));
+        let told = self.owner.or(question(name));
+        let told = told.or(literal_hint(word, self.wanted, false));
         told.or(near.other())
     }
 
@@ -289,14 +287,15 @@ fn by_uses<'t>(
     let [one, other, third] = near.fit.near();
     let words = [word, one, other, third];
     let uses = Uses::of(plant, body.name, &words);
-    let owner = if is_changed(plant, body.name, word)? {
+    let count = uses.count(0);
+    let is_listed = is_in_table(plant.alarms, word);
+    let is_often = is_listed || count.all() > 1;
+    let may_be_slip = !is_often && (near.fit.has_near() || near.longer.has_near());
+    let owner = if may_be_slip || is_changed(plant, body.name, word)? {
         None
     } else {
         owner_hint(plant.entries.as_slice(), word, wanted)
     };
-    let count = uses.count(0);
-    let is_listed = is_in_table(plant.alarms, word);
-    let is_often = is_listed || count.all() > 1;
     let lacking = Lacking {
         wanted,
         count,
@@ -312,7 +311,8 @@ fn by_uses<'t>(
 }
 
 /// What is said beside a name that a unit hasn't: that its declaration is missing, where it is used so; else a question for the name that is likely meant, or what
-/// the near other one is, or who has one of this name for itself. Of an instance it is said which blocks it may be of. Empty where there is none of these.
+/// the near other one is, or who has one of this name for itself. Of an instance it is said which blocks it may be of, or that globals are named without the name
+/// of a list. Empty where there is none of these.
 pub fn variable_hint<'t>(
     body: &Body<'t>,
     name: &'t Text,
@@ -321,6 +321,10 @@ pub fn variable_hint<'t>(
 ) -> Result<Said<'t>, AllocError> {
     if !wanted.is_instance() {
         if let Some(told) = called_for(body, name)? {
+            return Ok(told);
+        }
+    } else if matches!(wanted, Wanted::Instance) {
+        if let Some(told) = list_hint(body.plant, name, behind) {
             return Ok(told);
         }
     }

@@ -2,6 +2,7 @@
 
 use crate::hints::{Behind, Wanted};
 use crate::slips::{Said, plain, with_words};
+use explain_tokens::fits;
 use explain_trees::{DeclaredName, Form, Trees};
 use plant_types::Text;
 use st_names::sort_kind;
@@ -75,6 +76,34 @@ pub fn takes_all(plant: &Trees<'_>, block: &Text, arguments: &[Argument<Text>]) 
 /// Whether a block has an output.
 pub fn has_output(plant: &Trees<'_>, block: &Text, output: &Text) -> bool {
     plant.shared.output(block, output).is_some()
+}
+
+/// Whether a block that is there from the start has an output, or one of the sources.
+fn is_output(plant: &Trees<'_>, output: &Text) -> bool {
+    let mut entries = plant.entries.iter();
+    fits("Q|ET", output.as_str())
+        || entries.any(|entry| match &entry.form {
+            Form::Block(pou) => has_output(plant, &pou.name, output),
+            _ => false,
+        })
+}
+
+/// What is said of a word that nothing is called and behind whose point a global stands, as behind the name of a list of globals; `None` where it may be an
+/// instance.
+pub fn list_hint<'t>(plant: &Trees<'_>, word: &Text, behind: Behind<'t>) -> Option<Said<'t>> {
+    let Behind::Output(global) = behind else {
+        return None;
+    };
+    let (mut entries, mut globals) = (plant.entries.iter(), plant.entries.iter());
+    let is_there = entries.any(|entry| entry.is_called(word.as_str()));
+    let is_global = globals.any(|entry| {
+        entry.is_global(None) && entry.is_called(global.as_str())
+    });
+    if is_there || !is_global || is_output(plant, global) {
+        return None;
+    }
+    let text = "; globals are named without the name of a list: %";
+    Some(with_words(text, global.as_str(), ""))
 }
 
 /// The blocks of which an instance may be that is called with these arguments, as many as are told.

@@ -50,14 +50,12 @@ fn is_inside(name: &[u8], at: usize) -> bool {
 
 /// Whether a digit and a letter look alike.
 fn look_alike(a: u8, b: u8) -> bool {
-    let is_zero = |byte: u8| byte == b'0';
-    let is_one = |byte: u8| byte == b'1';
     let is_o = |byte: u8| matches!(byte, b'O' | b'o');
     let is_bar = |byte: u8| matches!(byte, b'I' | b'i' | b'L' | b'l');
-    (is_zero(a) && is_o(b))
-        || (is_o(a) && is_zero(b))
-        || (is_one(a) && is_bar(b))
-        || (is_bar(a) && is_one(b))
+    let looks = |digit: u8, letter: u8| {
+        digit == b'0' && is_o(letter) || digit == b'1' && is_bar(letter)
+    };
+    looks(a, b) || looks(b, a)
 }
 
 /// Whether a letter tells things of one kind apart, as in pumpA and pumpB, or FAN_L and FAN_R.
@@ -229,24 +227,22 @@ impl<'n> Slips<'n> {
 
     /// The name that looks like the word, or the one that is near, where the word is a slip for it.
     pub fn slip(&self) -> &'n str {
+        self.meant(false)
+    }
+
+    /// The name that looks like the word, or the one that is near, where it is likely meant.
+    pub fn likely(&self) -> &'n str {
+        self.meant(true)
+    }
+
+    fn meant(&self, is_likely: bool) -> &'n str {
         let name = self.only();
         if !self.image.is_empty() {
             return self.image;
         }
         match nearness_of(self.word, name) {
             Nearness::Slip => name,
-            _ => "",
-        }
-    }
-
-    /// The name that looks like the word, or the one that is near, where it is likely meant.
-    pub fn likely(&self) -> &'n str {
-        let name = self.only();
-        if !self.image.is_empty() {
-            return self.image;
-        }
-        match nearness_of(self.word, name) {
-            Nearness::Slip | Nearness::Likely => name,
+            Nearness::Likely if is_likely => name,
             _ => "",
         }
     }
@@ -273,10 +269,7 @@ pub fn nothing<'t>() -> Said<'t> {
 
 /// A question for a name, or nothing, where it is empty.
 pub fn question_or_nothing(name: &str) -> Said<'_> {
-    if name.is_empty() {
-        return nothing();
-    }
-    with_words("; did you mean '%'?", name, "")
+    question(name).unwrap_or(nothing())
 }
 
 /// A question for a name; `None` where it is empty.

@@ -155,12 +155,8 @@ pub enum Given {
 fn given_in(arguments: &[Argument<Text>], name: &str) -> Given {
     for argument in arguments {
         match argument {
-            Argument::Input(word, _) if same_word(word.as_bytes(), name.as_bytes()) => {
-                return Given::Input;
-            }
-            Argument::Output(word, _) if same_word(word.as_bytes(), name.as_bytes()) => {
-                return Given::Output;
-            }
+            Argument::Input(word, _) if is_word(word, name) => return Given::Input,
+            Argument::Output(word, _) if is_word(word, name) => return Given::Output,
             _ => {}
         }
     }
