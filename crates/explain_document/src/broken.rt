@@ -38,6 +38,11 @@ const CLOSED_ABOVE: &str = "the list above is closed already, by its ']'";
 const AGAIN: &str =
     "this stands here a second time: a line [[console]] seems to be missing above it";
 
+const LACKING: &str = "a line [[console]] seems to be missing above this";
+
+const VERSIONS: &str =
+    "marks as <<<<<<< and >>>>>>> stand around two versions of a text: keep one, and delete these lines";
+
 const ONE_LINE: &str = "a key and its value stand in one line, with '=' between them";
 
 const LINE: &str = "a line is a key, '=' and a value, a header in brackets, or a remark behind '#'";
@@ -180,13 +185,24 @@ fn goes_on_below(text: &[u8], entry: &KeyLine, line: Mark) -> bool {
     is_list && matches!(bytes, [b'[', b'"' | b'\'', ..])
 }
 
-/// Whether a second console seems to begin with a line: it has the number or the areas, the next line has the other, and both stand above it already.
+/// The line of the number of the first console, which stands right above the line of its areas, where the areas of the plant stand above both.
+fn number_above(keys: &Keys<'_>, text: &[u8], line: Mark) -> Option<Mark> {
+    let number = keys.find(0, "number")?.key.0;
+    let (above, areas) = (line_of(text, number), keys.find(0, "areas")?.key.0);
+    let is_next = above.1.saturating_add(1) == line.0;
+    let here = pair_of(part(text, line.0, line.1))?.0;
+    let are_both = here == b"areas".as_slice() && areas < above.0;
+    (is_next && are_both).then_some(above)
+}
+
+/// Whether a console seems to begin with a line: it has the number or the areas, the next line has the other, and both stand above it already, or the areas of
+/// the plant alone.
 fn begins_console(keys: &Keys<'_>, text: &[u8], line: Mark) -> bool {
     let headers = keys.consoles.iter();
     let console = headers.take_while(|header| header.0 < line.0).count();
     let is_above = |key: &str| {
         let entry = keys.find(console, key);
-        console > 0 && entry.is_some_and(|entry| entry.key.0 < line.0)
+        entry.is_some_and(|entry| entry.key.0 < line.0)
     };
     let next = line_of(text, line.1.saturating_add(1));
     let (here, below) = (
@@ -200,7 +216,7 @@ fn begins_console(keys: &Keys<'_>, text: &[u8], line: Mark) -> bool {
         }
         _ => false,
     };
-    are_both && is_above("number") && is_above("areas")
+    are_both && is_above("areas") && (console == 0 || is_above("number"))
 }
 
 /// What is said of the bytes in the place of a value; `None` where the reader says it.
@@ -305,12 +321,21 @@ fn said_of_more(line: &[u8], rest: &[u8]) -> Option<&'static str> {
             "each key stands with its value in a line of its own",
         ),
         [] if rest == b";".as_slice() => Some("a line of the plant file ends without a ';'"),
+        _ if is_listed && !line.contains(&b'[') && without_remark(more).last() == Some(&b']') =>
+            Some("the list is closed by a ']', and its '[' is missing behind the '='"),
         [] => Some("no comma stands behind a value, but between the items of a list"),
         [b'"' | b'\'', ..] if is_listed && rest.len() > more.len() => Some(
             "several texts are a list, which stands in brackets, [..]",
         ),
         _ => None,
     }
+}
+
+/// Whether a line is one of those that stand around two versions of a text.
+fn is_mark_of_versions(line: &[u8]) -> bool {
+    line.starts_with(b"<<<<<<<")
+        || line.starts_with(b">>>>>>>")
+        || line.trim_ascii() == b"=======".as_slice()
 }
 
 /// Whether a remark seems to begin at these bytes as in another language: also with ';', where a line begins.
@@ -434,6 +459,14 @@ fn found_header(text: &[u8], at: usize, said: &'static str) -> Found {
 fn found_in_list(text: &[u8], entry: &KeyLine, mark: Mark, message: &str) -> Found {
     let opened = line_of(text, entry.key.0).0;
     let is_below = opened < line_of(text, mark.0).0;
+    let line = line_of(text, mark.0);
+    if is_mark_of_versions(part(text, line.0, line.1)) {
+        return Found {
+            mark: mark_of_line(text, line),
+            said: Some(VERSIONS),
+            until: Some(opened),
+        };
+    }
     let is_end = part(text, mark.0, text.len()).trim_ascii().is_empty();
     if is_end && message != NO_TEXT && text.get(entry.value.0) == Some(&b'[') {
         return Found {
@@ -479,14 +512,16 @@ fn found_at_value(text: &[u8], entry: &KeyLine, mark: Mark, message: &str) -> Op
 
 /// What is found at a place at which a plant file of keys is no document any more, where its reader says this; but of texts that aren't closed.
 fn found_at(text: &[u8], keys: &Keys<'_>, mark: Mark, message: &str) -> Found {
-    let entry = key_before(keys, mark.0);
+    let (entry, line) = (key_before(keys, mark.0), line_of(text, mark.0));
     let is_listed = |entry: &KeyLine| is_open(part(text, entry.value.0, entry.value.1));
     if let Some(entry) = entry {
         if is_listed(entry) {
             return found_in_list(text, entry, mark, message);
         }
     }
-    let line = line_of(text, mark.0);
+    if is_mark_of_versions(part(text, line.0, line.1)) {
+        return found_header(text, mark.0, VERSIONS);
+    }
     if let Some(said) = said_of_header(text, line) {
         return found_header(text, mark.0, said);
     }
@@ -502,6 +537,9 @@ fn found_at(text: &[u8], keys: &Keys<'_>, mark: Mark, message: &str) -> Found {
     if message == "duplicate key" {
         if let Some(above) = console_before(keys, text, mark.0) {
             return found_header(text, above.0, HEADER);
+        }
+        if let Some(above) = number_above(keys, text, line) {
+            return found_header(text, above.0, LACKING);
         }
         if begins_console(keys, text, line) {
             said = Some(AGAIN);

@@ -88,7 +88,7 @@ fn said_of_unknown(keys: &Keys<'_>, mistakes: &[Mistake], wrong: &Mistake) -> &'
         other.why == Why::MissingKey && other.console == 0 && other.key.as_str() == key
     });
     let is_header = keys
-        .find(0, key)
+        .find(wrong.console, key)
         .is_some_and(|entry| entry.value.0 < entry.key.0);
     match wrong.console {
         0 if is_near => "the plant has no key '%': did you mean '%'?",
@@ -97,6 +97,8 @@ fn said_of_unknown(keys: &Keys<'_>, mistakes: &[Mistake], wrong: &Mistake) -> &'
         0 if is_header =>
             "there is no table '%': the plant's own keys stand at the top, without a header",
         0 => "the plant has no key '%'",
+        _ if is_header =>
+            "a console begins with the line [[console]], and its number and areas stand below",
         _ if is_missing =>
             "'%' stands below a [[console]], and so it is that console's: the plant's own keys stand above the first",
         _ if is_near => "a console has no key '%': did you mean '%'?",
@@ -136,6 +138,16 @@ fn mark_of(keys: &Keys<'_>, wrong: &Mistake) -> Result<Option<Mark>, AllocError>
         (None, Some(number)) => keys.console(number),
         (None, None) => Ok(None),
     }
+}
+
+/// The header of a console that isn't written as one of a list; `None` where there is none.
+fn lone_header(keys: &Keys<'_>, text: &[u8]) -> Option<Mark> {
+    let mut entries = keys.entries.iter();
+    let named = entries.find(|entry| {
+        let value = part(text, entry.value.0, entry.value.1);
+        value.starts_with(b"[console.") || value.starts_with(b"[[console.")
+    });
+    keys.header("[console]").or(named.map(|entry| entry.value))
 }
 
 /// Whether a list in brackets stands at these bytes.
@@ -329,7 +341,7 @@ impl<'t> Document<'t> {
         let before = part(text, line_of(text, mark.0).0, mark.0);
         if is_header && before.trim_ascii().is_empty() && !message.starts_with("missing comma") {
             let keys = keys_of(self.alloc, text)?;
-            let header = keys.header("[console]").unwrap_or(mark);
+            let header = lone_header(&keys, text).unwrap_or(mark);
             self.say(Some(header), ONE_CONSOLE, &[])?;
             let above = Vec::from_slice(self.alloc, part(text, 0, header.0))?;
             return Ok(Some(above));

@@ -8,7 +8,7 @@ const FORM: &str = "0000-00-00T00:00:00Z";
 /// Forms that are none of an epoch, and behind `| ` what is said of them: the first that fits.
 const OTHERS: &str = "\
 0000-00-00| its time is missing, as T00:00:00Z
-0000-00-00T00:00:00| the 'Z' at its end is missing
+0000-00-00T00:00:00| the 'Z' at its end is missing, which says that it is in UTC
 0000-00-00T00:00:00z| 'T' and 'Z' are written large
 0000-00-00t00:00:00Z| 'T' and 'Z' are written large
 0000-00-00t00:00:00z| 'T' and 'Z' are written large
@@ -19,9 +19,9 @@ const OTHERS: &str = "\
 0000-00-00 00:00| a 'T' stands between its day and its time, and seconds and a 'Z' behind that
 0000-00-00T00:00:00 Z| no blank stands before its 'Z'
 0000-00-00T00:00:00UTC| it is in UTC, with 'Z' at its end
-0000-00-00T00:00:00+0000| it is in UTC, with 'Z' at its end in the place of an offset
-0000-00-00T00:00:00+00:00| it is in UTC, with 'Z' at its end in the place of an offset
-0000-00-00T00:00:00-00:00| it is in UTC, with 'Z' at its end in the place of an offset
+0000-00-00T00:00:00+0000| it is in UTC, with 'Z' at its end: an offset is taken off the time before it
+0000-00-00T00:00:00+00:00| it is in UTC, with 'Z' at its end: an offset is taken off the time before it
+0000-00-00T00:00:00-00:00| it is in UTC, with 'Z' at its end: this offset is added to the time before it
 00-00-00T00:00:00Z| its year has four digits
 0000/00/00T00:00:00Z| '-' stands between its year, month and day
 0000.00.00T00:00:00Z| '-' stands between its year, month and day
@@ -33,6 +33,9 @@ const OTHERS: &str = "\
 0000-00-0T00:00:00Z| its day has two digits
 0000-0-0T00:00:00Z| its month and its day have two digits each
 0000-00-00T0:00:00Z| its hour has two digits
+00-00-0000T00:00:00Z| the year stands first, then month and day
+00.00.0000T00:00:00Z| the year stands first, then month and day, parted by '-'
+00/00/0000T00:00:00Z| the year stands first, then month and day, parted by '-'
 00.00.0000| the year stands first, then month and day, parted by '-'
 00/00/0000| the year stands first, then month and day, parted by '-'
 00/00/0000 00:00:00| the year stands first, then month and day, parted by '-', and a 'T' before the time
@@ -73,6 +76,7 @@ pub fn said_of_epoch(text: &[u8]) -> &'static str {
         None if has_form(text, FORM.as_bytes()) => said_of_numbers(text),
         None if text.is_empty() => "this one is empty",
         None if text.trim_ascii().len() < text.len() => "no blanks stand beside it",
+        None if text.contains(&b' ') => "no blank stands in it",
         None
             if has_form(seconds, part(FORM.as_bytes(), 0, 19))
                 && matches!(rest, [b'.' | b',', b'0'..=b'9', ..]) => "its seconds are whole ones",

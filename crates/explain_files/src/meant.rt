@@ -9,7 +9,59 @@ fn small(alloc: Global, name: &str) -> Result<String, AllocError> {
         .collect(alloc)
 }
 
-/// Names that a name may be meant as: without blanks beside it, in small letters, with an ending, or with an 's' more or less before its ending.
+/// Names of more bytes aren't mended.
+const LONGEST: usize = 40;
+
+/// A name with the letter of a number, from 0, behind the next one; the name itself where there is no next.
+fn changed_about(alloc: Global, name: &str, number: usize) -> Result<String, AllocError> {
+    let (mut changed, mut kept, mut at) = (String::new(alloc), None, 0usize);
+    for letter in name.chars() {
+        if at == number {
+            kept = Some(letter);
+        } else {
+            changed.push(letter)?;
+            if let Some(letter) = kept {
+                changed.push(letter)?;
+                kept = None;
+            }
+        }
+        at = at.saturating_add(1);
+    }
+    if let Some(letter) = kept {
+        changed.push(letter)?;
+    }
+    Ok(changed)
+}
+
+/// A name without the letter of a number, from 0.
+fn without_one(alloc: Global, name: &str, number: usize) -> Result<String, AllocError> {
+    let (mut rest, mut at) = (String::new(alloc), 0usize);
+    for letter in name.chars() {
+        if at != number {
+            rest.push(letter)?;
+        }
+        at = at.saturating_add(1);
+    }
+    Ok(rest)
+}
+
+/// Adds a name without its folder, and with two letters changed about, or one left out.
+fn add_slips(alloc: Global, name: &str, names: &mut Vec<String>) -> Result<(), AllocError> {
+    let behind = name.as_bytes().iter().rev().position(|byte| *byte == b'/');
+    let folder = name.len().saturating_sub(behind.unwrap_or(name.len()));
+    let file = name.get(folder..).unwrap_or(name);
+    names.push(String::from_str(alloc, file)?)?;
+    if name.len() <= LONGEST {
+        for number in 0..name.len() {
+            names.push(changed_about(alloc, name, number)?)?;
+            names.push(without_one(alloc, name, number)?)?;
+        }
+    }
+    Ok(())
+}
+
+/// Names that a name may be meant as: without blanks beside it, in small letters, with an ending, or with an 's' more or less before its ending; without its
+/// folder, with two letters changed about, or without one of them.
 pub fn names_near(alloc: Global, name: &str) -> Result<Vec<String>, AllocError> {
     let bare = name.trim();
     let mut names = Vec::new(alloc);
@@ -27,5 +79,6 @@ pub fn names_near(alloc: Global, name: &str) -> Result<Vec<String>, AllocError> 
             names.push(format!(in alloc; "{bare}.csv")?)?;
         }
     }
+    add_slips(alloc, bare, &mut names)?;
     Ok(names)
 }

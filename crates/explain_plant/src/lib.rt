@@ -12,6 +12,7 @@
 #![tactic(auto)]
 
 mod limits;
+mod misplaced;
 mod readable;
 mod rows;
 mod sources;

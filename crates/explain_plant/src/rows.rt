@@ -19,7 +19,7 @@ impl<'t> Refused<'t> {
 
     /// Tells what is wrong in the rows of a plant of units that are spelled rightly, but at fault; of what the rows name only the areas where there are no units.
     pub fn in_rows_beside(&mut self, units: &[Unit]) -> Result<(), AllocError> {
-        if !self.has_alarms {
+        if !self.has_alarms || self.in_named_source()? {
             return Ok(());
         }
         self.in_table(rows_beside(self.alloc, (self.plant, self.alarms), units)?)
@@ -34,6 +34,9 @@ impl<'t> Refused<'t> {
 
     /// Tells of the mistakes in rows for which the plant is refused, whose sources are right, and of what else is wrong in rows.
     pub fn in_rows(&mut self, mistakes: &[RowMistake]) -> Result<(), AllocError> {
+        if self.in_named_source()? {
+            return Ok(());
+        }
         let sources = sources_of(self.alloc, self.sources)?;
         let units = units_of(self.alloc, sources.as_slice())?;
         let texts = (self.plant, self.alarms);

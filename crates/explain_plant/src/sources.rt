@@ -1,6 +1,7 @@
 //! What is wrong in the sources: in their spelling and their grammar (C4, C5), or in their units (C6 to C9); and behind that in the rows of the alarm database
 //! (C11 to C14).
 
+use crate::misplaced::lacking;
 use crate::readable::Readable;
 use crate::telling::{MOST_FAULTS, REFUSALS, Refused};
 use explain_bodies::{BrokenRule, Mistake, mistakes};
@@ -52,6 +53,10 @@ impl<'t> Refused<'t> {
         is_spelling: bool,
     ) -> Result<(), AllocError> {
         let (alloc, file) = (self.alloc, self.source_of(name));
+        if self.is_misplaced(file) {
+            self.in_misplaced()?;
+            return self.in_all_sources(None);
+        }
         let text = self.text_of(file);
         let at = byte_at(text, line, column);
         let cause = if is_spelling {
@@ -61,6 +66,7 @@ impl<'t> Refused<'t> {
         };
         let first = (file, cause.mark);
         self.tell(file, cause)?;
+        self.in_misplaced()?;
         self.in_all_sources(Some(first))
     }
 
@@ -187,6 +193,40 @@ impl<'t> Refused<'t> {
         })
     }
 
+    /// Tells of a unit by its name alone.
+    fn in_unit_alone(&mut self, name: &Text, unit: &Text) -> Result<(), AllocError> {
+        let (file, unit) = (self.source_of(name), unit.as_str());
+        let said = format!(in self.alloc; "what the line above says stands in {unit}")?;
+        self.tell(file, cause_of(said, REFUSALS))
+    }
+
+    /// Tells what is wrong in the units though another source has globals, or blocks.
+    fn in_units_without(
+        &mut self,
+        (lacks_globals, lacks_blocks): (bool, bool),
+    ) -> Result<(), AllocError> {
+        let sources = sources_of(self.alloc, self.sources)?;
+        let units = units_of(self.alloc, sources.as_slice())?;
+        let mut unknown = Unknown::nothing(self.alloc);
+        unknown.globals = lacks_globals;
+        unknown.blocks = lacks_blocks;
+        let parsed = Parsed {
+            sources: sources.as_slice(),
+            units: units.as_slice(),
+            unknown: &unknown,
+        };
+        for mistake in mistakes(self.alloc, parsed, self.alarms, None)? {
+            self.tell(FileOf::Source(mistake.source), mistake.cause)?;
+        }
+        for (source, cause) in too_long(self.alloc, sources.as_slice(), units.as_slice())? {
+            self.tell(FileOf::Source(source), cause)?;
+        }
+        if lacks_globals {
+            return self.in_rows_beside(&[]);
+        }
+        self.in_rows_beside(units.as_slice())
+    }
+
     /// Tells what is wrong in the units of a plant that is refused for one by a rule: first why it is refused, by the name of the unit where no more of it is
     /// known, and then others in order of text. Behind these come FORs and arrays that are too long, and rows. Where a name is missing, comments that swallow
     /// what follows come second, the first of each source, and what may be wrong by them alone isn't told.
@@ -205,14 +245,17 @@ impl<'t> Refused<'t> {
             unknown: &unknown,
         };
         let found = mistakes(self.alloc, parsed, self.alarms, Some(rule))?;
+        let lacks = lacking(units.as_slice(), found.as_slice());
+        if lacks.0 || lacks.1 {
+            self.in_few_sources(found.as_slice(), lacks.0)?;
+            return self.in_units_without(lacks);
+        }
         let comments = match rule {
             BrokenRule::Names => self.swallowers()?,
             _ => Vec::new(self.alloc),
         };
         if found.first().map(|first| first.rule) != Some(rule) {
-            let (file, unit) = (self.source_of(name), unit.as_str());
-            let said = format!(in self.alloc; "what the line above says stands in {unit}")?;
-            self.tell(file, cause_of(said, REFUSALS))?;
+            self.in_unit_alone(name, unit)?;
         }
         for mistake in found {
             if !self.is_hidden(comments.as_slice(), &mistake) {

@@ -5,6 +5,7 @@ ghost use Rattle.plant_config.specs.declared.fault.ConfigFault.TheVariants as co
 ghost use Rattle.plant_folder.specs.Verdicts.{refusal_line};
 ghost use Rattle.explain_plant.specs.Told.{BeginsWith};
 
+use crate::misplaced::without_tables;
 use explain_bodies::BrokenRule;
 use explain_document::{no_document, wrong_epoch, wrong_keys};
 use explain_files::{Gathered, Mark, MissingFile, Shelf, Shelved, files_listed};
@@ -24,7 +25,8 @@ pub const REFUSALS: &str = "docs/PLANT.md, \"To find the fault\"";
 pub struct Refused<'t> {
     pub alloc: Global,
     pub plant: &'t [u8],
-    /// The names and texts of the sources.
+    /// The names and texts of the sources, and the same with nothing in the place of the text of one that is a table of alarms.
+    pub listed: &'t [(&'t str, &'t [u8])],
     pub sources: &'t [(&'t str, &'t [u8])],
     pub alarms: &'t [u8],
     /// Whether these sources are all, and whether there is an alarm database.
@@ -68,6 +70,7 @@ impl<'t> Refused<'t> {
             let (mark, page) = (Some(missing.mark), "docs/PLANT.md, \"Reading the files\"");
             self.tell(FileOf::Plant, Cause { mark, said, page })?;
         }
+        self.in_misplaced()?;
         self.in_all_sources(None)
     }
 
@@ -75,7 +78,10 @@ impl<'t> Refused<'t> {
     fn in_limit(&mut self, limit: Limit) -> Result<(), AllocError> {
         self.past(limit)?;
         match limit {
-            Limit::Areas | Limit::Consoles => self.in_all_sources(None),
+            Limit::Areas | Limit::Consoles => {
+                self.in_misplaced()?;
+                self.in_all_sources(None)
+            }
             Limit::Sources | Limit::Text | Limit::Alarms => Ok(()),
             _ => self.in_rows_of_right(),
         }
@@ -95,6 +101,7 @@ impl<'t> Refused<'t> {
             }
             ConfigFault::Epoch => {
                 self.in_document(wrong_epoch(self.alloc, self.plant)?)?;
+                self.in_misplaced()?;
                 self.in_all_sources(None)
             }
             ConfigFault::Limit(limit) => self.in_limit(*limit),
@@ -124,16 +131,18 @@ impl<'t> Refused<'t> {
     }
 }
 
-/// A refused plant of which nothing is told yet, whose files were gathered, or not.
+/// A refused plant of which nothing is told yet, whose files were gathered, or not; and its sources, but for tables of alarms.
 fn untold<'t>(
     alloc: Global,
     texts: &PlantTexts<'t>,
+    sources: &'t [(&'t str, &'t [u8])],
     gathered: Option<&'t Gathered>,
 ) -> Refused<'t> {
     Refused {
         alloc,
         plant: texts.plant,
-        sources: texts.sources,
+        listed: texts.sources,
+        sources,
         alarms: texts.alarms,
         are_all: gathered.is_none_or(|gathered| gathered.are_all),
         has_alarms: gathered.is_none_or(|gathered| gathered.alarms.is_some()),
@@ -153,7 +162,8 @@ fn find_all<'t>(
     ensures least { IfOk result (λ found. 1 ≤ length found.items) }
     ensures most { IfOk result (λ found. length found.items ≤ 20) }
 {
-    let mut refused = untold(alloc, texts, gathered);
+    let sources = without_tables(alloc, texts)?;
+    let mut refused = untold(alloc, texts, sources.as_slice(), gathered);
     refused.find(fault)?;
     let mut spots = refused.told;
     if spots.is_empty() {
@@ -340,7 +350,8 @@ pub fn explain_missing<S: Shelf>(
     let sources = gathered.lent(alloc)?;
     let texts = texts_of(path, plant.as_slice(), sources.as_slice(), &gathered);
     let mut told = named_at(alloc, &texts, named)?;
-    let mut refused = untold(alloc, &texts, Some(&gathered));
+    let looked_at = without_tables(alloc, &texts)?;
+    let mut refused = untold(alloc, &texts, looked_at.as_slice(), Some(&gathered));
     refused.in_gathered()?;
     let mut spots = refused.told;
     spots.truncate(MOST_FAULTS.saturating_sub(1));

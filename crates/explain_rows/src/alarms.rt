@@ -1,9 +1,13 @@
 //! What is wrong in the rows of the alarm database (C11 to C14), as its reader found it.
 
 use crate::fields::{field_of, fields_of_row, last_of, row_start, unquoted};
-use crate::forms::{form_of, has_quote_behind_digits, in_place_of_name, strange_sign};
+use crate::forms::{
+    form_of, has_quote_behind_digits, in_place_of_name, in_place_of_number, is_spreadsheet_error,
+    strange_sign,
+};
+use crate::rows::all_have;
 use crate::table::Table;
-use crate::uneven::{are_one_row, joined, why_fewer, why_more, why_none};
+use crate::uneven::{are_one_row, is_latch, joined, sign_for_comma, why_fewer, why_more, why_none};
 use alarm_db::{Column, RowFault, RowMistake, Version};
 use explain_document::{WIDE, is_wide, strange_area};
 use explain_files::{Mark, line_number};
@@ -71,6 +75,81 @@ pub fn names(text: &[u8], field: Option<&Mark>, column: Option<&Column>) -> bool
     }
 }
 
+/// Whether a field of a header names a column, in any letter case and with blanks beside it.
+fn nearly_names(text: &[u8], field: Mark, column: &Column) -> bool {
+    let name = unquoted(text, field).trim_ascii();
+    name.eq_ignore_ascii_case(column.name().as_bytes())
+}
+
+/// Whether a header of fields has all of these columns and no other, but in another order.
+pub fn are_reordered(text: &[u8], fields: &[Mark], columns: &[Column]) -> bool {
+    let mut all = columns.iter();
+    let are_there = all.all(|column| {
+        let mut fields = fields.iter();
+        fields.any(|field| nearly_names(text, *field, column))
+    });
+    let is_moved = moved_from(text, fields, columns, 0).is_some();
+    are_there && is_moved && fields.len() == columns.len()
+}
+
+/// The number of the first column from one on that a header of fields doesn't have in its place.
+fn moved_from(text: &[u8], fields: &[Mark], columns: &[Column], from: usize) -> Option<usize> {
+    let mut numbers = from..columns.len();
+    numbers.find(|number| {
+        let column = columns.get(*number);
+        column.is_some_and(|column| !nearly_names(text, field_of(fields, *number), column))
+    })
+}
+
+/// Whether a header of fields has all of these columns in their order, and several other fields beside them.
+fn has_others(text: &[u8], fields: &[Mark], columns: &[Column]) -> bool {
+    let known = fields
+        .iter()
+        .filter(|field| is_column(unquoted(text, **field)));
+    let mut pairs = columns.iter().zip(known);
+    let are_there = pairs.all(|(column, field)| nearly_names(text, *field, column));
+    let others = fields
+        .iter()
+        .filter(|field| !is_column(unquoted(text, **field)));
+    let count = others.count();
+    are_there && count > 1 && columns.len().saturating_add(count) == fields.len()
+}
+
+/// Whether a text begins with the header of an alarm database, or nearly so, perhaps with other signs between its names.
+pub fn is_table(text: &[u8]) -> bool {
+    let mut lines = text.split(|byte| matches!(*byte, b'\n' | b'\r'));
+    let first = lines.next().unwrap_or(b"");
+    let words = first.split(|byte| matches!(*byte, b',' | b';' | b'\t'));
+    words.filter(|word| is_column(*word)).count() > 3
+}
+
+/// The field of a header that has the names of two columns, with another sign between them than a comma, or none, where the others are right; and these names.
+fn joined_names(
+    text: &[u8],
+    fields: &[Mark],
+    columns: &[Column],
+) -> Option<(Mark, &'static str, &'static str)> {
+    let mut numbered = columns.iter().enumerate();
+    let (number, column) = numbered.find(|(number, column)| {
+        !names(text, fields.get(*number), Some(*column))
+    })?;
+    let next = number.saturating_add(1);
+    let (one, other) = (column.name(), columns.get(next)?.name());
+    let field = field_of(fields, number);
+    let bytes = part(text, field.0, field.1);
+    let sign = bytes
+        .len()
+        .saturating_sub(one.len().saturating_add(other.len()));
+    let last = bytes.len().saturating_sub(other.len());
+    let is_last = part(bytes, last, bytes.len()) == other.as_bytes();
+    let is_both = is_last && bytes.starts_with(one.as_bytes());
+    let rest = columns.iter().skip(next.saturating_add(1));
+    let mut pairs = rest.zip(fields.iter().skip(next));
+    let are_right = pairs.all(|(column, field)| names(text, Some(field), Some(column)));
+    let is_one_less = fields.len().saturating_add(1) == columns.len();
+    (sign < 2 && is_both && are_right && is_one_less).then_some((field, one, other))
+}
+
 /// The columns of the version of which a header of fields nearly is: of the second where one of them tells of delays.
 pub fn columns_near(text: &[u8], fields: &[Mark]) -> &'static [Column] {
     let tells_of_delays = |field: &Mark| {
@@ -104,6 +183,81 @@ impl<'t> Table<'t> {
         self.say(Some(mark), text, words)
     }
 
+    /// Tells of a field of the header that isn't the name of a column: it is one more, before it, or the column itself is missing, or neither.
+    fn misnamed_field(
+        &mut self,
+        field: Mark,
+        column: &Column,
+        (is_more, is_less): (bool, bool),
+    ) -> Result<(), AllocError> {
+        let name = str::from_utf8(unquoted(self.alarms, field))
+            .unwrap_or("")
+            .trim();
+        let is_more = is_more && !is_column(name.as_bytes());
+        let text = if is_less {
+            "the column '%' is missing before this, which each row has too"
+        } else if !is_more {
+            "the header has '%' in this place, as each row has it, in small letters, and commas without blanks between its names"
+        } else if name.is_empty() {
+            "a column without a name stands before '%': leave it out, here and in each row"
+        } else {
+            "the table has no column '%': leave it out, here and in each row"
+        };
+        let is_named = is_more && !name.is_empty();
+        let word = if is_named { name } else { column.name() };
+        self.say_at(field, text, &[word])
+    }
+
+    /// Tells of a field of the header that is no column's, or stands behind all of these.
+    fn one_more(&mut self, field: Mark, is_last: bool) -> Result<(), AllocError> {
+        let name = str::from_utf8(unquoted(self.alarms, field))
+            .unwrap_or("")
+            .trim();
+        if is_column(name.as_bytes()) {
+            return self.say_at(field, "%, and nothing more or less", &[HEADER]);
+        }
+        let text = if !name.is_empty() {
+            "the table has no column '%': leave it out, here and in each row"
+        } else if is_last {
+            "the header ends with a comma too many: leave it out, and the one that each row may have at its end"
+        } else {
+            "a column without a name stands here: leave it out, here and in each row"
+        };
+        self.say_at(field, text, &[name])
+    }
+
+    /// Tells of each field of a header that has all columns and several other fields.
+    fn others(&mut self, fields: &[Mark]) -> Result<(), AllocError> {
+        let (all, last) = (self.alarms, last_of(fields));
+        for field in fields {
+            if !is_column(unquoted(all, *field)) {
+                self.one_more(*field, field.0 == last.0)?;
+            }
+        }
+        Ok(())
+    }
+
+    /// Tells of a header that has the columns in another order: of the first that stands in another's place.
+    fn reordered(&mut self, fields: &[Mark], columns: &[Column]) -> Result<(), AllocError> {
+        let all = self.alarms;
+        let number = moved_from(all, fields, columns, 0).unwrap_or(columns.len());
+        let next = moved_from(all, fields, columns, number.saturating_add(1));
+        let next = next.unwrap_or(columns.len());
+        let (Some(one), Some(other)) = (columns.get(number), columns.get(next)) else {
+            return Ok(());
+        };
+        let field = field_of(fields, number);
+        if moved_from(all, fields, columns, next.saturating_add(1)).is_some() {
+            let text =
+                "the columns stand in another order: %; the fields of each row stand in this order too";
+            return self.say_at(field, text, &[HEADER]);
+        }
+        let text =
+            "'%' and '%' are changed about: the header has '%' first, and each row too (change its fields about where they stand as these names do)";
+        let words = [other.name(), one.name(), one.name()];
+        self.say_at(field, text, &words)
+    }
+
     /// Tells of each field of the header that isn't the name of the column in its place. Where they aren't as many as the columns, or more than two are wrong, one
     /// that is too many and one that is left out move those behind them.
     fn misnamed(&mut self, fields: &[Mark]) -> Result<(), AllocError> {
@@ -122,9 +276,9 @@ impl<'t> Table<'t> {
             let next = place.saturating_add(1);
             let lacks = !is_extra && are_moved && names(all, Some(field), columns.get(next));
             if !is_right {
-                let text =
-                    "the header has '%' in this place, as each row has it, in small letters, and commas without blanks between its names";
-                self.say_at(*field, text, &[column.name()])?;
+                let is_more = is_extra && fields.len() > columns.len();
+                let is_less = lacks && fields.len() < columns.len();
+                self.misnamed_field(*field, column, (is_more, is_less))?;
             }
             number = number.saturating_add(usize::from(is_right || !lacks));
             place = place.saturating_add(usize::from(is_right || !is_extra));
@@ -132,12 +286,13 @@ impl<'t> Table<'t> {
         if number >= fields.len() && place >= columns.len() {
             return Ok(());
         }
+        let is_last = number.saturating_add(1) == fields.len();
         match columns.get(place) {
             Some(column) if number >= fields.len() => {
                 let text = "behind this '%' is missing: %";
                 self.say_at(last_of(fields), text, &[column.name(), HEADER])
             }
-            _ => self.say_at(last_of(fields), "%, and nothing more or less", &[HEADER]),
+            _ => self.one_more(field_of(fields, number), is_last),
         }
     }
 
@@ -152,6 +307,14 @@ impl<'t> Table<'t> {
                 "this file is a spreadsheet's own, and no text: save it there as CSV in UTF-8, with commas";
             return self.say(None, text, &[]);
         }
+        let columns = columns_near(all, fields);
+        if let Some((field, one, other)) = joined_names(all, fields, columns) {
+            return self.say_at(
+                field,
+                "a comma is missing between '%' and '%'",
+                &[one, other],
+            );
+        }
         let header = part(all, first.0, first.1);
         let signs = [(b';', "semicolons"), (b'\t', "tabs")];
         if let Some((_, signs)) = signs.iter().find(|sign| header.contains(&sign.0)) {
@@ -162,6 +325,12 @@ impl<'t> Table<'t> {
         if !names_columns(all, fields) {
             let next = fields_of_row(self.alloc, all, last_of(fields).1)?;
             return self.say_at(first, why_no_header(all, fields, next.as_slice()), &[]);
+        }
+        if are_reordered(all, fields, columns) {
+            return self.reordered(fields, columns);
+        }
+        if has_others(all, fields, columns) {
+            return self.others(fields);
         }
         self.misnamed(fields)
     }
@@ -178,6 +347,32 @@ impl<'t> Table<'t> {
         Ok(is_parted)
     }
 
+    /// What is said of a row of too few fields, of which it isn't certain what is left out; of one field, where not all rows have one.
+    fn said_of_few(&self, fields: &[Mark], are_all: bool) -> &'static str {
+        let (all, field) = (self.alarms, field_of(fields, 0));
+        let bytes = part(all, field.0, field.1);
+        let has_sign = bytes
+            .iter()
+            .any(|byte| matches!(*byte, b';' | b'\t' | b'|'));
+        let (mut fours, mut fives) = (bytes.windows(4), bytes.windows(5));
+        let has_latch = fours.any(|word| word.eq_ignore_ascii_case(b"TRUE"))
+            || fives.any(|word| word.eq_ignore_ascii_case(b"FALSE"));
+        let is_none = fields.len() == 1 && !has_sign && !has_latch && !are_all;
+        let is_whole = fields
+            .iter()
+            .any(|field| is_latch(part(all, field.0, field.1)));
+        let is_cut = fields.len() > 1 && last_of(fields).1 >= all.len() && !is_whole;
+        if is_cut {
+            "the file ends within this row: it has % fields, and % are wanted"
+        } else if is_none && row_start(all, field.1) >= all.len() {
+            "this line is no row of the table: leave it out"
+        } else if is_none {
+            "this line is no row of the table: leave it out (or is it the rest of the line before it?)"
+        } else {
+            "fields of this row: %, and % are wanted (a field or a comma left out, or a tab or a ';' in its place?)"
+        }
+    }
+
     /// Tells of a row that hasn't as many fields as are wanted.
     fn uneven(&mut self, fields: &[Mark], wanted: usize) -> Result<(), AllocError> {
         let (all, last, count) = (self.alarms, last_of(fields), fields.len());
@@ -190,29 +385,42 @@ impl<'t> Table<'t> {
         if field_of(fields, 0).0 == self.goes_on {
             return Ok(());
         }
-        let (mut mark, mut why) = (last, "");
         let found = if self.is_parted(fields, wanted)? {
             Some((last, PARTED))
+        } else if let Some(sign) = sign_for_comma(self.alloc, all, fields, wanted)? {
+            Some((sign, "a comma is wanted in the place of this sign"))
         } else if count <= wanted {
             why_fewer(all, fields, wanted)
         } else {
             why_more(all, fields, wanted)
         };
-        let text = match found {
-            Some((place, said)) => {
-                mark = place;
-                why = said;
-                "this row has % fields, and % are wanted: %"
-            }
-            None if count <= wanted =>
-                "fields of this row: %, and % are wanted (a field or a comma left out, or a tab or a ';' in its place?)",
-            None if last.0 == last.1 =>
-                "this row has % fields, and % are wanted: its line ends with a comma too many",
-            None =>
-                "this row has % fields, and % are wanted: a comma is too many, or a field with a comma isn't in double quotes",
+        if let Some((mark, why)) = found {
+            let text = "this row has % fields, and % are wanted: %";
+            return self.say_counts(mark, text, (count, wanted), why);
+        }
+        if count <= wanted {
+            let are_all = count == 1 && all_have(self.alloc, all, 1)?;
+            let text = self.said_of_few(fields, are_all);
+            return self.say_counts(last, text, (count, wanted), "");
+        }
+        let text = if last.0 == last.1 {
+            "this row has % fields, and % are wanted: its line ends with a comma too many"
+        } else {
+            "this row has % fields, and % are wanted: a comma is too many, or a field with a comma isn't in double quotes"
         };
+        self.say_counts(last, text, (count, wanted), "")
+    }
+
+    /// Tells of a row with so many fields, where so many are wanted, at a field, and why.
+    fn say_counts(
+        &mut self,
+        field: Mark,
+        text: &str,
+        (count, wanted): (usize, usize),
+        why: &'static str,
+    ) -> Result<(), AllocError> {
         let (count, wanted) = (count.to_string(self.alloc)?, wanted.to_string(self.alloc)?);
-        self.say_at(mark, text, &[count.as_str(), wanted.as_str(), why])
+        self.say_at(field, text, &[count.as_str(), wanted.as_str(), why])
     }
 
     fn malformed(&mut self, field: Mark, column: Column) -> Result<(), AllocError> {
@@ -249,8 +457,12 @@ impl<'t> Table<'t> {
             "% %, and this field is empty"
         } else if bytes.trim_ascii().len() < bytes.len() {
             "% %, and no blanks stand beside it"
+        } else if is_spreadsheet_error(bytes) {
+            "% %, and this is what a spreadsheet writes where it finds no value"
         } else if is_number && has_quote_behind_digits(bytes) {
             "% %: a comma is missing before the double quote"
+        } else if is_number {
+            in_place_of_number(bytes)
         } else if matches!(column, Column::Condition | Column::Suppress) {
             in_place_of_name(bytes)
         } else {
@@ -258,21 +470,11 @@ impl<'t> Table<'t> {
         };
         if text == "% %" {
             if let Some((sign, called)) = strange_sign(all, field, column) {
-                return self.strange(sign, column, called);
+                let words = [column.name(), form_of(column), called];
+                return self.say_at(sign, "% %, and here stands %", &words);
             }
         }
         self.say_at(field, text, &[column.name(), form_of(column), len.as_str()])
-    }
-
-    /// Tells of a sign that stands in no right field of a column.
-    fn strange(
-        &mut self,
-        sign: Mark,
-        column: Column,
-        called: &'static str,
-    ) -> Result<(), AllocError> {
-        let text = "% %, and here stands %";
-        self.say_at(sign, text, &[column.name(), form_of(column), called])
     }
 
     /// Tells of a field with the name of an area that the plant hasn't, or of what is no BOOL global of its units.
@@ -310,8 +512,7 @@ impl<'t> Table<'t> {
             RowFault::Again { first } => {
                 let line = line_number(all, row_start(all, first)).to_string(alloc)?;
                 let text = "the tag '%' stands in line % already";
-                let words = [name, line.as_str()];
-                self.say_at(field, text, &words)
+                self.say_at(field, text, &[name, line.as_str()])
             }
             RowFault::Unknown(column) => self.unknown(units, field, column),
         }

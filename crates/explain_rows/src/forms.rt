@@ -9,7 +9,7 @@ use std::str;
 pub fn form_of(column: Column) -> &'static str {
     match column {
         Column::Tag | Column::Area => "has 1 to 32 letters of ASCII, digits, '_', '-' and '.'",
-        Column::Priority => "is 1, 2, 3 or 4",
+        Column::Priority => "is 1, 2, 3 or 4, of which 1 is the highest",
         Column::Condition =>
             "is the name of a global: a letter or '_', then letters, digits and '_'",
         Column::Suppress => "is empty, or the name of a global",
@@ -41,6 +41,12 @@ fn called(sign: &[u8]) -> &'static str {
         [b','] => "','",
         [b'-'] => "'-'",
         [b'+'] => "'+'",
+        [b';'] => "';', and one alone is named",
+        [b'='] => "'='",
+        [b':'] => "':'",
+        [b'&'] => "'&'",
+        [b'('] => "'('",
+        [b')'] => "')'",
         [b'_'] => "'_'",
         [b'\''] => "a quote",
         [byte] if byte.is_ascii() => "a sign that is none of these",
@@ -91,6 +97,39 @@ pub fn has_quote_behind_digits(bytes: &[u8]) -> bool {
     digits > 0 && bytes.get(digits) == Some(&b'"')
 }
 
+/// Whether a field is what a spreadsheet writes in the place of a value that it hasn't.
+pub fn is_spreadsheet_error(bytes: &[u8]) -> bool {
+    let errors = "#REF!|#N/A|#NAME?|#VALUE!|#DIV/0!|#NULL!|#NUM!";
+    fits(errors, str::from_utf8(bytes).unwrap_or(""))
+}
+
+/// Whether a field is a number with an exponent, as 6E+05.
+fn has_exponent(bytes: &[u8]) -> bool {
+    let is_number = |part: &[u8]| {
+        let mut signs = part.iter();
+        !part.is_empty() && signs.all(|sign| sign.is_ascii_digit() || b".,+-".contains(sign))
+    };
+    let mut parts = bytes.split(|byte| matches!(*byte, b'E' | b'e'));
+    let before = parts.next().unwrap_or(b"");
+    let behind = parts.next().unwrap_or(b"");
+    is_number(before) && is_number(behind) && parts.next().is_none()
+}
+
+/// What is said of a field in the place of a number of milliseconds; `% %` where nothing more than its form.
+pub fn in_place_of_number(bytes: &[u8]) -> &'static str {
+    let mut letters = bytes.iter();
+    let is_parted = letters.all(|byte| byte.is_ascii_digit() || matches!(*byte, b'.' | b','));
+    if matches!(bytes, [b'1'..=b'9', ..]) && bytes.iter().all(|byte| byte.is_ascii_digit()) {
+        "% %, and this one is larger"
+    } else if has_exponent(bytes) {
+        "% %, and without an exponent, which a spreadsheet may write"
+    } else if is_parted && !bytes.is_empty() {
+        "% %, with neither a fraction nor a sign between its thousands"
+    } else {
+        "% %"
+    }
+}
+
 /// What a field has that isn't the name of a global, in the place of one.
 pub fn in_place_of_name(name: &[u8]) -> &'static str {
     let is_sign = |byte: &u8| b"=<>!&|+*/()".contains(byte);
@@ -101,7 +140,9 @@ pub fn in_place_of_name(name: &[u8]) -> &'static str {
         [b'%', ..] => "% %: an address stands in a source, beside the name of its global",
         name if name.iter().any(|byte| is_sign(byte)) || has_operator =>
             "% %: a program assigns an expression to a BOOL global, and that one is named here",
-        name if name.contains(&b' ') => "% %, without blanks",
+        name if name.contains(&b' ') => "% %, and a name has no blank in it",
+        name if name.iter().any(|byte| matches!(*byte, b';' | b',')) =>
+            "% %, and one alone is named",
         name if name.contains(&b'.') => "% %, and no other name with '.' before it",
         [b'0'..=b'9', ..] => "% %, and none begins with a digit",
         _ => "% %",

@@ -1,6 +1,6 @@
 //! What is wrong in the rows of the alarm database beside what is found first: further fields of a row, and rows of a plant whose sources are at fault.
 
-use crate::alarms::{columns_near, first_line, has_commas_alone, names};
+use crate::alarms::{are_reordered, columns_near, first_line, has_commas_alone, names};
 use crate::fields::{field_of, fields_of_row, last_of, row_start};
 use crate::table::Table;
 use alarm_db::{Column, DatabaseRow, Examined, RowFault, RowMistake, Version, examine};
@@ -97,16 +97,13 @@ fn first_uneven(mistakes: &[RowMistake]) -> Option<(RowMistake, usize)> {
         _ => None,
     });
     let first = uneven.next()?;
-    let (mut others, mut same) = (0usize, 0usize);
-    for (_, fields) in uneven {
-        others = others.saturating_add(1);
-        same = same.saturating_add(usize::from(fields == first.1));
-    }
-    (others > 0 && others == same).then_some(first)
+    let second = uneven.next()?;
+    let are_same = second.1 == first.1 && uneven.all(|other| other.1 == first.1);
+    are_same.then_some(first)
 }
 
 /// Whether all rows below the header have a number of fields.
-fn all_have(alloc: Global, text: &[u8], count: usize) -> Result<bool, AllocError> {
+pub fn all_have(alloc: Global, text: &[u8], count: usize) -> Result<bool, AllocError> {
     let mut end = last_of(fields_of_row(alloc, text, 0)?.as_slice()).1;
     for _ in 0..text.len() {
         if row_start(text, end) >= text.len() {
@@ -240,13 +237,14 @@ impl<'t> Table<'t> {
         Ok(())
     }
 
-    /// The table with the right names in its header, where some alone are wrong; and the byte at which the header ends there, and in the table itself.
+    /// The table with the right names in its header, where some alone are wrong, or their order; and the byte at which the header ends there, and in the table itself.
     fn with_right_header(&self) -> Result<Option<(Vec<u8>, usize, usize)>, AllocError> {
         let fields = fields_of_row(self.alloc, self.alarms, 0)?;
         let columns = columns_near(self.alarms, fields.as_slice());
         let pairs = columns.iter().zip(&fields);
         let right = pairs.filter(|(column, field)| names(self.alarms, Some(*field), Some(*column)));
-        if fields.len() != columns.len() || right.count() < 3 {
+        let are_known = fields.len() == columns.len() && right.count() > 2;
+        if !are_known {
             return Ok(None);
         }
         let mut text = Vec::new(self.alloc);
@@ -260,7 +258,15 @@ impl<'t> Table<'t> {
         Ok(Some((text, len, until)))
     }
 
-    /// What is found in the rows. Where names of the header alone are wrong, the rows below it are read with the right ones.
+    /// Whether the header has the columns in another order.
+    fn is_reordered(&self) -> Result<bool, AllocError> {
+        let fields = fields_of_row(self.alloc, self.alarms, 0)?;
+        let columns = columns_near(self.alarms, fields.as_slice());
+        Ok(are_reordered(self.alarms, fields.as_slice(), columns))
+    }
+
+    /// What is found in the rows. Where names of the header alone are wrong, the rows below it are read with the right ones; where their order is, only if most of
+    /// the rows are right by theirs.
     fn examined(&self) -> Result<Examined, AllocError> {
         let examined = examine(self.alloc, self.alarms)?;
         if examined.version.is_some() {
@@ -270,6 +276,9 @@ impl<'t> Table<'t> {
             return Ok(examined);
         };
         let mut below = examine(self.alloc, text.as_slice())?;
+        if below.mistakes.len() > below.rows.len() && self.is_reordered()? {
+            return Ok(examined);
+        }
         let moved = |at: usize| at.saturating_add(until).saturating_sub(len);
         for wrong in below.mistakes.as_mut_slice() {
             wrong.at = moved(wrong.at);

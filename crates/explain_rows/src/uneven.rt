@@ -2,8 +2,9 @@
 
 use crate::fields::{field_of, last_of};
 use explain_files::Mark;
-use explain_tokens::part;
+use explain_tokens::{fits, part};
 use std::alloc::{AllocError, Global};
+use std::str;
 
 /// Fields of a row, and what is said of it at one of them.
 pub type Why = (Mark, &'static str);
@@ -48,9 +49,8 @@ fn seems_delay(bytes: &[u8]) -> bool {
         .take_while(|byte| byte.is_ascii_digit())
         .count();
     let unit = part(bytes, digits, bytes.len());
-    let units = ["", "ms", "s", "m", "min", "h"];
-    let mut units = units.iter();
-    let has_unit = units.any(|other| unit.eq_ignore_ascii_case(other.as_bytes()));
+    let is_unit = fits("ms|s|m|min|h", str::from_utf8(unit).unwrap_or(""));
+    let has_unit = unit.is_empty() || is_unit;
     digits > 0 && has_unit || matches!(bytes, [b'T' | b't', b'#', ..])
 }
 
@@ -78,13 +78,6 @@ fn has_early_quote(bytes: &[u8]) -> bool {
     false
 }
 
-fn has_typographic_quote(bytes: &[u8]) -> bool {
-    matches!(
-        bytes,
-        [0xE2, 0x80, 0x98..=0x9F, ..] | [0xC2, 0xAB | 0xBB, ..]
-    )
-}
-
 /// What is said of a field of a row that has too many, by how it is written; `None` where nothing is certain.
 fn said_of_quotes(bytes: &[u8]) -> Option<&'static str> {
     if has_late_quote(bytes) {
@@ -95,7 +88,10 @@ fn said_of_quotes(bytes: &[u8]) -> Option<&'static str> {
         Some("a double quote in a text is written twice, \"\", and not with '\\'")
     } else if has_early_quote(bytes) {
         Some("a double quote in a text is written twice, \"\", and so this text ends too early")
-    } else if has_typographic_quote(bytes) {
+    } else if matches!(
+        bytes,
+        [0xE2, 0x80, 0x98..=0x9F, ..] | [0xC2, 0xAB | 0xBB, ..]
+    ) {
         Some(
             "a text with a comma stands in double quotes, straight ones, and not in typographic ones",
         )
@@ -168,6 +164,21 @@ fn text_of(text: &[u8], fields: &[Mark], wanted: usize) -> Option<Mark> {
     is_text.then_some((from, last.1))
 }
 
+/// Whether bytes may be the name of a global.
+fn is_name(bytes: &[u8]) -> bool {
+    let mut letters = bytes.iter();
+    let are_letters = letters.all(|byte| byte.is_ascii_alphanumeric() || *byte == b'_');
+    are_letters && !matches!(bytes, [] | [b'0'..=b'9', ..]) && !is_latch(bytes)
+}
+
+/// Whether a row has one field too many, and three names between its priority and its latch.
+fn are_three_names(text: &[u8], fields: &[Mark], wanted: usize) -> bool {
+    let names = fields.iter().skip(3).take(3);
+    let mut names = names.map(|field| part(text, field.0, field.1));
+    let is_one_more = fields.len() == wanted.saturating_add(1);
+    is_one_more && names.all(is_name) && are_right_before_text(text, fields, wanted, 5)
+}
+
 /// Why a row of fields has more of them than are wanted, as far as that is certain.
 pub fn why_more(text: &[u8], fields: &[Mark], wanted: usize) -> Option<Why> {
     let extra = fields.len().saturating_sub(wanted);
@@ -194,13 +205,16 @@ pub fn why_more(text: &[u8], fields: &[Mark], wanted: usize) -> Option<Why> {
         Some((field_of(fields, 7), said))
     } else if let Some(mark) = empty {
         Some((mark, "here is a comma too many"))
+    } else if are_three_names(text, fields, wanted) {
+        let said = "condition and suppress are one name each, and these are three";
+        Some(((field_of(fields, 3).0, field_of(fields, 5).1), said))
     } else {
         let mark = text_of(text, fields, wanted)?;
         Some((mark, "a text with a comma stands in double quotes"))
     }
 }
 
-fn is_latch(bytes: &[u8]) -> bool {
+pub fn is_latch(bytes: &[u8]) -> bool {
     bytes == b"TRUE".as_slice() || bytes == b"FALSE".as_slice()
 }
 
@@ -254,6 +268,40 @@ pub fn are_one_row(text: &[u8], fields: &[Mark], wanted: usize) -> bool {
     fields.len() == wanted && are_right_before_text(text, fields, wanted, wanted)
 }
 
+/// The fields of a row, of which one is parted at a byte, as by a comma.
+fn parted_at(alloc: Global, fields: &[Mark], at: usize) -> Result<Vec<Mark>, AllocError> {
+    let mut all = Vec::new(alloc);
+    for field in fields {
+        if field.0 <= at && at < field.1 {
+            all.push((field.0, at))?;
+            all.push((at.saturating_add(1), field.1))?;
+        } else {
+            all.push(*field)?;
+        }
+    }
+    Ok(all)
+}
+
+/// The first blank, tab or ';' of a row that would be right with a comma in its place; `None` where there is none.
+pub fn sign_for_comma(
+    alloc: Global,
+    text: &[u8],
+    fields: &[Mark],
+    wanted: usize,
+) -> Result<Option<Mark>, AllocError> {
+    let (from, mut found) = (field_of(fields, 0).0, None);
+    for (number, byte) in part(text, from, last_of(fields).1).iter().enumerate() {
+        if found.is_none() && matches!(*byte, b' ' | b'\t' | b';') {
+            let at = from.saturating_add(number);
+            let parted = parted_at(alloc, fields, at)?;
+            if are_one_row(text, parted.as_slice(), wanted) {
+                found = Some((at, at.saturating_add(1)));
+            }
+        }
+    }
+    Ok(found)
+}
+
 /// Why a row of fields has fewer of them than are wanted, as far as that is certain.
 pub fn why_fewer(text: &[u8], fields: &[Mark], wanted: usize) -> Option<Why> {
     let is_first = wanted == 9 && fields.len() == 8 && are_row(text, fields, 0, 8);
@@ -268,12 +316,15 @@ pub fn why_fewer(text: &[u8], fields: &[Mark], wanted: usize) -> Option<Why> {
 
 /// What is said of a row that is no row at all, or one field; `None` where nothing certain is.
 pub fn why_none(text: &[u8], fields: &[Mark], wanted: usize) -> Option<&'static str> {
-    let first = field_of(fields, 0);
-    let bytes = part(text, first.0, first.1);
+    let bytes = bytes_of(text, fields, 0);
+    let is_version = bytes.starts_with(b"<<<<<<<") || bytes.starts_with(b">>>>>>>");
     let is_whole = bytes.starts_with(b"\"") && bytes.last() == Some(&b'"');
     let has = |byte: u8| count_of(bytes, byte).saturating_add(1) >= wanted;
     match bytes.trim_ascii_start() {
         [b'#', ..] => Some("the table has no remarks: each line is a row"),
+        _ if is_version || bytes == b"=======".as_slice() => Some(
+            "marks as <<<<<<< and >>>>>>> stand around two versions of a text: keep one, and delete these lines",
+        ),
         _ if fields.len() > 1 => None,
         [] => Some(
             "this line has blanks alone, and so it is a row: leave it empty, or leave it out",
