@@ -1,5 +1,5 @@
 import sys,os,random,shutil
-sys.path.insert(0,'/work/clones/house/tools/bench')
+sys.path.insert(0,'/work/main/tools/bench')
 import inputs; from measured import run, least
 A=sys.argv[1]; N=int(sys.argv[2])
 T='/tmp/twenty'
