@@ -8,10 +8,10 @@ use explain_bodies::{BrokenRule, Mistake, mistakes};
 use explain_files::Mark;
 use explain_limits::too_long;
 use explain_sources::{Reading, tell, ungrammatical};
+use explain_spelling::misspelled_at;
 use explain_tokens::{Cause, FileOf, Spot, byte_at, cause_of, part};
 use explain_trees::{Parsed, Unknown, sources_of, units_of};
 use explain_uses::{OpenComment, swallower};
-use explain_words::misspelled_at;
 use plant_types::Text;
 use std::alloc::{AllocError, Global};
 

@@ -1,7 +1,7 @@
 //! A text in which bytes begin no token: what stands in their place.
 
+use explain_spelling::{first_character, quoted_len, run_len};
 use explain_tokens::{byte_at, part, tokens_of};
-use explain_words::{first_character, quoted_len, run_len};
 use st_lexer::{LexFault, Token, lex};
 use std::alloc::{AllocError, Global};
 

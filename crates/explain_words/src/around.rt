@@ -63,17 +63,25 @@ pub fn has_else(place: TokenPlace<'_>) -> bool {
     })
 }
 
+/// How often a keyword that closes something stands in a unit.
+fn count_closed(place: TokenPlace<'_>, closing: &str) -> usize {
+    let tokens = place.tokens.iter();
+    tokens
+        .filter(|token| sign_of(token.kind) == closing)
+        .count()
+}
+
+/// How often what a keyword closes is opened in a unit.
+fn count_opened(place: TokenPlace<'_>, closing: &str) -> usize {
+    let tokens = place.tokens.iter();
+    tokens
+        .filter(|token| closing_of(sign_of(token.kind)) == closing)
+        .count()
+}
+
 /// Whether a keyword stands more often in a unit than what it closes is opened there, or less often.
 pub fn closed_in(place: TokenPlace<'_>, closing: &str) -> Ordering {
-    let tokens = place.tokens.iter();
-    let closed = tokens
-        .filter(|token| sign_of(token.kind) == closing)
-        .count();
-    let tokens = place.tokens.iter();
-    let opened = tokens
-        .filter(|token| closing_of(sign_of(token.kind)) == closing)
-        .count();
-    closed.cmp(&opened)
+    count_closed(place, closing).cmp(&count_opened(place, closing))
 }
 
 /// Whether a label at a token parts a CASE around an IF, a FOR or a CASE with its ELSE that isn't closed, of which its unit has too few ends.
@@ -98,21 +106,30 @@ pub fn lacks_end_var(place: TokenPlace<'_>) -> bool {
     may_be && end.sign() != "END_VAR"
 }
 
+/// Whether a token is a word where a declaration may name it.
+fn names_word(place: TokenPlace<'_>, word: &[u8]) -> bool {
+    let may_be = place.sign() == "word" && fits(":|,|AT", place.behind(1));
+    may_be && same_word(place.word().as_bytes(), word)
+}
+
+/// Whether a token is a name in a declaration behind the beginning of a unit, or among the globals of its source.
+fn is_name(place: TokenPlace<'_>, unit: usize) -> bool {
+    fits("declaration|name", place.stand())
+        && (place.number > unit || place.opener() == "VAR_GLOBAL")
+}
+
 /// The declaration above a word in which it is a name: in its unit, or among the globals of its source.
 fn declared_at(place: TokenPlace<'_>) -> Option<TokenPlace<'_>> {
+    if place.sign() != "word" {
+        return None;
+    }
     let word = place.word().as_bytes();
     let unit = place.open("UNIT", "", "").map_or(0, |unit| unit.number);
     let above = (0..place.number).map(|number| place.at(number));
-    let may_be = |other: &TokenPlace<'_>| {
-        let is_word = other.sign() == "word" && fits(":|,|AT", other.behind(1));
-        is_word && same_word(other.word().as_bytes(), word)
-    };
-    let is_name = |other: &TokenPlace<'_>| {
-        fits("declaration|name", other.stand())
-            && (other.number > unit || other.opener() == "VAR_GLOBAL")
-    };
-    let mut same = above.filter(may_be).take(MOST_USES);
-    same.find(is_name).filter(|_| place.sign() == "word")
+    let mut same = above
+        .filter(|other| names_word(*other, word))
+        .take(MOST_USES);
+    same.find(|other| is_name(*other, unit))
 }
 
 /// Whether a word is a name that is declared above it, in its unit or among the globals of its source.
@@ -266,34 +283,63 @@ fn is_measure(place: TokenPlace<'_>) -> bool {
     is_in_line(place) && fits(ends, place.behind(1))
 }
 
-/// Whether a `,` stands outside of all calls, but seems to part arguments: a `)` with nothing open to close stands behind it.
-fn is_beyond(place: TokenPlace<'_>) -> bool {
-    place.within().is_empty() && !place.is_declared() && has_loose_end(place)
+/// Whether a token stands among statements, and outside of all parentheses and brackets.
+fn is_free(place: TokenPlace<'_>) -> bool {
+    place.within().is_empty() && !place.is_declared()
+}
+
+/// Whether a `:=` stands in the line behind a word, and that behind an operator that lacks its right side in the line before.
+fn is_unfinished(place: TokenPlace<'_>) -> bool {
+    let operators = "+|-|*|/|=|<|>|<=|>=|<>|&|AND|OR|XOR|MOD|NOT|:=|.";
+    is_free(place) && !is_in_line(place.previous()) && fits(operators, place.before(2))
+}
+
+/// What a `:=` behind a value is.
+fn assigned_sign(place: TokenPlace<'_>) -> &'static str {
+    match place.before(1) {
+        "word" if is_braced(place) => "braced",
+        "word" if is_unfinished(place) => "unfinished",
+        _ if place.within() == "call" => "assigning",
+        _ => "",
+    }
+}
+
+/// What a word or a number behind a value is.
+fn word_sign(place: TokenPlace<'_>) -> &'static str {
+    match (place.sign(), place.before(1)) {
+        ("int", "int") if is_group(place) => "thousands",
+        ("word", "int") if is_measure(place) => "measure",
+        (_, "word") if is_in_line(place) && !place.lacks_end() => "beside",
+        _ => "",
+    }
+}
+
+/// What a `,`, a `;` or a `:` behind a value is.
+fn parting_sign(place: TokenPlace<'_>) -> &'static str {
+    match place.sign() {
+        ":" if [place.before(2), place.before(1)] == ["CASE", "int"] => "label",
+        ";" if parts_arguments(place) => "parting",
+        "," if is_free(place) && has_loose_end(place) => "beyond",
+        ":" | "," if is_free(place) && begins_statement(place.next()) => "ending",
+        _ => "",
+    }
+}
+
+/// Whether a `..` between two words stands in the place of a point.
+fn is_dots(place: TokenPlace<'_>) -> bool {
+    let is_between = [place.before(1), place.behind(1)] == ["word", "word"];
+    is_between && !fits("FOR|TO", place.head())
 }
 
 /// What a token is that stands behind a value, or behind a variable that takes an output; empty where that is told by its sign.
 pub fn valued_sign(place: TokenPlace<'_>) -> &'static str {
-    let is_free = place.within().is_empty() && !place.is_declared();
-    let is_cut = is_free
-        && !is_in_line(place.previous())
-        && fits(
-            "+|-|*|/|=|<|>|<=|>=|<>|&|AND|OR|XOR|MOD|NOT|:=|.",
-            place.before(2),
-        );
-    match (place.sign(), place.before(1)) {
-        (":=", "word") if is_braced(place) => "braced",
-        (":=", "word") if is_cut => "unfinished",
-        (":=", _) if place.within() == "call" => "assigning",
-        (".", "int") if is_before_argument(place) => "point",
-        ("..", "word") if place.behind(1) == "word" && !fits("FOR|TO", place.head()) => "dots",
-        ("IF", _) if is_chosen(place) => "chosen",
-        (":", "int") if place.before(2) == "CASE" => "label",
-        ("int", "int") if is_group(place) => "thousands",
-        ("word", "int") if is_measure(place) => "measure",
-        (";", _) if parts_arguments(place) => "parting",
-        (",", _) if is_beyond(place) => "beyond",
-        (":" | ",", _) if is_free && begins_statement(place.next()) => "ending",
-        ("word" | "int", "word") if is_in_line(place) && !place.lacks_end() => "beside",
+    match place.sign() {
+        ":=" => assigned_sign(place),
+        "word" | "int" => word_sign(place),
+        "," | ";" | ":" => parting_sign(place),
+        "." if place.before(1) == "int" && is_before_argument(place) => "point",
+        ".." if is_dots(place) => "dots",
+        "IF" if is_chosen(place) => "chosen",
         _ => "",
     }
 }

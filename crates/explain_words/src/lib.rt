@@ -1,5 +1,5 @@
-//! What a word or a sign in a source is told as: what begins no token (C4), words of other dialects and words that are nearly a keyword (C5), and what stands
-//! around a token by which it is more than its sign, as a label, or a `:=` in a condition.
+//! What a word or a sign in a source is told as: words of other dialects and words that are nearly a keyword (C5), and what stands around a token by which it
+//! is more than its sign, as a label, or a `:=` in a condition.
 //!
 //! Words and signs are told by tables of texts. A word that its unit declares is a name, and never one of another dialect. No clause says what is told; that is
 //! tried on examples.
@@ -9,7 +9,6 @@
 
 mod around;
 mod signs;
-mod spelling;
 mod words;
 
 pub use around::{
@@ -18,5 +17,4 @@ pub use around::{
     lacks_end_var, next_end, parts_arguments, parts_case, statement_start,
 };
 pub use signs::{is_behind_title, is_marked, told_before, told_sign};
-pub use spelling::{first_character, misspelled_at, quoted_len, run_len};
 pub use words::{GRAMMAR, Misnomer, Said, misnomer, parted_len};

@@ -5,11 +5,19 @@ use crate::around::{
     is_label, is_labelling, is_prose, is_right_side, is_second_kind, is_standard, kind_sign,
     valued_sign,
 };
-use explain_tokens::{TokenPlace, fits};
+use explain_tokens::{TokenPlace, fits, said_of};
 use st_lexer::{Token, TokenKind};
 
 /// The sections that a program or a block may have.
 const SECTIONS: &str = "VAR|VAR_INPUT|VAR_OUTPUT|VAR_EXTERNAL";
+
+/// What a section or a unit's name outside of units is, by what closes something below it.
+const HEADLESS_UNITS: &str = "\
+section END_PROGRAM program
+section END_FUNCTION_BLOCK block
+title END_PROGRAM program's
+title END_FUNCTION_BLOCK block's
+";
 
 /// What a comma between the digits of a number is, at a token or before it: `digits` where three follow it, else `decimals`; empty where there is none.
 fn comma_sign(place: TokenPlace<'_>) -> &'static str {
@@ -32,22 +40,42 @@ pub fn is_behind_title(place: TokenPlace<'_>) -> bool {
     [place.before(1), place.before(2)] == [";", "word"] && fits("UNIT", place.before(3))
 }
 
+/// Whether a token stands in a condition: THEN ends it.
+fn is_condition(place: TokenPlace<'_>) -> bool {
+    place.ahead(";|OUTER").sign() == "THEN"
+}
+
+/// Whether a value is given in parentheses behind the name of a declaration.
+fn is_given(place: TokenPlace<'_>) -> bool {
+    [place.before(2), place.sign()] == ["(", ":="] && place.is_declared()
+}
+
+/// What the word before a token is.
+fn word_before(place: TokenPlace<'_>) -> &'static str {
+    let word = place.previous();
+    let stand = place.stand();
+    if place.before(2) == "." {
+        "output"
+    } else if place.before(2) == "ELSE" && is_condition(place) {
+        "otherwise"
+    } else if is_given(place) {
+        "given"
+    } else if stand == "begun" && fits("KIND", kind_sign(word)) && is_right_side(place) {
+        "variable"
+    } else if stand == "declared" && is_standard(word) {
+        "block"
+    } else {
+        "word"
+    }
+}
+
 /// The sign of the token before another one, as the rules tell it.
 pub fn told_before(place: TokenPlace<'_>) -> &'static str {
-    let is_condition = place.ahead(";|OUTER").sign() == "THEN";
-    let (stand, previous) = (place.stand(), place.previous());
-    match (place.before(1), place.before(2)) {
-        ("word", ".") => "output",
-        ("word", "ELSE") if is_condition => "otherwise",
-        _ if is_behind_title(place) => "titled",
-        ("word", "(") if place.sign() == ":=" && place.is_declared() => "given",
-        ("word", _)
-            if stand == "begun" && fits("KIND", kind_sign(previous)) && is_right_side(place) => {
-            "variable"
-        }
-        ("word", _) if stand == "declared" && is_standard(previous) => "block",
-        ("*", _) if place.sign() == "/" && !place.gap().is_empty() => "times",
-        (sign, _) => sign,
+    match place.before(1) {
+        "word" => word_before(place),
+        "*" if place.sign() == "/" && !place.gap().is_empty() => "times",
+        ";" if is_behind_title(place) => "titled",
+        sign => sign,
     }
 }
 
@@ -113,19 +141,35 @@ fn label_sign(place: TokenPlace<'_>) -> &'static str {
     }
 }
 
+/// What a `:` is where a statement may begin.
+fn stray_sign(place: TokenPlace<'_>) -> &'static str {
+    if place.opener() == "CASE" && lacks_label(place) {
+        "unlabelled"
+    } else if is_in_case(place) && place.before(1) == ";" {
+        "stray"
+    } else {
+        ""
+    }
+}
+
 /// What a token is where a statement or a section may begin; empty where that is told by its sign.
 fn statement_sign(place: TokenPlace<'_>) -> &'static str {
-    let is_in_it = place.opener() == "CASE";
-    match place.sign() {
-        _ if is_label(place) => label_sign(place),
-        ":" if is_in_it && lacks_label(place) => "unlabelled",
-        ":" if is_in_case(place) && place.before(1) == ";" => "stray",
-        "(" if is_unnamed(place) => "unnamed",
-        _ if is_marked(place) => "marked",
-        _ if is_reversed(place) => "reversed",
-        "(" | "NOT" | "TRUE" | "FALSE" if place.ahead(";|OUTER").sign() == "THEN" => "headless",
-        _ if is_remark(place) => "remark",
-        _ => "",
+    if is_label(place) {
+        label_sign(place)
+    } else if place.sign() == ":" {
+        stray_sign(place)
+    } else if is_unnamed(place) {
+        "unnamed"
+    } else if is_marked(place) {
+        "marked"
+    } else if is_reversed(place) {
+        "reversed"
+    } else if fits("(|NOT|TRUE|FALSE", place.sign()) && is_condition(place) {
+        "headless"
+    } else if is_remark(place) {
+        "remark"
+    } else {
+        ""
     }
 }
 
@@ -141,19 +185,32 @@ fn second_sign(place: TokenPlace<'_>) -> &'static str {
     }
 }
 
+/// Whether a condition goes on behind its first word, without IF before that.
+fn is_headless(place: TokenPlace<'_>) -> bool {
+    let goes_on = fits(".|AND|OR|XOR|=|<|>|<=|>=|<>|THEN", place.sign());
+    goes_on && place.before(2) != "ELSE" && is_condition(place)
+}
+
+/// What a `:` is behind the first word of a statement.
+fn colon_sign(place: TokenPlace<'_>) -> &'static str {
+    match [place.behind(1), place.behind(2)] {
+        ["word", ";"] if is_standard(place.next()) => "declaring",
+        ["word", ";"] => "given",
+        _ => "",
+    }
+}
+
 /// What a token is behind the first word of a statement; empty where that is told by its sign.
 fn begun_sign(place: TokenPlace<'_>) -> &'static str {
-    let is_condition = place.before(2) != "ELSE" && place.ahead(";|OUTER").sign() == "THEN";
-    match (place.sign(), place.behind(1), place.behind(2)) {
-        (sign, ..) if is_condition && fits(".|AND|OR|XOR|=|<|>|<=|>=|<>|THEN", sign) => {
-            "headless"
-        }
-        ("word", ..) => second_sign(place),
+    if is_headless(place) {
+        return "headless";
+    }
+    match place.sign() {
+        "word" => second_sign(place),
+        ":" => colon_sign(place),
         _ if is_labelling(place) => "labelling",
-        ("=>", ..) if has_loose_end(place) => "outlet",
-        (":", "word", ";") if is_standard(place.next()) => "declaring",
-        (":", "word", ";") => "given",
-        ("NOT" | "TRUE" | "FALSE" | "int" | "literal", ..) if is_right_side(place) => "right",
+        "=>" if has_loose_end(place) => "outlet",
+        sign if fits("NOT|TRUE|FALSE|int|literal", sign) && is_right_side(place) => "right",
         _ => "",
     }
 }
@@ -168,47 +225,94 @@ fn declared_sign(place: TokenPlace<'_>) -> &'static str {
     }
 }
 
+/// Whether a word seems to name a unit: it stands behind what closes another one, and before a section or another word.
+fn names_unit(place: TokenPlace<'_>) -> bool {
+    fits("END_VAR|CLOSING", place.before(1))
+        && place.sign() == "word"
+        && fits("word|SECTION", place.behind(1))
+}
+
+/// Whether a word with which a line begins seems to name a unit: a section stands behind it.
+fn is_title(place: TokenPlace<'_>) -> bool {
+    let is_first = place.number == 0 || !is_in_line(place);
+    place.sign() == "word" && is_first && fits(SECTIONS, place.behind(1))
+}
+
+/// Whether a section begins at a token, and no word before another one seems to name a unit.
+fn begins_section(place: TokenPlace<'_>, end: usize) -> bool {
+    let mut between = (place.number..end).map(|number| place.at(number));
+    fits(SECTIONS, place.sign()) && !between.any(names_unit)
+}
+
 /// What a token is outside of blocks and programs; empty where that is told by its sign.
 fn outer_sign(place: TokenPlace<'_>) -> &'static str {
     let closing = place.ahead("UNIT|VAR_GLOBAL|END_PROGRAM|END_FUNCTION_BLOCK");
-    let is_section = fits(SECTIONS, place.sign());
-    let is_first = place.number == 0 || !is_in_line(place);
-    let mut between = (place.number..closing.number).map(|number| place.at(number));
-    let names_unit = |other: TokenPlace<'_>| {
-        fits("END_VAR|CLOSING", other.before(1))
-            && other.sign() == "word"
-            && fits("word|SECTION", other.behind(1))
+    let begun = if begins_section(place, closing.number) {
+        "section"
+    } else if is_title(place) {
+        "title"
+    } else {
+        "none"
     };
-    let is_section = is_section && !between.any(names_unit);
-    let is_name = place.sign() == "word" && is_first && fits(SECTIONS, place.behind(1));
-    match closing.sign() {
-        "END_PROGRAM" if is_section => "program",
-        "END_FUNCTION_BLOCK" if is_section => "block",
-        "END_PROGRAM" if is_name => "program's",
-        "END_FUNCTION_BLOCK" if is_name => "block's",
-        _ if is_remark(place) => "remark",
+    match said_of(HEADLESS_UNITS, &[begun, closing.sign()]) {
+        "" if is_remark(place) => "remark",
+        said => said,
+    }
+}
+
+/// What a token is where a declaration may begin; empty where that is told by its sign.
+fn declaration_sign(place: TokenPlace<'_>) -> &'static str {
+    if is_marked(place) {
+        "marked"
+    } else if is_remark(place) {
+        "remark"
+    } else {
+        ""
+    }
+}
+
+/// What a token is where an argument may begin, or behind the name of one; empty where that is told by its sign.
+fn argument_sign(place: TokenPlace<'_>, stand: &str) -> &'static str {
+    let is_call = [place.sign(), place.behind(1)] == ["(", "word"];
+    if is_element(place) {
+        "element"
+    } else if stand == "argument" && is_call && fits(":=|=>", place.behind(2)) {
+        "double"
+    } else {
+        ""
+    }
+}
+
+/// What is asked of a token by where it stands.
+const ASKED: &str = "\
+top|behind outer
+statement|head statement
+declared|addressed declared
+valued|taken valued
+argument|argued argument
+";
+
+/// What a token is where no other rule than these is asked; empty where that is told by its sign.
+fn single_sign(place: TokenPlace<'_>, stand: &str) -> &'static str {
+    match stand {
+        "begun" => begun_sign(place),
+        "declaration" => declaration_sign(place),
+        "value" if is_chosen(place) => "chosen",
+        "kinded" if is_second_kind(place) => "another",
         _ => "",
     }
 }
 
 /// What a token is by where it stands; empty where that is told by its sign.
 fn sign_there(place: TokenPlace<'_>, stand: &str) -> &'static str {
-    match stand {
-        "top" | "behind" => outer_sign(place),
-        "statement" | "head" => statement_sign(place),
-        "begun" => begun_sign(place),
-        "declared" | "addressed" if is_colon(place) => "colon",
-        "declared" => declared_sign(place),
-        "valued" | "taken" => valued_sign(place),
-        "value" if is_chosen(place) => "chosen",
-        "argument" | "argued" if is_element(place) => "element",
-        "argument"
-            if [place.sign(), place.behind(1)] == ["(", "word"] && fits(":=|=>", place.behind(2)) =>
-            { "double" }
-        "kinded" if is_second_kind(place) => "another",
-        "declaration" if is_marked(place) => "marked",
-        "declaration" if is_remark(place) => "remark",
-        _ => "",
+    match said_of(ASKED, &[stand]) {
+        "outer" => outer_sign(place),
+        "statement" => statement_sign(place),
+        "valued" => valued_sign(place),
+        "argument" => argument_sign(place, stand),
+        "declared" if is_colon(place) => "colon",
+        "declared" if stand == "declared" => declared_sign(place),
+        _ => single_sign(place, stand),
     }
 }
 

@@ -147,21 +147,31 @@ fn may_be_name(place: TokenPlace<'_>, site: &str, stand: &str) -> bool {
     }
 }
 
+/// Whether a word stands between & and ; without blanks, as in a page.
+fn is_entity(place: TokenPlace<'_>) -> bool {
+    let around = [place.before(1), place.behind(1)];
+    around == ["&", ";"] && place.gap().is_empty() && place.next().gap().is_empty()
+}
+
+/// Where a word behind a value stands, as the tables tell it.
+fn operator_site(place: TokenPlace<'_>, stand: &str) -> &'static str {
+    match stand {
+        "valued" if fits("IN", place.word()) && !fits("FOR|CASE", place.head()) => "member",
+        _ if fits(":=|=>|.", place.behind(1)) => "",
+        "valued" if fits("int|literal", place.before(1)) => "number",
+        _ => "operator",
+    }
+}
+
 /// Where a word stands that may be one of another dialect, as the tables tell it.
 fn site_of(place: TokenPlace<'_>, stand: &str) -> &'static str {
     let behind = place.behind(1);
-    let around = [place.before(1), behind];
     match stand {
-        _ if around == ["&", ";"] && place.gap().is_empty() && place.next().gap().is_empty() => {
-            "entity"
-        }
-        "valued" if fits("IN", place.word()) && !fits("FOR|CASE", place.head()) => "member",
+        _ if is_entity(place) => "entity",
         "kind" => "kind",
         "title" if behind == "word" => "title",
         "head" if fits(":|=", behind) => "unit",
-        "valued" | "assigned" | "controlled" if fits(":=|=>|.", behind) => "",
-        "valued" if fits("int|literal", place.before(1)) => "number",
-        "valued" | "assigned" | "controlled" => "operator",
+        _ if fits("valued|assigned|controlled", stand) => operator_site(place, stand),
         _ if same_word(place.next().word().as_bytes(), b"BLOCK") => "pair",
         _ => "",
     }
@@ -192,41 +202,82 @@ fn may_close(place: TokenPlace<'_>) -> bool {
     goes_on || is_last || fits("none|;|KEYWORD", behind) && !is_value
 }
 
-/// Whether a keyword may stand where a word does, by what follows that.
-fn may_stand(place: TokenPlace<'_>, keyword: &str) -> bool {
-    let (behind, end) = (place.behind(1), place.next().ahead(";|OF|OUTER").sign());
+/// The signs of which one stands right behind a keyword.
+const FOLLOWED: &str = "\
+THEN word|;|PART
+AND|XOR|MOD word|int|literal|TRUE|FALSE|NOT|(|-
+NOT word|TRUE|FALSE
+OR word|TRUE|FALSE|NOT|(
+PROGRAM|FUNCTION_BLOCK word
+";
+
+/// The keyword that ends the head of a statement, behind the one that begins it.
+const HEADS: &str = "\
+IF|ELSIF THEN
+CASE OF
+FOR TO
+";
+
+/// Whether a keyword that begins an ELSE or a section, or closes something, may stand where a word does, by what follows that.
+fn may_part(place: TokenPlace<'_>, keyword: &str) -> bool {
+    let behind = place.behind(1);
+    let begins = behind == "word" && fits(":=|(|[", place.behind(2));
     match keyword {
-        "THEN" => fits("IF|ELSIF", place.head()) && fits("word|;|PART", behind),
-        "AND" | "XOR" | "MOD" => fits("word|int|literal|TRUE|FALSE|NOT|(|-", behind),
-        "NOT" => fits("word|TRUE|FALSE", behind),
-        "OR" => fits("word|TRUE|FALSE|NOT|(", behind),
-        "IF" | "ELSIF" => end == "THEN",
-        "CASE" => end == "OF",
-        "FOR" => end == "TO",
-        "ELSE" => behind == "word" && fits(":=|(|[", place.behind(2))
-            || fits("IF|CASE|FOR", behind),
-        "PROGRAM" | "FUNCTION_BLOCK" => behind == "word",
-        "VAR" | "VAR_INPUT" | "VAR_OUTPUT" | "VAR_EXTERNAL" | "VAR_GLOBAL" => {
-            begins_names(place) || behind == "END_VAR"
-        }
+        "ELSE" => begins || fits("IF|CASE|FOR", behind),
+        _ if fits("SECTION", keyword) => begins_names(place) || behind == "END_VAR",
         _ => may_close(place),
     }
 }
 
+/// Whether a keyword may stand where a word does, by what follows that.
+fn may_stand(place: TokenPlace<'_>, keyword: &str) -> bool {
+    let is_free = keyword != "THEN" || fits("IF|ELSIF", place.head());
+    match (said_of(FOLLOWED, &[keyword]), said_of(HEADS, &[keyword])) {
+        ("", "") => may_part(place, keyword),
+        ("", last) => place.next().ahead(";|OF|OUTER").sign() == last,
+        (signs, _) => fits(signs, place.behind(1)) && is_free,
+    }
+}
+
+/// Whether a word begins as a keyword does, and nearly is that one, or is its first part.
+fn is_near(place: TokenPlace<'_>, keyword: &str) -> bool {
+    let (word, other) = (place.word().as_bytes(), keyword.as_bytes());
+    let begins = same_word(part(word, 0, 1), part(other, 0, 1));
+    begins && (within_one(word, other) || joins(place, keyword))
+}
+
+/// The first keyword that may stand where a word does and that it nearly is.
+fn near_keyword(place: TokenPlace<'_>) -> Option<&'static str> {
+    let mut keywords = said_of(KEYWORDS, &[place.stand()]).split(" ");
+    keywords.find(|keyword| is_near(place, keyword))
+}
+
+/// Whether a keyword goes on as a word does that nearly is that one: a short word may be a name.
+fn may_be_meant(place: TokenPlace<'_>, keyword: &str) -> bool {
+    if joins(place, keyword) {
+        return may_stand(place.next(), keyword);
+    }
+    let least = if fits("value|valued", place.stand()) {
+        2
+    } else {
+        3
+    };
+    place.word().len() >= least && may_stand(place, keyword)
+}
+
 /// The keyword that a word nearly is, but for one letter that isn't its first, or two that changed places, and which goes on as that does. `None` where it is none.
 fn meant(place: TokenPlace<'_>) -> Option<Misnomer<'_>> {
-    let (word, stand) = (place.word().as_bytes(), place.stand());
-    let mut keywords = said_of(KEYWORDS, &[stand]).split(" ");
-    let keyword = keywords.find(|keyword| {
-        let (first, other) = (part(word, 0, 1), part(keyword.as_bytes(), 0, 1));
-        same_word(first, other) && (within_one(word, keyword.as_bytes()) || joins(place, keyword))
-    })?;
-    let is_parted = joins(place, keyword);
-    let last = if is_parted { place.next() } else { place };
-    let said = ("is no keyword; did you mean ", keyword, "?");
-    let least = if fits("value|valued", stand) { 2 } else { 3 };
-    let may_be = is_parted || word.len() >= least;
-    (may_be && may_stand(last, keyword)).then_some((place, keyword, said, GRAMMAR))
+    match near_keyword(place) {
+        Some(keyword) if may_be_meant(place, keyword) => {
+            Some((
+                place,
+                keyword,
+                ("is no keyword; did you mean ", keyword, "?"),
+                GRAMMAR,
+            ))
+        }
+        _ => None,
+    }
 }
 
 /// Whether a word and the one behind it in its line are the parts of a keyword.
@@ -274,9 +325,35 @@ fn section(place: TokenPlace<'_>) -> Option<Misnomer<'_>> {
     (may_open && begins_names(place)).then_some((place, "_", said, GRAMMAR))
 }
 
-/// Whether the word that is told isn't a name that is declared.
-fn is_undeclared(told: &Misnomer<'_>) -> bool {
-    !is_variable(told.0)
+/// The rules by which a word is told: those that are asked first stand first.
+#[derive(Clone, Copy, Drop)]
+enum Rule {
+    Foreign,
+    Meant,
+    Section,
+    Closing,
+}
+
+/// What a rule says of a token; `None` where it is no word, or one that is declared.
+fn told_by(rule: Rule, place: TokenPlace<'_>) -> Option<Misnomer<'_>> {
+    if place.sign() != "word" {
+        return None;
+    }
+    let told = match rule {
+        Rule::Foreign => foreign(place),
+        Rule::Meant => meant(place),
+        Rule::Section => section(place),
+        Rule::Closing => closing(place),
+    };
+    told.filter(|told| !is_variable(told.0))
+}
+
+/// What a rule says of the first of the words by which a token can't be there: that one, the one before it, the one with which its call begins or the one behind
+/// its unit's keyword.
+fn told_around(place: TokenPlace<'_>, rule: Rule) -> Option<Misnomer<'_>> {
+    let (here, before) = (told_by(rule, place), told_by(rule, place.previous()));
+    let (call, unit) = (told_by(rule, called(place)), told_by(rule, titled(place)));
+    here.or(before).or(call).or(unit)
 }
 
 /// The word with which a statement begins as a call does, among whose arguments a token stands; else that token.
@@ -296,18 +373,16 @@ fn titled(place: TokenPlace<'_>) -> TokenPlace<'_> {
     }
 }
 
-/// The word by which a token can't be there, that one, the one before it, the one with which its call begins or the one behind its unit's keyword, unless it is a name that is declared; behind the last token one that is meant to close what is open.
+/// The word by which a token can't be there, unless it is a name that is declared; behind the last token one that is meant to close what is open.
 pub fn misnomer(place: TokenPlace<'_>) -> Option<Misnomer<'_>> {
-    let words = || {
-        let all = [place, place.previous(), called(place), titled(place)];
-        all.into_iter().filter(|word| word.sign() == "word")
-    };
-    let closing = words().filter_map(closing).find(is_undeclared);
+    let closing = told_around(place, Rule::Closing);
     if place.number >= place.tokens.len() {
         return closing;
     }
-    let foreign = words().filter_map(foreign).find(is_undeclared);
-    let meant = words().filter_map(meant).find(is_undeclared);
-    let section = words().filter_map(section).find(is_undeclared);
-    foreign.or(meant).or(section).or(closing)
+    let foreign = told_around(place, Rule::Foreign);
+    let meant = told_around(place, Rule::Meant);
+    foreign
+        .or(meant)
+        .or(told_around(place, Rule::Section))
+        .or(closing)
 }

@@ -148,30 +148,73 @@ fn digits_len(word: &[u8]) -> usize {
         .count()
 }
 
-/// Why a literal that begins with a digit isn't allowed.
-fn number_fault(word: &[u8]) -> &'static str {
-    let len = digits_len(word);
-    match (word, part(word, len, word.len())) {
-        ([b'0', b'x' | b'X', ..], _) => "' is no number: one to the base 16 is written 16#FF",
-        ([b'0', b'b' | b'B', b'0' | b'1', ..], _) =>
-            "' is no number: one to the base 2 is written 2#101",
-        (_, [b'e' | b'E', power @ ..])
-            if !power.is_empty() && power.iter().all(|digit| digit.is_ascii_digit()) =>
-            "' is no number: its digits are written out, as 1000 for 1e3",
-        (_, behind) if is_unit(behind) =>
-            "' is no number; a duration has T# before it, as in T#5s, and no blanks in it",
-        (_, [b'.', b'0'..=b'9', b'0'..=b'9', b'0'..=b'9']) =>
+/// Whether a power of ten stands behind the digits of a number, as in 1e3.
+fn is_power(behind: &[u8]) -> bool {
+    let power = part(behind, 1, behind.len());
+    matches!(behind, [b'e' | b'E', _, ..]) && power.iter().all(|digit| digit.is_ascii_digit())
+}
+
+/// Whether letters stand behind the digits of a number, as in a name.
+fn goes_on_as_name(behind: &[u8]) -> bool {
+    match behind {
+        [first, next, ..] => {
+            first.is_ascii_alphabetic() && !next.is_ascii_digit() && is_name_byte(*next)
+        }
+        _ => false,
+    }
+}
+
+/// Why a number isn't allowed, by what stands behind a point in it.
+fn point_fault(behind: &[u8]) -> &'static str {
+    let len = behind
+        .iter()
+        .take_while(|byte| byte.is_ascii_digit())
+        .count();
+    match len {
+        0 => "' is too large: an integer is at most 2147483648",
+        3 if behind.len() == 3 =>
             "' is no number: no point stands in one, and underscores may part its digits, as in 1_000; there are no REALs",
-        (_, [b'.', b'0'..=b'9', ..]) =>
+        _ =>
             "' is no number: there are no REALs, and an integer is at most 2147483648; 12.5 is written as 125, in tenths",
-        (_, [] | [b'.', ..]) => "' is too large: an integer is at most 2147483648",
-        (_, [b'#', ..]) =>
+    }
+}
+
+/// Why a number isn't allowed, by what stands behind its digits.
+fn digits_fault(behind: &[u8]) -> &'static str {
+    match behind {
+        [] => "' is too large: an integer is at most 2147483648",
+        [b'.', decimals @ ..] => point_fault(decimals),
+        [b'#', ..] =>
             "' is no number: before a # stand 2, 8 or 16, and behind it digits to that base",
-        (_, [first, next, ..])
-            if first.is_ascii_alphabetic() && !next.is_ascii_digit() && is_name_byte(*next) =>
+        _ if is_power(behind) => "' is no number: its digits are written out, as 1000 for 1e3",
+        _ if is_unit(behind) =>
+            "' is no number; a duration has T# before it, as in T#5s, and no blanks in it",
+        _ if goes_on_as_name(behind) =>
             "' is no number, since letters stand in it, and no name, since that begins with a letter",
         _ => "' is no number: single underscores may part its digits, and no letter may follow it",
     }
+}
+
+/// Why a literal that begins with a digit isn't allowed.
+fn number_fault(word: &[u8]) -> &'static str {
+    match word {
+        [b'0', b'x' | b'X', ..] => "' is no number: one to the base 16 is written 16#FF",
+        [b'0', b'b' | b'B', b'0' | b'1', ..] =>
+            "' is no number: one to the base 2 is written 2#101",
+        _ => digits_fault(part(word, digits_len(word), word.len())),
+    }
+}
+
+/// Whether bytes end with PROGRAM or FUNCTION_BLOCK.
+fn follows_unit(before: &[u8]) -> bool {
+    let before = before.trim_ascii_end();
+    let word = before.iter().rev().take_while(|byte| is_name_byte(**byte));
+    let word = part(
+        before,
+        before.len().saturating_sub(word.count()),
+        before.len(),
+    );
+    same_word(word, b"PROGRAM") || same_word(word, b"FUNCTION_BLOCK")
 }
 
 /// Whether a quote that bytes begin with opens a name: nothing else stands in it, and behind it stands what may stand behind one, or before it PROGRAM or
@@ -181,16 +224,8 @@ fn quotes_name(before: &[u8], bytes: &[u8]) -> bool {
     let is_of_name = |byte: &u8| is_name_byte(*byte) || *byte == b' ';
     let len = inside.iter().take_while(|byte| is_of_name(*byte)).count();
     let behind = part(inside, len.saturating_add(1), inside.len()).trim_ascii_start();
-    let before = before.trim_ascii_end();
-    let word = before
-        .iter()
-        .rev()
-        .take_while(|byte| is_name_byte(**byte))
-        .count();
-    let word = part(before, before.len().saturating_sub(word), before.len());
-    let is_unit = same_word(word, b"PROGRAM") || same_word(word, b"FUNCTION_BLOCK");
     let goes_on = matches!(behind, [b'.' | b'(', ..] | [b':', b'=', ..]);
-    len > 0 && inside.get(len) == Some(&b'"') && (goes_on || is_unit)
+    len > 0 && inside.get(len) == Some(&b'"') && (goes_on || follows_unit(before))
 }
 
 /// What is said of bytes that begin with a mark or with a character that isn't of ASCII.
@@ -216,49 +251,116 @@ fn goes_on(bytes: &[u8]) -> bool {
     blanks.next().is_some_and(|byte| *byte != b'\n')
 }
 
-/// What is said of bytes that begin with another one than a letter or a digit, behind others.
-fn other_fault(before: &[u8], bytes: &[u8]) -> &'static str {
-    match (before, bytes) {
-        ([] | [_], [0xFF, 0xFE, ..] | [0xFE, 0xFF, ..] | [_, 0, ..] | [0, ..]) =>
-            "this file is no UTF-8, but looks like UTF-16: save it as UTF-8",
-        (_, [0..=0x1F | 0x7F, ..]) => "this is a control character, which can't be seen: delete it",
-        ([.., b'0'..=b'9'], [b'\'', b'0'..=b'9', ..]) =>
-            "no ' stands in a number: underscores may part its digits, as in 1_000",
-        (_, [b'"', ..]) if quotes_name(before, bytes) => "a name stands without quotes here",
-        (_, [mark @ (b'\'' | b'"'), ..]) if !is_quoted(bytes, *mark) =>
-            "texts in quotes aren't part of the language, and this quote isn't closed in its line; a remark is written // .. or (* .. *)",
-        ([.., b'.'], [b'%', ..]) => "a bit of a number has no name",
-        ([.., b'0'..=b'9'], [b'%', ..]) => "no % stands behind a number: a share is a number alone",
-        (_, [b'%', next, ..]) if *next != b' ' =>
-            "this is no address: one is written as %IX0.0, %QD4 or %M*",
-        (_, [b'$', next, ..]) if next.is_ascii_hexdigit() =>
-            "a number to the base 16 is written 16#FF",
-        (_, bytes) if bytes.starts_with(b"#include") =>
-            "there is no #include: 'sources' in plant.toml lists the sources",
-        (_, [b'#', b'0'..=b'9', ..]) =>
-            "a # stands inside of literals, without blanks, as in T#5s or 16#FF; a remark is written // .. or (* .. *)",
-        (_, [b'#', next, ..]) if is_name_byte(*next) =>
-            "no # stands before a name or a word; a remark is written // .. or (* .. *)",
-        (_, [b'\\', b'\\', ..]) => "a remark is written // .. or (* .. *)",
-        (_, [b'\\', rest @ ..]) if goes_on(rest) =>
-            "a quotient is written with /, as in n / 2, and a remark // .. or (* .. *)",
-        _ => mark_fault(bytes),
+/// Whether bytes end with a digit.
+fn follows_digit(before: &[u8]) -> bool {
+    before.last().is_some_and(|byte| byte.is_ascii_digit())
+}
+
+/// Whether bytes at the start of a file, or behind its first one, are those of UTF-16.
+fn is_wide(before: &[u8], bytes: &[u8]) -> bool {
+    let may_be = matches!(
+        bytes,
+        [0xFF, 0xFE, ..] | [0xFE, 0xFF, ..] | [_, 0, ..] | [0, ..]
+    );
+    before.len() < 2 && may_be
+}
+
+/// What is said of a quote; empty where its row of the marks tells.
+fn quote_fault(before: &[u8], bytes: &[u8], mark: u8) -> &'static str {
+    let is_in_number = follows_digit(before) && matches!(bytes, [b'\'', b'0'..=b'9', ..]);
+    if is_in_number {
+        "no ' stands in a number: underscores may part its digits, as in 1_000"
+    } else if mark == b'"' && quotes_name(before, bytes) {
+        "a name stands without quotes here"
+    } else if is_quoted(bytes, mark) {
+        ""
+    } else {
+        "texts in quotes aren't part of the language, and this quote isn't closed in its line; a remark is written // .. or (* .. *)"
     }
 }
 
+/// What is said of a `%`, by what stands before and behind it; empty where its row of the marks tells.
+fn percent_fault(before: &[u8], behind: &[u8]) -> &'static str {
+    if before.last() == Some(&b'.') {
+        "a bit of a number has no name"
+    } else if follows_digit(before) {
+        "no % stands behind a number: a share is a number alone"
+    } else if behind.first().is_some_and(|next| *next != b' ') {
+        "this is no address: one is written as %IX0.0, %QD4 or %M*"
+    } else {
+        ""
+    }
+}
+
+/// What is said of a `#`, by what stands behind it; empty where its row of the marks tells.
+fn hash_fault(behind: &[u8]) -> &'static str {
+    if behind.starts_with(b"include") {
+        return "there is no #include: 'sources' in plant.toml lists the sources";
+    }
+    match behind.first() {
+        Some(b'0'..=b'9') =>
+            "a # stands inside of literals, without blanks, as in T#5s or 16#FF; a remark is written // .. or (* .. *)",
+        Some(next) if is_name_byte(*next) =>
+            "no # stands before a name or a word; a remark is written // .. or (* .. *)",
+        _ => "",
+    }
+}
+
+/// What is said of a backslash, by what stands behind it; empty where its row of the marks tells.
+fn backslash_fault(behind: &[u8]) -> &'static str {
+    if behind.first() == Some(&b'\\') {
+        "a remark is written // .. or (* .. *)"
+    } else if goes_on(behind) {
+        "a quotient is written with /, as in n / 2, and a remark // .. or (* .. *)"
+    } else {
+        ""
+    }
+}
+
+/// What is said of a mark behind other bytes; empty where its row of the marks tells.
+fn fault_around(before: &[u8], bytes: &[u8]) -> &'static str {
+    let behind = part(bytes, 1, bytes.len());
+    match bytes.first() {
+        Some(0..=0x1F | 0x7F) => "this is a control character, which can't be seen: delete it",
+        Some(mark @ (b'\'' | b'"')) => quote_fault(before, bytes, *mark),
+        Some(b'%') => percent_fault(before, behind),
+        Some(b'#') => hash_fault(behind),
+        Some(b'\\') => backslash_fault(behind),
+        Some(b'$') if behind.first().is_some_and(|next| next.is_ascii_hexdigit()) =>
+            "a number to the base 16 is written 16#FF",
+        _ => "",
+    }
+}
+
+/// What is said of bytes that begin with another one than a letter or a digit, behind others.
+fn other_fault(before: &[u8], bytes: &[u8]) -> &'static str {
+    if is_wide(before, bytes) {
+        return "this file is no UTF-8, but looks like UTF-16: save it as UTF-8";
+    }
+    match fault_around(before, bytes) {
+        "" => mark_fault(bytes),
+        said => said,
+    }
+}
+
+/// How many of some bytes are a mark.
+fn count_of(bytes: &[u8], mark: u8) -> usize {
+    bytes.iter().filter(|byte| **byte == mark).count()
+}
+
+/// The statement around a byte of a source: what stands between two `;`.
+fn statement_around(text: &[u8], at: usize) -> &[u8] {
+    let before = part(text, 0, at).iter().rev();
+    let before = before.take_while(|byte| **byte != b';').count();
+    let behind = part(text, at, text.len()).iter();
+    let behind = behind.take_while(|byte| **byte != b';').count();
+    part(text, at.saturating_sub(before), at.saturating_add(behind))
+}
+
 /// Whether the statement around a byte has more `)` than `(`.
-fn has_loose_end(text: &[u8], at: usize) -> bool {
-    let before = part(text, 0, at).split(|byte| *byte == b';').last();
-    let behind = part(text, at, text.len())
-        .split(|byte| *byte == b';')
-        .next();
-    let (before, behind) = (before.unwrap_or(b""), behind.unwrap_or(b""));
-    let count = |mark: u8| {
-        let above = before.iter().filter(|byte| **byte == mark).count();
-        let below = behind.iter().filter(|byte| **byte == mark).count();
-        above.saturating_add(below)
-    };
-    count(b'(') < count(b')')
+fn lacks_parenthesis(text: &[u8], at: usize) -> bool {
+    let statement = statement_around(text, at);
+    count_of(statement, b'(') < count_of(statement, b')')
 }
 
 /// Whether bytes end with the word AT.
@@ -269,26 +371,34 @@ fn follows_at(before: &[u8]) -> bool {
     }
 }
 
+/// Why the word that begins at a byte of a source, a letter or a digit, and ends at another isn't allowed.
+fn word_fault(text: &[u8], at: usize, until: usize) -> &'static str {
+    let word = part(text, at, until);
+    let may_be_name = matches!(word, [b'8' | b'9', b'a'..=b'z' | b'A'..=b'Z' | b'_', ..]);
+    if !word.first().is_some_and(|byte| byte.is_ascii_digit()) {
+        literal_fault(
+            str::from_utf8(word).unwrap_or(""),
+            part(text, until, text.len()),
+        )
+    } else if follows_at(part(text, 0, at)) {
+        "' is no address: one begins with %, as in %IX0.3"
+    } else if may_be_name && lacks_parenthesis(text, at) {
+        "' is no number and no name: a '(' stands before the name, as the ')' behind it shows"
+    } else {
+        number_fault(word)
+    }
+}
+
 /// The cause of a fault of spelling at a byte of a source.
 pub fn misspelled_at(alloc: Global, text: &[u8], at: usize) -> Result<Cause, AllocError> {
     let bytes = part(text, at, text.len());
+    if !bytes.first().is_some_and(|byte| is_name_byte(*byte)) {
+        let said = String::from_str(alloc, other_fault(part(text, 0, at), bytes))?;
+        let until = at.saturating_add(bytes.len().min(1));
+        return Ok(cause_at((at, until), said, SPELLING));
+    }
     let until = at.saturating_add(run_len(bytes));
     let word = str::from_utf8(part(text, at, until)).unwrap_or("");
-    let why = match bytes {
-        [b'0'..=b'9', ..] if follows_at(part(text, 0, at)) =>
-            "' is no address: one begins with %, as in %IX0.3",
-        [b'8' | b'9', b'a'..=b'z' | b'A'..=b'Z' | b'_', ..] if has_loose_end(text, at) =>
-            "' is no number and no name: a '(' stands before the name, as the ')' behind it shows",
-        [b'0'..=b'9', ..] => number_fault(word.as_bytes()),
-        [b'a'..=b'z' | b'A'..=b'Z' | b'_', ..] => literal_fault(
-            word,
-            part(text, until, text.len()),
-        ),
-        _ => {
-            let said = String::from_str(alloc, other_fault(part(text, 0, at), bytes))?;
-            let until = at.saturating_add(bytes.len().min(1));
-            return Ok(cause_at((at, until), said, SPELLING));
-        }
-    };
-    Ok(cause_at((at, until), format!(in alloc; "'{word}{why}")?, SPELLING))
+    let said = format!(in alloc; "'{word}{}", word_fault(text, at, until))?;
+    Ok(cause_at((at, until), said, SPELLING))
 }
