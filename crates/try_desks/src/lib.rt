@@ -8,20 +8,30 @@
 //! under way. Those are refused where they are taken after the change. The board shows the reload: from then on the desk has the lamps of the plant that
 //! came, waits for the answers of all that it ordered before, and gives again what was refused.
 //!
-//! Nothing here owns a plant or a station. That what comes back are consoles of the same station is known by a promise of each thread.
+//! What an operator keeps of its answers is held against the journal (`notes`), whose orders are counted (`counts`).
+//!
+//! Nothing here owns a plant, a station or a journal. That what comes back are consoles of the same station is known by a promise of each thread.
 //!
 //! Layer try_: nothing of the product stands on it.
 #![tactic(auto)]
 
+mod counts;
 mod duty;
 mod endings;
+mod laws;
+mod notes;
 mod post;
+mod sends;
 mod stand;
 mod starts;
 mod watch;
 
+pub use counts::{Orders, count};
 pub use endings::{Ended, join_all};
+pub use laws::tellings_tell_apart;
+pub use notes::{Note, Telling, are_told};
 pub use post::{DRILL, Lamp, Plants, Post, is_outdated};
+pub use sends::{archive_is_shared, console_goes, engine_is_shared, plant_is_shared};
 pub use stand::Stint;
 pub use starts::{Seat, Seated, seat_all};
 pub use watch::Watch;

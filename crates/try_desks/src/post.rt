@@ -2,11 +2,11 @@
 
 ghost use Rattle.alarm_machine.specs.declared.states.AlarmState.{AlarmState};
 
+use crate::notes::Note;
 use engine::{AlarmState, Order, OrderFault, Plant, Reply, Verb};
 use station::Answer;
 use std::alloc::{AllocError, Global};
 use std::mem::swap;
-use try_shift::Note;
 
 /// How many orders a console's drill has.
 pub const DRILL: usize = 100;

@@ -4,8 +4,7 @@ use crate::crews::Workers;
 use crate::events::Events;
 use engine::{Engine, Entry, Log};
 use station::Closing;
-use try_desks::{Post, is_outdated};
-use try_shift::{Note, Orders, are_told, count};
+use try_desks::{Note, Orders, Post, are_told, count, is_outdated};
 use try_text::Page;
 
 /// How many orders may be left of a console at most.

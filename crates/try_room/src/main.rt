@@ -15,6 +15,8 @@
 //! is acknowledged once; the last scans of the script are of one console's areas, so the last page is always the same; and the keeper has every line
 //! where the day is whole. How many turns the owner took, and how many pages the keeper, is never printed.
 //!
+//! Behind a line `== crews` the file has rows on who runs the programs of a scan (`gated`), which have no station. They are answered behind such a line.
+//!
 //! Layer try_: nothing of the product stands on it.
 #![tactic(auto)]
 
@@ -23,6 +25,7 @@ mod console_reports;
 mod crews;
 mod day;
 mod events;
+mod gated;
 mod house;
 mod keeper;
 mod reports;
@@ -30,6 +33,7 @@ mod room;
 mod shift;
 
 use crews::workers;
+use gated::push_rows;
 use house::read_houses;
 use room::run;
 use shift::Shift;
@@ -43,6 +47,7 @@ use std::sync::Wait;
 use std::sync::ledger::Blank;
 use std::thread::Threads;
 use try_desks::Watch;
+use try_text::Page;
 
 /// How many workers run the programs of the plant, of which the owner is one.
 const WORKERS: u32 = 2;
@@ -66,11 +71,12 @@ fn run_shift<R: Runtime + Threads + Wait + AllocGlobal + Send + Sync + 'static>(
     }
 }
 
-/// Reads the script, and writes what there is to tell of the shift. Tells whether the day was whole.
+/// Lets a station live by the script, and writes what there is to tell of the shift. Tells whether the day was whole.
 fn tell<R: Runtime + Threads + Wait + AllocGlobal + Send + Sync + 'static>(
     rt: &R,
+    script: &str,
 ) -> io::Result<bool> {
-    let script = io::read_to_string(rt.alloc(), rt.reader())?;
+    let script = String::from_str(rt.alloc(), script)?;
     let watch = Watch::shared(rt.alloc())?;
     let mut shift = Shift::new(rt.alloc(), script, watch);
     let is_whole = run_shift(rt, rt.alloc(), &mut shift);
@@ -78,9 +84,23 @@ fn tell<R: Runtime + Threads + Wait + AllocGlobal + Send + Sync + 'static>(
     Ok(written.is_ok() && is_whole && !shift.page.is_short())
 }
 
+/// The script, and the rows behind it.
+fn parted(table: &str) -> (&str, &str) {
+    table.split_once("\n== crews\n").unwrap_or((table, ""))
+}
+
 fn main(rt: HostRuntime) -> ExitCode {
-    match tell(&rt) {
-        Ok(true) => ExitCode::from(0),
-        Ok(false) | Err(_) => ExitCode::from(1),
+    let Ok(table) = io::read_to_string(rt.alloc(), rt.reader()) else {
+        return ExitCode::from(1);
+    };
+    let (script, rows) = parted(table.as_str());
+    let is_whole = tell(&rt, script).unwrap_or(false);
+    let mut page = Page::new(rt.alloc());
+    push_rows(&rt, rt.alloc(), &mut page, rows);
+    let written = io::writer(&rt).write_all(page.as_slice());
+    if written.is_ok() && is_whole && !page.is_short() {
+        ExitCode::from(0)
+    } else {
+        ExitCode::from(1)
     }
 }

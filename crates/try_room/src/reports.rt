@@ -8,7 +8,7 @@ use station::Archive;
 use std::alloc::{AllocError, Global};
 use std::sync::Wait;
 use std::sync::ledger::Ledger;
-use try_shift::{Orders, count};
+use try_desks::{Orders, count};
 use try_text::Page;
 
 /// How many rows the last page has.
