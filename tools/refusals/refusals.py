@@ -1,15 +1,16 @@
 #!/usr/bin/env python3
 """Refuses a built program each growth of its memory in turn, and looks at what comes of it.
 
-    python3 tools/refusals/refusals.py crates/try_stations/out/try_stations --crate crates/try_stations
+    python3 tools/refusals/refusals.py crates/try_room/out/try_room --crate crates/try_room --table stations
     python3 tools/refusals/refusals.py crates/alarmd/out/alarmd --examples examples
 
-A program of rows is run on its stored input (`--crate`): each run has to write the same as without, or to end with status 1 and write nothing. The server is run on the
+A program of rows is run on its stored input (`--crate`), or on one table of it: each run has to write the same as without, or to end with status 1 and write nothing. The server is run on the
 plants and commands of the examples (`--examples`): each run has to be the same, or to end with status 1 and `RUN MEMORY` after a beginning of the right answers (with workers
 also with `RUN CREW`). The first, second, third .. growth is refused, one a run, until a run needed no more.
 
 | option | what it is | without it |
 |---|---|---|
+| `--table NAME` | of the stored input only what stands behind its line `== NAME` | the whole |
 | `--later` | each growth is refused with all later ones | it alone |
 | `--sample N` | so many places of all, chosen at random | each place |
 | `--seed S` | what they are chosen by | 1 |
@@ -55,11 +56,17 @@ def read(*names):
         return file.read()
 
 
-def rows(program, crate):
-    """A row program on its stored input."""
+def table_of(given, name):
+    """The table of a name, as an input of its own: from the line `== NAME` to the next such line."""
+    return b"\n== %s\n%s" % (name.encode(), given.partition(b"\n== %s\n" % name.encode())[2].partition(b"\n== ")[0])
+
+
+def rows(program, crate, table):
+    """A row program on its stored input, or on a table of it."""
+    given = read(crate, "stdin")
     words = read(crate, "args").decode().split("\n")[:-1] if os.path.exists(os.path.join(crate, "args")) else []
     data = os.path.join(crate, "data")
-    return [Target(os.path.basename(program), [program, *words], read(crate, "stdin"), data if os.path.isdir(data) else None)]
+    return [Target(os.path.basename(program), [program, *words], table_of(given, table) if table else given, data if os.path.isdir(data) else None)]
 
 
 def examples(program, folder, workers):
@@ -110,6 +117,7 @@ def read_options():
     reads = argparse.ArgumentParser(usage=__doc__)
     reads.add_argument("program", type=os.path.abspath)
     reads.add_argument("--crate", help="the crate of a row program")
+    reads.add_argument("--table", help="the table of its input, if not the whole")
     reads.add_argument("--examples", help="the folder of the examples")
     reads.add_argument("--workers", type=int, default=1)
     reads.add_argument("--later", action="store_true")
@@ -124,7 +132,7 @@ def read_options():
 
 def main():
     options, counts, begun = read_options(), collections.Counter(), time.monotonic()
-    targets = rows(options.program, options.crate) if options.crate else examples(options.program, options.examples, options.workers)
+    targets = rows(options.program, options.crate, options.table) if options.crate else examples(options.program, options.examples, options.workers)
     refuser = Refuser()
     try:
         with concurrent.futures.ThreadPoolExecutor(options.jobs) as pool:

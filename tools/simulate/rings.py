@@ -1,6 +1,6 @@
 """A station by the second reading of the rules: a server whose orders come through rings, row by row of try_stations' table.
 
-`crates/try_stations/src/main.rt` says what rows there are. All consoles are in one thread, so that each end of a ring sees all that the other did, and a board shows each event."""
+`crates/try_stations/src/lib.rt` says what rows there are. All consoles are in one thread, so that each end of a ring sees all that the other did, and a board shows each event."""
 
 import collections
 import re

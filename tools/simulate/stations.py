@@ -1,7 +1,7 @@
 #!/usr/bin/env python3
 """Stations on random schedules, held against a model of the rules (rings.py).
 
-    python3 tools/simulate/stations.py crates/try_stations/out/try_stations --stations 1000
+    python3 tools/simulate/stations.py crates/try_room/out/try_room --stations 1000
 
 Each seed makes a random plant and the rows of a station: turns, scans right and refused, orders of all verbs right and wrong, rings that are filled, answers that are taken late or
 never, looks at boards, pages of the archive, workers who are gone after some rounds, and an end with orders left. The built row program plays them, and each line has to be the model's. Beside that the orders and answers are counted by the output
@@ -35,6 +35,7 @@ import tempfile
 import time
 
 HERE = os.path.dirname(os.path.abspath(__file__))
+HEAD = "== stations\n"
 sys.path += [os.path.join(HERE, "..", "reference"), os.path.join(HERE, "..", "refusals")]
 
 import files
@@ -215,9 +216,9 @@ def given_files(texts):
 
 
 def table(schedule):
-    """The station's part of a table."""
+    """The station's part of a table, behind the line that names it."""
     given = given_files(schedule.files)
-    return f"\nstation {schedule.name}\n{given}\nbegin\n" + "".join(f"{row}\n" for row in schedule.rows)
+    return f"\n{HEAD}\nstation {schedule.name}\n{given}\nbegin\n" + "".join(f"{row}\n" for row in schedule.rows)
 
 
 def wanted(schedule, came, refused):
@@ -264,7 +265,7 @@ class Trial:
         if refused and (ran.status, ran.out) == (1, b""):
             self.counts["of them ended, with nothing written"] += 1
             return
-        came = ran.out.decode("utf-8", "replace").split("\n")[:-1]
+        came = ran.out.decode("utf-8", "replace").removeprefix(HEAD).split("\n")[:-1]
         said, model = wanted(self.schedule, came, refused)
         self.counts["turns refused for memory"] += model.refused
         self.counts["turns stopped for memory"] += model.stopped if refused else 0

@@ -145,7 +145,7 @@ fn push_line<R: Threads + Wait + Clone + Send + Sync + Drop + 'static>(
     }
 }
 
-/// Adds the rows, if there are any, behind a line that says so, and what comes of each.
+/// Adds the rows, and what comes of each.
 pub fn push_rows<R: Threads + Wait + Clone + Send + Sync + Drop + 'static>(
     rt: &R,
     alloc: Global,
@@ -154,9 +154,6 @@ pub fn push_rows<R: Threads + Wait + Clone + Send + Sync + Drop + 'static>(
 )
     requires { IsSync R.row }
 {
-    if !rows.is_empty() {
-        page.line("== crews");
-    }
     for line in rows.lines() {
         push_line(rt, alloc, page, line);
     }

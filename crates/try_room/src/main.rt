@@ -15,7 +15,8 @@
 //! is acknowledged once; the last scans of the script are of one console's areas, so the last page is always the same; and the keeper has every line
 //! where the day is whole. How many turns the owner took, and how many pages the keeper, is never printed.
 //!
-//! Behind a line `== crews` the file has rows on who runs the programs of a scan (`gated`), which have no station. They are answered behind such a line.
+//! Behind a line `== stations` the file has rows on stations with consoles in one thread (try_stations), and behind a line `== crews` rows on who runs the
+//! programs of a scan (`gated`), which have no station. These are answered behind such lines. Where there is no script, there is no shift.
 //!
 //! Layer try_: nothing of the product stands on it.
 #![tactic(auto)]
@@ -47,6 +48,7 @@ use std::sync::Wait;
 use std::sync::ledger::Blank;
 use std::thread::Threads;
 use try_desks::Watch;
+use try_stations::push_stations;
 use try_text::Page;
 
 /// How many workers run the programs of the plant, of which the owner is one.
@@ -84,21 +86,39 @@ fn tell<R: Runtime + Threads + Wait + AllocGlobal + Send + Sync + 'static>(
     Ok(written.is_ok() && is_whole && !shift.page.is_short())
 }
 
-/// The script, and the rows behind it.
-fn parted(table: &str) -> (&str, &str) {
-    table.split_once("\n== crews\n").unwrap_or((table, ""))
+/// The parts of a table before and behind a line; all of it, and nothing, where it has no such line.
+fn parted<'a>(table: &'a str, line: &str) -> (&'a str, &'a str) {
+    table.split_once(line).unwrap_or((table, ""))
+}
+
+/// Adds the name of rows that follow, if there are any.
+fn push_name(page: &mut Page, name: &str, rows: &str) {
+    if !rows.is_empty() {
+        page.line(name);
+    }
+}
+
+/// Writes a page, unless it is short. Tells whether that was done.
+fn is_written<R: Runtime>(rt: &R, page: Page) -> bool {
+    match page.end() {
+        Ok(text) => io::writer(rt).write_all(text.as_slice()).is_ok(),
+        Err(_) => false,
+    }
 }
 
 fn main(rt: HostRuntime) -> ExitCode {
     let Ok(table) = io::read_to_string(rt.alloc(), rt.reader()) else {
         return ExitCode::from(1);
     };
-    let (script, rows) = parted(table.as_str());
-    let is_whole = tell(&rt, script).unwrap_or(false);
+    let (script, rows) = parted(table.as_str(), "\n== stations\n");
+    let (stations, crews) = parted(rows, "\n== crews\n");
+    let is_whole = script.is_empty() || tell(&rt, script).unwrap_or(false);
     let mut page = Page::new(rt.alloc());
-    push_rows(&rt, rt.alloc(), &mut page, rows);
-    let written = io::writer(&rt).write_all(page.as_slice());
-    if written.is_ok() && is_whole && !page.is_short() {
+    push_name(&mut page, "== stations", stations);
+    push_stations(&rt, rt.alloc(), &mut page, stations);
+    push_name(&mut page, "== crews", crews);
+    push_rows(&rt, rt.alloc(), &mut page, crews);
+    if is_written(&rt, page) && is_whole {
         ExitCode::from(0)
     } else {
         ExitCode::from(1)

@@ -1,7 +1,7 @@
 //! Station rows: stations with consoles in one thread, and what they do.
 //!
-//! The table is read from standard input (the file `stdin`), and what the stations do is written to standard output (the file `stdout`). Rows are
-//! bytes, so more of them cost no proof. Nothing here is part of the server.
+//! try_room reads the table, which stands in its file `stdin` behind a line `== stations`, and writes what the stations do. Rows are bytes, so more of them
+//! cost no proof. Nothing here is part of the server.
 //!
 //! A line `station NAME` begins a station. Its plant is the one that is built in (in `src/plants.rt`), which has two consoles; or, where the lines after
 //! the name are `file plant.toml` and its text, then `file alarms.csv`, then `file` and the name of each source as the plant file lists them, and
@@ -49,8 +49,6 @@ mod workers;
 use living::run;
 use plants::{parted, read_plant};
 use std::alloc::Global;
-use std::io;
-use std::io::Write;
 use std::marker::Brand;
 use std::sync::Wait;
 use std::sync::ledger::Blank;
@@ -98,17 +96,13 @@ fn push_station_again<R: Threads + Wait + Sync>(
 }
 
 /// Adds what the stations of a table do.
-fn push_stations<R: Threads + Wait + Sync>(rt: &R, alloc: Global, text: &mut Page, table: &str) {
+pub fn push_stations<R: Threads + Wait + Sync>(
+    rt: &R,
+    alloc: Global,
+    text: &mut Page,
+    table: &str,
+) {
     for part in table.split("\nstation ").skip(1) {
         push_station_again(rt, alloc, text, part);
     }
-}
-
-fn main(rt: HostRuntime) -> io::Result<()> {
-    let table = io::read_to_string(rt.alloc(), rt.reader())?;
-    let mut text = Page::new(rt.alloc());
-    push_stations(&rt, rt.alloc(), &mut text, table.as_str());
-    let text = text.end()?;
-    io::writer(&rt).write_all(text.as_slice())?;
-    Ok(())
 }
