@@ -3,7 +3,7 @@
 //! The states are those of ANSI/ISA-18.2 and IEC 62682; the table with its codes, and every choice that the standards leave open, are this profile's.
 //! Nothing here allocates memory, and an alarm knows neither clock nor console: each scan passes its condition, its suppression and the moment.
 //!
-//! Layer alarm_: it must not know programs, sources or files.
+//! Layer alarm_: it must not know programs, sources or files. Only its words of orders and of their refusals name a program, since an operator orders both.
 #![tactic(auto)]
 
 mod alarm;

@@ -292,8 +292,8 @@ impl Plant {
     /// Structured Text (IEC 61131-3, this profile). A byte order mark at the start of any of them is skipped.
     ///
     /// Every fault but `Memory` is the first that the texts have, by the order of the refusals: C1, C2, C3; C10 of SOURCES, TEXT, AREAS and
-    /// CONSOLES; C4 or C5 of the first source that has one; C6, C7, C8, C9; C10 of TURNS, BLOCK_DEPTH, PROGRAMS, SLOTS, SIZE and COST; C11; C10 of
-    /// ALARMS; C12, C13, C14. `Memory` comes if memory is refused; where the texts are right, nothing else does.
+    /// CONSOLES; C4 or C5 of the first source that has one; C6, C7, C8, C9; C10 of TURNS, BLOCK_DEPTH, PROGRAMS, ELEMENTS, SLOTS, SIZE and COST; C11;
+    /// C10 of ALARMS; C12, C13, C14. `Memory` comes if memory is refused; where the texts are right, nothing else does.
     ///
     /// Large sources are parsed in threads, as many at once as there are processors.
     pub fn read<H: Threads + Sync>(

@@ -5,6 +5,6 @@
 pub enum ParseFault {
     /// Memory was refused.
     Memory,
-    /// No unit goes on with the token of this number, counted from 0. It is the number of tokens where the text ends too early.
+    /// Parsing stopped at the token of this number, counted from 0. It is the number of tokens where the text ends too early.
     At { token: usize },
 }

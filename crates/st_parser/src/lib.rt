@@ -1,4 +1,4 @@
-//! The parser of Structured Text: `parse` returns the unit that tokens spell, or refuses the first token with which no unit can go on.
+//! The parser of Structured Text: `parse` returns the unit that tokens spell; where they spell none, it names the token at which it stopped.
 //!
 //! Contracts speak of a unit as a `PlainUnit`: its sections of globals, then its blocks and programs with plain bodies. They speak of a text's tokens as lexemes.
 //!

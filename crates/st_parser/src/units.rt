@@ -166,7 +166,8 @@ fn refused(tokens: &[Token], left: usize) -> ParseFault
     }
 }
 
-/// Parses all tokens of a text as one unit. The error is `Memory` where memory was refused; else the tokens spell no unit, and it names the first token with which none can go on.
+/// Parses all tokens of a text as one unit. The error is `Memory` where memory was refused; else the tokens spell no unit, and it names one of them, or their end.
+/// The token named is the first with which no unit can go on; contracts don't say so.
 pub fn parse(alloc: Global, text: &[u8], tokens: &[Token]) -> Result<Unit, ParseFault>
     ensures spelled { MatchResult result
         (λ unit. SpellsUnit (lexemes text.now tokens.now) (view_unit unit))
