@@ -125,6 +125,7 @@ valued|taken _ _ parting _ arguments have a ',' between them, and a ';' ends the
 valued _ int label _ a label of a CASE stands alone, as in 2:
 valued _ _ measure _ behind a number stands no unit, and between two values an operator
 valued _ _ ending _ a statement ends with a ';'
+valued _ _ unpointed _ a '.' is missing before it: an output is read as t.Q
 valued _ _ beside _ no blank stands in a name, and between two values stands an operator
 valued _ _ beyond _ a ',' parts the arguments of a call: the one above has its ')' already, or the name of an instance and a '(' are missing
 valued _ int thousands _ an operator is missing between two numbers, or they are one: underscores may part its digits, as in 1_000
@@ -146,6 +147,7 @@ value _ CASE ELSE _ the last part of a CASE is ELSE alone
 value _ _ . int there are no REALs: numbers are whole, and only those of a duration may have a point
 value _ _ + ; an assignment is written out, as n := n + 1
 value _ + + _ it stands here twice
+value _ _ + word|int|literal|( no + stands before a value, as in 200 (a - may, as in -200)
 value _ _ ;|)|unopened)|,|THEN|END_IF|END_CASE|END_FOR _ a value is missing before it
 value _ _ KIND ( there are no functions, and no kind is made of another one
 value _ _ KIND _ it is a kind, and a value is wanted here
@@ -187,6 +189,7 @@ head _ word -|/|. _ a name has letters, digits and underscores alone
 declared _ _ block _ a : is missing before the kind
 declared _ block word ;|:= a declaration begins with the name, as in t : TON;
 declared _ _ remark _ words side by side are no declaration; a remark is written // .. or (* .. *)
+declared _ _ noted _ the word above it is no declaration; a remark is written // .. or (* .. *)
 declared _ _ call _ a call stands below END_VAR
 declared|addressed _ _ KIND _ a : is missing before the kind
 declared VAR_GLOBAL _ AT _ an address has one global alone, as in pump AT %QX0.0 : BOOL
@@ -231,6 +234,7 @@ top|behind _ _ END_PROGRAM _ no PROGRAM is open here
 top|behind _ _ END_FUNCTION_BLOCK _ no FUNCTION_BLOCK is open here
 ended _ CLOSING IF|CASE|FOR ; the keyword before it closes the statement already
 behind _ _ ; _ no ';' stands behind the END of a unit
+behind _ _ . _ no '.' stands behind the END of a unit
 behind _ _ VAR_GLOBAL _ globals stand above all blocks and programs of their source
 top|behind _ _ SECTION _ outside of blocks and programs variables stand in VAR_GLOBAL, above all of them
 top|behind _ _ IF|CASE|FOR _ statements stand in a PROGRAM or a FUNCTION_BLOCK

@@ -158,13 +158,26 @@ pub fn is_right_side(place: TokenPlace<'_>) -> bool {
     end.sign() == ";" && begins && !inside.any(parts)
 }
 
-/// Whether three words or more stand side by side in a line, of which a token is the second, and no name of three parts is assigned, called or declared by them.
+/// Whether a token and the word before it end a line, in which they stand alone behind a `;`.
+fn ends_line(place: TokenPlace<'_>) -> bool {
+    let is_behind = place.before(2) == ";" && is_in_line(place.previous());
+    is_behind && is_in_line(place) && !is_in_line(place.next())
+}
+
+/// Whether three words or more stand side by side in a line, of which a token is the second, and no name of three parts is assigned, called or declared by them;
+/// or two that end a line behind a `;`.
 pub fn is_prose(place: TokenPlace<'_>) -> bool {
     let mut behind = (place.number..place.tokens.len()).map(|number| place.at(number));
     let end = behind.find(|other| other.sign() != "word" || !is_in_line(*other));
     let end = end.unwrap_or(place.at(place.tokens.len()));
     let is_name = fits(":=|(|[|:|,", end.sign()) && is_in_line(end);
-    end.number > place.next().number && !is_name
+    (end.number > place.next().number || ends_line(place)) && !is_name
+}
+
+/// Whether a word in another line stands before a token, alone behind a `;` in its line.
+pub fn is_behind_note(place: TokenPlace<'_>) -> bool {
+    let is_behind = place.before(2) == ";" && is_in_line(place.previous());
+    is_behind && !is_in_line(place)
 }
 
 /// Whether a word is the name of a standard block.
@@ -304,11 +317,17 @@ fn assigned_sign(place: TokenPlace<'_>) -> &'static str {
     }
 }
 
+/// Whether a word stands in the line behind an instance as its output would behind a point.
+fn is_output(place: TokenPlace<'_>) -> bool {
+    is_in_line(place) && !place.lacks_end() && kind_sign(place.previous()) == "word"
+}
+
 /// What a word or a number behind a value is.
 fn word_sign(place: TokenPlace<'_>) -> &'static str {
     match (place.sign(), place.before(1)) {
         ("int", "int") if is_group(place) => "thousands",
         ("word", "int") if is_measure(place) => "measure",
+        ("word", "word") if is_output(place) => "unpointed",
         (_, "word") if is_in_line(place) && !place.lacks_end() => "beside",
         _ => "",
     }

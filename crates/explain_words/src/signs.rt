@@ -1,9 +1,9 @@
 //! The signs of tokens as the rules tell them: some are told by what else stands around them.
 
 use crate::around::{
-    closed_in, has_else, has_loose_end, is_chosen, is_colon, is_element, is_in_case, is_in_line,
-    is_label, is_labelling, is_prose, is_right_side, is_second_kind, is_standard, kind_sign,
-    valued_sign,
+    closed_in, has_else, has_loose_end, is_behind_note, is_chosen, is_colon, is_element,
+    is_in_case, is_in_line, is_label, is_labelling, is_prose, is_right_side, is_second_kind,
+    is_standard, kind_sign, valued_sign,
 };
 use explain_tokens::{TokenPlace, fits, said_of};
 use st_lexer::{Token, TokenKind};
@@ -220,6 +220,7 @@ fn declared_sign(place: TokenPlace<'_>) -> &'static str {
     match (place.sign(), place.behind(1)) {
         ("word", ";" | ":=") if is_standard(place) => "block",
         ("word", _) if is_prose(place) => "remark",
+        ("word", _) if is_behind_note(place) => "noted",
         ("(", "word") if fits(":=|=>", place.behind(2)) => "call",
         _ => "",
     }

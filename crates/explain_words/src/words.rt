@@ -10,8 +10,9 @@ pub const GRAMMAR: &str = "docs/LANGUAGE.md, \"Grammar\"";
 /// Where it stands what of the standard isn't there.
 const STANDARD: &str = "docs/LANGUAGE.md, \"What of IEC 61131-3 is here\"";
 
-/// Words of other dialects beside something: behind a `number`, as an `operator` behind another value, before the list of which a value is a `member`, between
-/// & and ; as an `entity` of a page, in the place of a `kind`, before the `title` or behind the name of a `unit`, or in a `pair` with BLOCK. Behind each stands how a source is read on (`Misnomer`), and what is said.
+/// Words of other dialects, or nearly those of this one, beside something: behind a `number`, as an `operator` behind another value, before the list of which a
+/// value is a `member`, between & and ; as an `entity` of a page, behind a `bound` of a FOR, in the place of a `kind`, before the `title` or behind the name of
+/// a `unit`, or in a `pair` with BLOCK. Behind each stands how a source is read on (`Misnomer`), and what is said.
 const BESIDE: &str = "\
 number s|ms|m|h|d part is no unit here: a duration is written as T#5s, without blanks
 number|operator ANDN part isn't part of the language: both, the second of them not, is written a AND NOT b
@@ -32,6 +33,10 @@ number|operator GT part isn't part of the language: greater is written >
 number|operator LE part isn't part of the language: at most is written <=
 number|operator GE part isn't part of the language: at least is written >=
 number|operator REM part isn't part of the language: a remainder is written n MOD 2
+number|operator FO OF is written OF
+number|operator YB BY is written BY
+bound OD DO is written DO
+bound OT TO is written TO
 member IN part isn't part of the language: one of several is written n = 1 OR n = 2
 entity LT < with its & and ; is how a page writes <: that itself stands here
 entity GT > with its & and ; is how a page writes >: that itself stands here
@@ -157,6 +162,7 @@ fn is_entity(place: TokenPlace<'_>) -> bool {
 fn operator_site(place: TokenPlace<'_>, stand: &str) -> &'static str {
     match stand {
         "valued" if fits("IN", place.word()) && !fits("FOR|CASE", place.head()) => "member",
+        "valued" if fits("OD|OT", place.word()) && fits("FOR|TO|BY", place.head()) => "bound",
         _ if fits(":=|=>|.", place.behind(1)) => "",
         "valued" if fits("int|literal", place.before(1)) => "number",
         _ => "operator",
