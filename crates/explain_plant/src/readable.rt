@@ -1,8 +1,8 @@
 //! What of a plant's sources can be read, where a part of them can't.
 
 use explain_files::Mark;
-use explain_sources::Parts;
-use explain_trees::{Parsed, Source, Unknown};
+use explain_sources::{Part, Parts};
+use explain_trees::{Parsed, Source, Unknown, sources_of, units_of};
 use st_parser::Unit;
 use std::alloc::{AllocError, Global};
 
@@ -34,27 +34,60 @@ impl<'t> Readable<'t> {
         }
     }
 
+    /// All sources of a plant that are right, each as a part by itself, with their units; no units where one isn't spelled as the grammar says.
+    pub fn of_right(
+        alloc: Global,
+        texts: &[(&'t str, &'t [u8])],
+    ) -> Result<Readable<'t>, AllocError> {
+        let sources = sources_of(alloc, texts)?;
+        let units = units_of(alloc, sources.as_slice())?;
+        Ok(Readable {
+            sources,
+            units,
+            origins: Vec::new(alloc),
+            gaps: Vec::new(alloc),
+            unknown: Unknown::nothing(alloc),
+        })
+    }
+
+    /// Adds the bytes around what can't be read in the source of a number.
+    fn add_gaps(&mut self, number: usize, gaps: Vec<Mark>) -> Result<(), AllocError> {
+        for gap in gaps {
+            self.gaps.push((number, gap))?;
+        }
+        Ok(())
+    }
+
+    /// Adds a part of the source of a number.
+    fn add_part(
+        &mut self,
+        number: usize,
+        (name, text): (&'t str, &'t [u8]),
+        part: Part,
+    ) -> Result<(), AllocError> {
+        if part.lacks {
+            self.unknown.owners.push(self.units.len())?;
+        }
+        self.origins.push((number, part.blurs_loops))?;
+        self.units.push(part.unit)?;
+        let tokens = part.tokens;
+        self.sources.push(Source { name, text, tokens })?;
+        Ok(())
+    }
+
     /// Adds the parts of the source of a number.
     pub fn add(
         &mut self,
         number: usize,
-        (name, text): (&'t str, &'t [u8]),
+        source: (&'t str, &'t [u8]),
         parts: Parts,
     ) -> Result<(), AllocError> {
         let unknown = &mut self.unknown;
         unknown.globals = unknown.globals || parts.lacks_globals;
         unknown.blocks = unknown.blocks || parts.lacks_blocks;
-        for gap in parts.gaps {
-            self.gaps.push((number, gap))?;
-        }
+        self.add_gaps(number, parts.gaps)?;
         for part in parts.list {
-            if part.lacks {
-                self.unknown.owners.push(self.units.len())?;
-            }
-            self.origins.push((number, part.blurs_loops))?;
-            self.units.push(part.unit)?;
-            let tokens = part.tokens;
-            self.sources.push(Source { name, text, tokens })?;
+            self.add_part(number, source, part)?;
         }
         Ok(())
     }

@@ -1,10 +1,10 @@
 //! What is wrong in the rows of the alarm database, beside what is found first (C11 to C14).
 
+use crate::readable::Readable;
 use crate::telling::Refused;
 use alarm_db::RowMistake;
 use explain_rows::{rows_beside, wrong_rows};
 use explain_tokens::{Cause, FileOf};
-use explain_trees::{sources_of, units_of};
 use st_parser::Unit;
 use std::alloc::AllocError;
 
@@ -27,9 +27,10 @@ impl<'t> Refused<'t> {
 
     /// Tells what is wrong in the rows of a plant whose sources are right but for a limit.
     pub fn in_rows_of_right(&mut self) -> Result<(), AllocError> {
-        let sources = sources_of(self.alloc, self.sources)?;
-        let units = units_of(self.alloc, sources.as_slice())?;
-        self.in_rows_beside(units.as_slice())
+        let readable = Readable::of_right(self.alloc, self.sources)?;
+        let told = self.in_rows_beside(readable.units.as_slice());
+        drop(readable);
+        told
     }
 
     /// Tells of the mistakes in rows for which the plant is refused, whose sources are right, and of what else is wrong in rows.
@@ -37,9 +38,10 @@ impl<'t> Refused<'t> {
         if self.in_named_source()? {
             return Ok(());
         }
-        let sources = sources_of(self.alloc, self.sources)?;
-        let units = units_of(self.alloc, sources.as_slice())?;
+        let readable = Readable::of_right(self.alloc, self.sources)?;
         let texts = (self.plant, self.alarms);
-        self.in_table(wrong_rows(self.alloc, texts, units.as_slice(), mistakes)?)
+        let causes = wrong_rows(self.alloc, texts, readable.units.as_slice(), mistakes);
+        drop(readable);
+        self.in_table(causes?)
     }
 }

@@ -324,6 +324,74 @@ fn named_at(
     shown(alloc, texts, "", &Spot { file, cause })
 }
 
+/// The place in the plant file of a file of a name that is missing, with what is said of another one that may be meant; `None` where it isn't certain.
+fn named_in(
+    alloc: Global,
+    gathered: &Gathered,
+    name: &str,
+) -> Result<Option<(Mark, String)>, AllocError> {
+    let mut missing = gathered.missing.iter();
+    match missing.find(|file| file.name.as_str() == name) {
+        Some(file) => Ok(Some((file.mark, meant(alloc, file)?))),
+        None => Ok(None),
+    }
+}
+
+/// What is wrong in a plant beside a file that is missing.
+fn found_beside(
+    alloc: Global,
+    texts: &PlantTexts<'_>,
+    gathered: &Gathered,
+) -> Result<Vec<Spot>, AllocError> {
+    let sources = without_tables(alloc, texts)?;
+    let mut refused = untold(alloc, texts, sources.as_slice(), Some(gathered));
+    refused.in_gathered()?;
+    let mut spots = refused.told;
+    spots.truncate(MOST_FAULTS.saturating_sub(1));
+    Ok(spots)
+}
+
+/// What is wrong in a plant beside a file that is missing, shown, and how many faults are told with that.
+fn shown_beside(
+    alloc: Global,
+    texts: &PlantTexts<'_>,
+    gathered: &Gathered,
+) -> Result<String, AllocError> {
+    let spots = found_beside(alloc, texts, gathered)?;
+    let told = all_shown(alloc, texts, spots.as_slice(), 1);
+    drop(spots);
+    told
+}
+
+/// The place in the plant file where a file is named that is missing, and what else is wrong, shown.
+fn shown_missing(
+    alloc: Global,
+    (path, plant): (&str, &[u8]),
+    gathered: &Gathered,
+    named: Option<(Mark, String)>,
+) -> Result<String, AllocError> {
+    let sources = gathered.lent(alloc)?;
+    let texts = texts_of(path, plant, sources.as_slice(), gathered);
+    let mut told = named_at(alloc, &texts, named)?;
+    told.push_str(shown_beside(alloc, &texts, gathered)?.as_str())?;
+    Ok(told)
+}
+
+/// What `explain_missing` tells, of a plant file that its shelf has.
+fn told_missing<S: Shelf>(
+    alloc: Global,
+    (shelf, path): (&S, &str),
+    plant: &[u8],
+    name: &str,
+) -> Result<String, AllocError> {
+    let mut gathered = Gathered::of(alloc, (shelf, path), plant)?;
+    let named = named_in(alloc, &gathered, name)?;
+    gathered.forget(name);
+    let told = shown_missing(alloc, (path, plant), &gathered, named);
+    drop(gathered);
+    told
+}
+
 /// Where the plant file names a file of a name that is missing, and what else is wrong in the plant: further files that are missing, and what is certainly wrong
 /// in the others; and how many faults are told with the missing file. Nothing where a shelf hasn't the plant file itself by its path.
 pub fn explain_missing<S: Shelf>(
@@ -332,29 +400,8 @@ pub fn explain_missing<S: Shelf>(
     path: &str,
     name: &str,
 ) -> Result<String, AllocError> {
-    let plant = match shelf.text(alloc, path)? {
-        Shelved::Text(plant) => plant,
-        Shelved::Missing | Shelved::Unread => return Ok(String::new(alloc)),
-    };
-    let mut gathered = Gathered::of(alloc, (shelf, path), plant.as_slice())?;
-    let mut missing = gathered.missing.iter();
-    let found = missing.find(|file| file.name.as_str() == name);
-    let named = match found {
-        Some(file) => {
-            let other = meant(alloc, file)?;
-            Some((file.mark, other))
-        }
-        None => None,
-    };
-    gathered.forget(name);
-    let sources = gathered.lent(alloc)?;
-    let texts = texts_of(path, plant.as_slice(), sources.as_slice(), &gathered);
-    let mut told = named_at(alloc, &texts, named)?;
-    let looked_at = without_tables(alloc, &texts)?;
-    let mut refused = untold(alloc, &texts, looked_at.as_slice(), Some(&gathered));
-    refused.in_gathered()?;
-    let mut spots = refused.told;
-    spots.truncate(MOST_FAULTS.saturating_sub(1));
-    told.push_str(all_shown(alloc, &texts, spots.as_slice(), 1)?.as_str())?;
-    Ok(told)
+    match shelf.text(alloc, path)? {
+        Shelved::Text(plant) => told_missing(alloc, (shelf, path), plant.as_slice(), name),
+        Shelved::Missing | Shelved::Unread => Ok(String::new(alloc)),
+    }
 }
