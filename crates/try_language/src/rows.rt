@@ -207,7 +207,7 @@ impl<'a> Rows<'a> {
 }
 
 /// What a table is answered, of texts and sources, or of plants of which a person is told.
-pub fn answers_to<H: Threads + Sync>(
+pub fn answers_of<H: Threads + Sync>(
     rt: &H,
     alloc: Global,
     lines: &str,

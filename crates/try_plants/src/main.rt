@@ -43,7 +43,8 @@
 //! Each run is by the caller alone, and then once more by two workers and by eight, unless it repeats a command. Where these answer otherwise,
 //! a line such as `2 WORKERS DIFFER` and their answer follow. The last line of these answers in the file `stdout` says that they never do.
 //!
-//! Behind a line `== parts` the file has rows on what the parts below the server answer (try_parts). These are answered behind such a line.
+//! Behind a line `== parts` the file has rows on what the parts below the server answer (try_parts), and behind a line `== language` those on texts and their
+//! trees, on the sources of plants, and on what a person is told of plants (try_language). Each are answered behind such a line.
 //!
 //! Texts are spelled as the crate try_text says. Each run of commands, up to a word of the table, is an input of its own: where its
 //! last line ends in a backslash, the input ends without a line feed. Where memory is refused a row is answered once more.
@@ -67,14 +68,13 @@ mod table;
 
 use crews::Crews;
 use examples::push_examples_by_all;
-use std::alloc::Global;
+use std::alloc::{AllocError, Global};
 use std::io;
 use std::io::Write;
 use std::rt::Files;
 use std::sync::Wait;
 use std::thread::Threads;
 use table::push_answers_to;
-use try_parts::answers_to;
 use try_text::Page;
 
 /// Adds what a table is answered, and a last line where all crews answer alike. The crews are let go here alone.
@@ -94,29 +94,42 @@ fn push_all<R: Files + Threads + Wait + Clone + Send + Sync + Drop + 'static>(
     }
 }
 
-/// Adds the rows on parts with their answers, if there are any, behind a line that says so.
-fn push_parts<R: Threads + Sync>(rt: &R, alloc: Global, page: &mut Page, rows: &str) {
-    if rows.is_empty() {
-        return;
-    }
-    page.line("== parts");
-    match answers_to(rt, alloc, rows) {
+/// Adds the answers to the rows of another crate, behind a line that says so.
+fn push_made(page: &mut Page, title: &str, made: Result<Vec<u8>, AllocError>) {
+    page.line(title);
+    match made {
         Ok(text) => page.add_bytes(text.as_slice()),
         Err(_) => page.refuse(),
     }
 }
 
-/// The rows on plants, and those on parts behind them.
-fn parted(table: &str) -> (&str, &str) {
-    table.split_once("\n== parts\n").unwrap_or((table, ""))
+/// Adds the answers to the rows on parts and on the language, as far as there are any.
+fn push_others<R: Threads + Sync>(rt: &R, alloc: Global, page: &mut Page, rows: (&str, &str)) {
+    if !rows.0.is_empty() {
+        push_made(page, "== parts", try_parts::answers_to(rt, alloc, rows.0));
+    }
+    if !rows.1.is_empty() {
+        push_made(
+            page,
+            "== language",
+            try_language::answers_to(rt, alloc, rows.1),
+        );
+    }
+}
+
+/// The rows on plants, and behind them those on parts and those on the language.
+fn parted(table: &str) -> (&str, (&str, &str)) {
+    let (rest, language) = table.split_once("\n== language\n").unwrap_or((table, ""));
+    let (plants, parts) = rest.split_once("\n== parts\n").unwrap_or((rest, ""));
+    (plants, (parts, language))
 }
 
 fn main(rt: HostRuntime) -> io::Result<()> {
     let table = io::read_to_string(rt.alloc(), rt.reader())?;
-    let (plants, parts) = parted(table.as_str());
+    let (plants, others) = parted(table.as_str());
     let mut page = Page::new(rt.alloc());
     push_all(&rt, rt.alloc(), &mut page, plants);
-    push_parts(&rt, rt.alloc(), &mut page, parts);
+    push_others(&rt, rt.alloc(), &mut page, others);
     let text = page.end()?;
     io::writer(&rt).write_all(text.as_slice())?;
     Ok(())

@@ -1,8 +1,8 @@
 //! Language rows: the texts of sources and of plants: what they spell, whether they are well formed, and what a person is told of them.
 //!
-//! The table is read from standard input (the file `stdin`), and its answers are written to standard output (the file `stdout`). Rows are
+//! The rows stand in `crates/try_plants/stdin` behind the line `== language`, and their answers in its `stdout`. Rows are
 //! bytes, so more of them cost no proof. Nothing here is part of the server. Texts are spelled as the crate try_text says, and lines that
-//! are none of those below are passed over. Up to the line `== plants` the table has texts and the sources of plants, and after it plants
+//! are none of those below are passed over. Up to the line `== plants` they have texts and the sources of plants, and after it plants
 //! of which a person is told.
 //!
 //! A text is a line `text NAME`, its lines, and one of these words. The first line is printed, and then
@@ -47,22 +47,18 @@ mod shelf;
 mod spelled;
 mod tree;
 
-use rows::answers_to;
+use rows::answers_of;
 use std::alloc::{AllocError, Global};
-use std::io;
-use std::io::Write;
 use std::thread::Threads;
 
-fn answered<H: Threads + Sync>(rt: &H, alloc: Global, table: &str) -> Result<Vec<u8>, AllocError> {
-    let (sources, plants) = table.split_once("\n== plants\n").unwrap_or((table, ""));
-    let mut text = answers_to(rt, alloc, sources, false)?;
-    text.extend_from_slice(answers_to(rt, alloc, plants, true)?.as_slice())?;
+/// What rows are answered: those on texts and the sources of plants, and behind a line `== plants` those on what a person is told.
+pub fn answers_to<H: Threads + Sync>(
+    rt: &H,
+    alloc: Global,
+    rows: &str,
+) -> Result<Vec<u8>, AllocError> {
+    let (sources, plants) = rows.split_once("\n== plants\n").unwrap_or((rows, ""));
+    let mut text = answers_of(rt, alloc, sources, false)?;
+    text.extend_from_slice(answers_of(rt, alloc, plants, true)?.as_slice())?;
     Ok(text)
-}
-
-fn main(rt: HostRuntime) -> io::Result<()> {
-    let table = io::read_to_string(rt.alloc(), rt.reader())?;
-    let text = answered(&rt, rt.alloc(), table.as_str())?;
-    io::writer(&rt).write_all(text.as_slice())?;
-    Ok(())
 }
