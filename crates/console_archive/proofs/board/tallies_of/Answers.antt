@@ -1,4 +1,5 @@
-use Rattle.std.proofs.Common.{◌≡◌, ℕ, ◌+◌, List, [], ◌∷◌, ◌++◌, take, refl, sym, ◌∙◌, ap}
+use Rattle.std.proofs.Common.{◌≡◌, ℕ, ◌+◌, List, [], ◌∷◌, ◌++◌, take, refl, sym, ◌∙◌, ap, arith}
+use Rattle.std.proofs.lemmas.Grind.{common_steps}
 use Rattle.std.proofs.lemmas.List.{map_more, map-append}
 use Rattle.std.proofs.lemmas.List.Elements.{All-same, All-push}
 use Rattle.plant_file.specs.declared.console.ListedConsole.{ListedConsole}
@@ -20,3 +21,6 @@ loop-console-preserved c =
       ap (λ (ts : List Tally). consoles_in ts) c.in_ok-push.ensures.items
           ∙ (map-append (λ (t : Tally). t.console) tallies (none ∷ []) ∙ (ap (λ (ns : List ℕ). ns ++ row.number ∷ []) c.loop-console.invariant.1 ∙ sym more)),
     )
+
+pub returns-clause-all : goal.returns-clause-all
+returns-clause-all c = grind (arith, common_steps)

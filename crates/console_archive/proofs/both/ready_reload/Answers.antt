@@ -1,4 +1,5 @@
-use Rattle.std.proofs.Common.{◌≡◌, Ok, refl, sym, ◌∙◌, subst, inr}
+use Rattle.std.proofs.Common.{◌≡◌, Ok, refl, sym, ◌∙◌, subst, inr, arith}
+use Rattle.std.proofs.lemmas.Grind.{common_steps}
 use Rattle.std.specs.Result.{IsOk}
 use Rattle.plant_config.specs.Plants.{PlainPlant}
 use Rattle.engine_history.specs.declared.event.Event.TheVariants as event
@@ -14,3 +15,6 @@ returns-in-Err-clause-err g c =
     let taken : reload_event (state_of c.args.engine.now) c.args.plant ≡ Ok (event.Reload c.in_ok-own.own.plant) = (λ i. reload_event (sym same i) (sym is i)) ∙ made.ok.0.taken.0 in
     let refused = subst (λ (p : PlainPlant). IsReloadRefusal (state_of c.args.book.now) p c.in-Err.fault) (c.plant.ensures ∙ is) c.in-Err.ensures.err in
     (inr (subst IsOk (sym taken) refl, refused), c.into_plant.ensures ∙ is)
+
+pub returns-in-Ok-clause-kept : goal.returns-in-Ok-clause-kept
+returns-in-Ok-clause-kept c = grind (arith, common_steps)

@@ -1,4 +1,5 @@
-use Rattle.std.proofs.Common.{◌≡◌, ℕ, ◌+◌, ◌<◌, Bool, List, length, map, take, get_or, slice_set, ap, sym, ◌∙◌}
+use Rattle.std.proofs.Common.{◌≡◌, ℕ, ◌+◌, ◌<◌, Bool, List, length, map, take, get_or, slice_set, ap, sym, ◌∙◌, arith}
+use Rattle.std.proofs.lemmas.Grind.{common_steps}
 use Rattle.std.proofs.lemmas.List.{map-set}
 use Rattle.std.proofs.lemmas.List.Sums.{fold_more}
 use Rattle.alarm_machine.specs.Alarms.{PlainAlarm}
@@ -26,3 +27,6 @@ loop-number-preserved c =
       conditions = flag_next (λ a. a.condition) _ _ c.condition.result c.loop-number-test.true c.loop-number-item.is c.loop-number.invariant.conditions c.condition.ensures c.put_flag.ensures;
       suppressions = flag_next (λ a. a.suppressed) _ _ c.suppressed.result c.loop-number-test.true c.loop-number-item.is c.loop-number.invariant.suppressions c.suppressed.ensures c.put_flag-in-loop-number.ensures;
     }
+
+pub returns : goal.returns
+returns c = grind (arith, common_steps)

@@ -1,4 +1,5 @@
-use Rattle.std.proofs.Common.{[], ◌∷◌, ◌++◌, refl}
+use Rattle.std.proofs.Common.{[], ◌∷◌, ◌++◌, refl, arith}
+use Rattle.std.proofs.lemmas.Grind.{common_steps}
 use Rattle.engine_history.specs.declared.event.Event.TheVariants as event
 use Rattle.console_archive.proofs.Shown.{has_same, shows_all}
 use Rattle.console_archive.proofs.recorder.RecorderRecording.order.Goals as goal
@@ -24,3 +25,27 @@ returns-clause-refused g c =
           (has_same old.plant new.plant (old.history ++ event.Order own.console own.order ∷ []) new.history c.lay_order.new.board c.show.new.board c.show.ensures.same.0 c.commit_order-reply.ensures.plants.0 c.commit_order-reply.ensures.engine c.in-Ok-lay_order.ensures.laid)
           (c.show.ensures.shown.shown same);
     }
+
+pub invariant_of-self-2-clause-counted : goal.invariant_of-self-2-clause-counted
+invariant_of-self-2-clause-counted c = grind (arith, common_steps)
+
+pub returns-in_default-clause-refused : goal.returns-in_default-clause-refused
+returns-in_default-clause-refused c = grind (arith, common_steps)
+
+pub invariant_of-self-in_default : goal.invariant_of-self-in_default
+invariant_of-self-in_default c = grind (arith, common_steps)
+
+pub returns-in-Err-clause-refused : goal.returns-in-Err-clause-refused
+returns-in-Err-clause-refused c = grind (arith, common_steps)
+
+pub returns-clause-ok : goal.returns-clause-ok
+returns-clause-ok c = grind (arith, common_steps)
+
+pub invariant_of-self : goal.invariant_of-self
+invariant_of-self c = grind (arith, common_steps)
+
+pub returns-clause-plant : goal.returns-clause-plant
+returns-clause-plant c = grind (arith, common_steps)
+
+pub commit_order-reply-requires-clause-kept : goal.commit_order-reply-requires-clause-kept
+commit_order-reply-requires-clause-kept c = grind (arith, common_steps)
