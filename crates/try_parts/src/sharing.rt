@@ -118,6 +118,31 @@ fn push_stepped<H: Threads + Sync>(
     Ok(())
 }
 
+/// The same of a scan: its moment, of how many alarms it is, and how many of them have their condition met, and are suppressed.
+fn push_scanned<H: Threads + Sync>(
+    rt: &H,
+    alloc: Global,
+    page: &mut Page,
+    banks: &mut (Bank, Bank),
+    scan: (u64, u32, u32, u32),
+) -> Result<(), AllocError> {
+    let (moment, count, met, suppressed) = scan;
+    let event = scan_of(alloc, moment, count, met, suppressed)?;
+    push_stepped(rt, alloc, page, banks, &event)
+}
+
+/// The same of an order.
+fn push_ordered<H: Threads + Sync>(
+    rt: &H,
+    alloc: Global,
+    page: &mut Page,
+    banks: &mut (Bank, Bank),
+    order: (u32, Verb),
+) -> Result<(), AllocError> {
+    let (alarm, verb) = order;
+    push_stepped(rt, alloc, page, banks, &BankEvent::Order { alarm, verb })
+}
+
 /// Gives two banks of so many alarms the same events: scans, and orders to alarms.
 fn push_all_stepped<H: Threads + Sync>(
     rt: &H,
@@ -126,17 +151,13 @@ fn push_all_stepped<H: Threads + Sync>(
     banks: &mut (Bank, Bank),
     count: u32,
 ) -> Result<(), AllocError> {
-    let first = scan_of(alloc, 10, count, 3, 0)?;
-    push_stepped(rt, alloc, page, banks, &first)?;
-    for (alarm, verb) in [(0, Verb::Ack), (1, Verb::Ack), (3, Verb::Shelve(5000))] {
-        push_stepped(rt, alloc, page, banks, &BankEvent::Order { alarm, verb })?;
+    push_scanned(rt, alloc, page, banks, (10, count, 3, 0))?;
+    for order in [(0, Verb::Ack), (1, Verb::Ack), (3, Verb::Shelve(5000))] {
+        push_ordered(rt, alloc, page, banks, order)?;
     }
-    let suppressing = scan_of(alloc, 20, count, 3, 2)?;
-    push_stepped(rt, alloc, page, banks, &suppressing)?;
-    let misfit = scan_of(alloc, 30, 3, 1, 1)?;
-    push_stepped(rt, alloc, page, banks, &misfit)?;
-    let last = scan_of(alloc, 5010, count, 0, 0)?;
-    push_stepped(rt, alloc, page, banks, &last)
+    push_scanned(rt, alloc, page, banks, (20, count, 3, 2))?;
+    push_scanned(rt, alloc, page, banks, (30, 3, 1, 1))?;
+    push_scanned(rt, alloc, page, banks, (5010, count, 0, 0))
 }
 
 /// Shows two banks of so many alarms, of which one is stepped by several threads, after each of some events.
