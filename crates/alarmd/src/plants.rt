@@ -1,6 +1,6 @@
 //! Plants, checked and served.
 
-ghost use Rattle.std.specs.Prelude.{◌<◌, ◌≤◌};
+ghost use Rattle.std.specs.Prelude.{◌≡◌, ◌<◌, ◌≤◌, false};
 
 use crate::copies::KeptSources;
 use crate::crews::workers;
@@ -11,8 +11,8 @@ use crate::watching::{Looker, Watching};
 use engine::{Alone, Crew, Done, Job, Start};
 use serve_arguments::Ended;
 use serve_runs::{
-    Disk, Ends, PlantFiles, PlantTexts, Reading, RunEnd, ServeFault, Writing, check_from, run,
-    run_from,
+    Disk, Ends, Feed, Listener, PlantFiles, PlantTexts, Reading, RunEnd, ServeFault, Sink, Writing,
+    check_from, run, run_from,
 };
 use std::alloc::Global;
 use std::io;
@@ -76,7 +76,9 @@ pub fn check<'a, R: Files + Print + Eprint + Threads + AllocGlobal + Sync>(
         path,
     };
     let accepted = check_from(rt, rt.alloc(), &files, &mut telling, &mut sink);
-    checked(rt, &telling, accepted, sink.error())
+    let checked = checked(rt, &telling, accepted, sink.error());
+    drop(telling);
+    checked
 }
 
 /// Who looks on at a terminal, to whom statements are shown from the sources that are kept.
@@ -97,30 +99,82 @@ fn of_served<'a>(kept: &'a KeptSources, first: &'static str, is_terminal: bool) 
     }
 }
 
-/// Serves the plant of a plant file's path over standard input and output, its programs run by the crew. A person is told why it is refused, or one that is
-/// to take its place, and at a terminal, once it is accepted, how to begin.
-fn serve_by<
-    R: Files + Input + Print + Eprint + Threads + Wait + AllocGlobal + Sync,
+/// Runs the example plant to lent ends.
+fn run_example<
+    R: Threads + Wait + AllocGlobal + Sync,
     C: Crew<Job, Start, Done, R>,
->(rt: &R, crew: &mut C, path: &str, is_terminal: bool) -> Ended
-    requires { C.asks }
+    F: Feed,
+    S: Sink,
+    L: Listener,
+>(rt: &R, crew: &mut C, ends: &mut Ends<F, S, L>) -> Result<RunEnd, ServeFault>
+    requires asked { C.asks }
+    requires feed { F.broken ends.old.feed ≡ false }
+    requires sink { S.broken ends.old.sink ≡ false }
 {
-    let kept = KeptSources::new();
-    let looker = looker(rt.alloc(), &kept, is_terminal);
-    let mut ends = Ends {
-        feed: Reading::new(rt.reader()),
-        sink: Watching::new(rt, Writing::new(io::writer(rt)), looker),
-        listener: Telling::new(rt, path, of_served(&kept, "scan 0", is_terminal)),
+    let sources = [(SOURCE_NAME, SOURCE)];
+    let texts = PlantTexts {
+        path: PLANT_NAME,
+        plant: PLANT,
+        sources: &sources,
+        alarms: ALARMS,
+    };
+    run(rt, rt.alloc(), crew, &texts, ends)
+}
+
+/// Runs the plant of a plant file's path to lent ends; the example plant where there is no path.
+fn run_to<
+    R: Files + Threads + Wait + AllocGlobal + Sync,
+    C: Crew<Job, Start, Done, R>,
+    F: Feed,
+    S: Sink,
+    L: Listener,
+>(rt: &R, crew: &mut C, path: Option<&str>, ends: &mut Ends<F, S, L>) -> Result<RunEnd, ServeFault>
+    requires asked { C.asks }
+    requires feed { F.broken ends.old.feed ≡ false }
+    requires sink { S.broken ends.old.sink ≡ false }
+{
+    let Some(path) = path else {
+        return run_example(rt, crew, ends);
     };
     let files = PlantFiles {
         folder: &Disk { files: rt },
         path,
     };
-    let run = run_from(rt, rt.alloc(), crew, &files, &mut ends);
-    if let Ok(RunEnd::Refused) = run {
+    run_from(rt, rt.alloc(), crew, &files, ends)
+}
+
+/// A command that may be the first to the plant of a plant file's path, or to the example plant.
+fn first_command(path: Option<&str>) -> &'static str {
+    match path {
+        Some(_) => "scan 0",
+        None => "scan 0 a=5",
+    }
+}
+
+/// Serves the plant of a plant file's path over standard input and output, its programs run by the crew; the example plant where there is no path. A person is
+/// told why it is refused, or one that is to take its place, and at a terminal, once it is accepted, how to begin. The ends are let go here alone.
+fn serve_by<
+    R: Files + Input + Print + Eprint + Threads + Wait + AllocGlobal + Sync,
+    C: Crew<Job, Start, Done, R>,
+>(rt: &R, crew: &mut C, path: Option<&str>, is_terminal: bool) -> Ended
+    requires { C.asks }
+{
+    let kept = KeptSources::new();
+    let looker = looker(rt.alloc(), &kept, is_terminal);
+    let of_served = of_served(&kept, first_command(path), is_terminal);
+    let mut ends = Ends {
+        feed: Reading::new(rt.reader()),
+        sink: Watching::new(rt, Writing::new(io::writer(rt)), looker),
+        listener: Telling::new(rt, path.unwrap_or(""), of_served),
+    };
+    let run = run_to(rt, crew, path, &mut ends);
+    if path.is_some() && matches!(run, Ok(RunEnd::Refused)) {
         ends.listener.tell(rt);
     }
-    ended(rt, run, ends.feed.error(), ends.sink.to.error())
+    let ended = ended(rt, run, ends.feed.error(), ends.sink.to.error());
+    drop(ends);
+    drop(kept);
+    ended
 }
 
 /// Serves the plant of a plant file's path over standard input and output, its programs run by so many workers. One is the caller alone.
@@ -133,12 +187,12 @@ pub fn serve_files<R: Runtime + Threads + Wait + AllocGlobal + Send + Sync + 'st
     requires { (0 < number) × (number ≤ 64) }
 {
     if number == 1 {
-        return serve_by(rt, &mut Alone, path, is_terminal);
+        return serve_by(rt, &mut Alone, Some(path), is_terminal);
     }
     match workers(rt, rt.alloc(), number) {
         Ok(workers) => {
             let mut crew = workers;
-            let ended = serve_by(rt, &mut crew, path, is_terminal);
+            let ended = serve_by(rt, &mut crew, Some(path), is_terminal);
             crew.close(rt);
             ended
         }
@@ -151,20 +205,5 @@ pub fn serve_example<R: Files + Input + Print + Eprint + Threads + Wait + AllocG
     rt: &R,
     is_terminal: bool,
 ) -> Ended {
-    let sources = [(SOURCE_NAME, SOURCE)];
-    let texts = PlantTexts {
-        path: PLANT_NAME,
-        plant: PLANT,
-        sources: &sources,
-        alarms: ALARMS,
-    };
-    let kept = KeptSources::new();
-    let looker = looker(rt.alloc(), &kept, is_terminal);
-    let mut ends = Ends {
-        feed: Reading::new(rt.reader()),
-        sink: Watching::new(rt, Writing::new(io::writer(rt)), looker),
-        listener: Telling::new(rt, "", of_served(&kept, "scan 0 a=5", is_terminal)),
-    };
-    let run = run(rt, rt.alloc(), &mut Alone, &texts, &mut ends);
-    ended(rt, run, ends.feed.error(), ends.sink.to.error())
+    serve_by(rt, &mut Alone, None, is_terminal)
 }
