@@ -1,7 +1,7 @@
 //! What is wrong in the plant file (C1 to C3), as its reader found it.
 
 use crate::areas::strange_area;
-use crate::broken::broken_at;
+use crate::broken::{Broken, broken_at};
 use crate::epochs::said_of_epoch;
 use base_stamps::Epoch;
 use explain_files::{Keys, Mark, NOBODY, key_of, keys_of, line_of};
@@ -24,6 +24,12 @@ pub const WIDE: &str = "this file is no UTF-8, but looks like UTF-16: save it as
 /// What is said where consoles stand under one header.
 const ONE_CONSOLE: &str =
     "consoles stand below lines [[console]] alone: there is no line [console], and no key 'console' beside them";
+
+/// What is said of a list in the place of one text.
+const ONE_TEXT: &str = "'%' is one text in quotes, and no list in brackets";
+
+/// What is said of areas that stand in quotes together.
+const EACH_AREA: &str = "each area stands in quotes of its own, with commas behind these";
 
 /// What is said of a text that is no TOML document: each line has what the reader of documents says, and behind `| ` how that is told.
 const REASONS: &str = "\
@@ -291,6 +297,21 @@ fn has_no_epoch(keys: &Keys<'_>, plant: &[u8]) -> bool {
     }
 }
 
+/// Whether the header of a console begins at bytes, with nothing before it in its line.
+fn begins_header(text: &[u8], mark: Mark) -> bool {
+    let rest = part(text, mark.0, text.len());
+    let before = part(text, line_of(text, mark.0).0, mark.0);
+    let is_header = rest.starts_with(b"[console]") || rest.starts_with(b"[[console]]");
+    is_header && before.trim_ascii().is_empty()
+}
+
+/// What is told in the place of what the reader says; that itself where nothing is.
+fn reason_of(message: &str) -> &str {
+    let mut reasons = REASONS.lines().filter_map(|line| line.split_once("| "));
+    let reason = reasons.find(|reason| reason.0 == message);
+    reason.map_or(message, |reason| reason.1)
+}
+
 /// A plant file that is refused, and what is told of it.
 #[derive(Drop)]
 struct Document<'t> {
@@ -328,6 +349,24 @@ impl<'t> Document<'t> {
         }
     }
 
+    /// Tells that consoles stand below lines `[[console]]` alone, at a header that is another one. Returns the text above it.
+    fn in_header(&mut self, text: &[u8], mark: Mark) -> Result<Vec<u8>, AllocError> {
+        let keys = keys_of(self.alloc, text)?;
+        let header = lone_header(&keys, text).unwrap_or(mark);
+        self.say(Some(header), ONE_CONSOLE, &[])?;
+        Vec::from_slice(self.alloc, part(text, 0, header.0))
+    }
+
+    /// Tells where a text of the plant file is no TOML document any more, and why, which the reader said.
+    fn in_broken(&mut self, broken: &Broken, message: &str) -> Result<(), AllocError> {
+        let why = match broken.said.as_str() {
+            "" => reason_of(message),
+            said => said,
+        };
+        let said = "here the plant file is no TOML document any more: %";
+        self.say(Some(broken.mark), said, &[why])
+    }
+
     /// Tells where a text of the plant file is no TOML document any more, and why. Returns the text with which it is read on: up to where it is certain, behind
     /// the header of a console or a text or a list that isn't closed, and else without the line there, as far as that is certain.
     fn unread_at(
@@ -336,52 +375,102 @@ impl<'t> Document<'t> {
         mark: Mark,
         message: &str,
     ) -> Result<Option<Vec<u8>>, AllocError> {
-        let rest = part(text, mark.0, text.len());
-        let is_header = rest.starts_with(b"[console]") || rest.starts_with(b"[[console]]");
-        let before = part(text, line_of(text, mark.0).0, mark.0);
-        if is_header && before.trim_ascii().is_empty() && !message.starts_with("missing comma") {
-            let keys = keys_of(self.alloc, text)?;
-            let header = lone_header(&keys, text).unwrap_or(mark);
-            self.say(Some(header), ONE_CONSOLE, &[])?;
-            let above = Vec::from_slice(self.alloc, part(text, 0, header.0))?;
-            return Ok(Some(above));
+        if begins_header(text, mark) && !message.starts_with("missing comma") {
+            return Ok(Some(self.in_header(text, mark)?));
         }
-        let mut reasons = REASONS.lines().filter_map(|line| line.split_once("| "));
-        let reason = reasons.find(|reason| reason.0 == message);
         let broken = broken_at(self.alloc, text, mark, message)?;
-        let mut why = broken.said.as_str();
-        if why.is_empty() {
-            why = reason.map_or(message, |reason| reason.1);
-        }
-        let said = "here the plant file is no TOML document any more: %";
-        self.say(Some(broken.mark), said, &[why])?;
+        self.in_broken(&broken, message)?;
         match broken.until {
             Some(until) => Ok(Some(Vec::from_slice(self.alloc, part(text, 0, until))?)),
             None => without_line(self.alloc, text, mark.0, message),
         }
     }
 
+    /// Tells what is wrong in a text of the plant file. Returns the text with which it is read on, where it is no document.
+    fn text_behind(&mut self, text: &[u8]) -> Result<Option<Vec<u8>>, AllocError> {
+        match read(self.alloc, text) {
+            Ok(file) => {
+                drop(file);
+                self.in_keys_of(text, &[])?;
+                Ok(None)
+            }
+            Err(PlantFileFault::Memory) => Err(AllocError),
+            Err(PlantFileFault::Wrong(mistakes)) => {
+                self.in_keys_of(text, mistakes.as_slice())?;
+                Ok(None)
+            }
+            Err(PlantFileFault::NotToml(unread)) => {
+                self.unread_at(text, unread.bytes(), unread.message().unwrap_or(""))
+            }
+        }
+    }
+
     /// Tells what is wrong in the text of the plant file, in which what was told stands no more.
     fn in_text_of(&mut self, mut text: Vec<u8>) -> Result<(), AllocError> {
         for _ in 0..MOST_LINES {
-            let unread = match read(self.alloc, text.as_slice()) {
-                Ok(file) => {
-                    drop(file);
-                    return self.in_keys_of(text.as_slice(), &[]);
-                }
-                Err(PlantFileFault::Memory) => return Err(AllocError),
-                Err(PlantFileFault::Wrong(mistakes)) => {
-                    return self.in_keys_of(text.as_slice(), mistakes.as_slice());
-                }
-                Err(PlantFileFault::NotToml(unread)) => unread,
-            };
-            let (mark, reason) = (unread.bytes(), unread.message().unwrap_or(""));
-            match self.unread_at(text.as_slice(), mark, reason)? {
+            match self.text_behind(text.as_slice())? {
                 Some(rest) => text = rest,
                 None => return Ok(()),
             }
         }
         Ok(())
+    }
+
+    /// Tells of an area of a console that the plant hasn't.
+    fn in_strange_area(
+        &mut self,
+        mark: Option<Mark>,
+        plant: &[u8],
+        wrong: &Mistake,
+    ) -> Result<(), AllocError> {
+        let said = strange_area(self.alloc, plant, wrong.text.as_str())?;
+        self.say(mark, "%", &[said.as_str()])
+    }
+
+    /// How long a text may be.
+    fn said_of_length(&self, wrong: &Mistake, most: usize) -> Result<String, AllocError> {
+        let key = wrong.key.as_str();
+        match wrong.item {
+            None => format!(in self.alloc; "'{key}' is a text of 1 to {most} bytes"),
+            Some(_) => format!(in self.alloc; "the name of a file has 1 to {most} bytes"),
+        }
+    }
+
+    /// Tells of a text that is empty or too long.
+    fn in_length(
+        &mut self,
+        mark: Option<Mark>,
+        wrong: &Mistake,
+        (bytes, most): (usize, usize),
+    ) -> Result<(), AllocError> {
+        let said = self.said_of_length(wrong, most)?;
+        let bytes = bytes.to_string(self.alloc)?;
+        let words = [said.as_str(), bytes.as_str()];
+        self.say(mark, "%, and this one has %", &words)
+    }
+
+    /// Tells of a mistake in the text of a plant file, in which these are found, and which isn't told by another one.
+    fn in_wrong_key(
+        &mut self,
+        plant: &[u8],
+        keys: &Keys<'_>,
+        mistakes: &[Mistake],
+        wrong: &Mistake,
+    ) -> Result<(), AllocError> {
+        let (mark, key) = (mark_of(keys, wrong)?, wrong.key.as_str());
+        match wrong.why {
+            Why::UnknownKey => {
+                let text = said_of_unknown(keys, mistakes, wrong);
+                self.say(mark, text, &[key, near_key(wrong)])
+            }
+            Why::NoText if wrong.item.is_none() && is_list(plant, mark) => {
+                self.say(mark, ONE_TEXT, &[key])
+            }
+            Why::NoAreaName if has_comma(plant, mark) => self.say(mark, EACH_AREA, &[]),
+            Why::StrangeArea => self.in_strange_area(mark, plant, wrong),
+            Why::Length { bytes, most } => self.in_length(mark, wrong, (bytes, most)),
+            _ => self.say(mark, said_of(wrong), &[key]),
+        }
     }
 
     /// Tells of a mistake in the text of a plant file, in which these are found.
@@ -392,54 +481,43 @@ impl<'t> Document<'t> {
         mistakes: &[Mistake],
         wrong: &Mistake,
     ) -> Result<(), AllocError> {
-        let alloc = self.alloc;
-        let (mark, key) = (mark_of(keys, wrong)?, wrong.key.as_str());
-        match wrong.why {
-            _ if is_told(keys, mistakes, wrong) => Ok(()),
-            Why::UnknownKey => {
-                let text = said_of_unknown(keys, mistakes, wrong);
-                self.say(mark, text, &[key, near_key(wrong)])
-            }
-            Why::NoText if wrong.item.is_none() && is_list(plant, mark) => {
-                let text = "'%' is one text in quotes, and no list in brackets";
-                self.say(mark, text, &[key])
-            }
-            Why::NoAreaName if has_comma(plant, mark) => {
-                let text = "each area stands in quotes of its own, with commas behind these";
-                self.say(mark, text, &[])
-            }
-            Why::StrangeArea => {
-                let said = strange_area(alloc, plant, wrong.text.as_str())?;
-                self.say(mark, "%", &[said.as_str()])
-            }
-            Why::Length { bytes, most } => {
-                let said = match wrong.item {
-                    None => format!(in alloc; "'{key}' is a text of 1 to {most} bytes")?,
-                    Some(_) => format!(in alloc; "the name of a file has 1 to {most} bytes")?,
-                };
-                let bytes = bytes.to_string(alloc)?;
-                let words = [said.as_str(), bytes.as_str()];
-                self.say(mark, "%, and this one has %", &words)
-            }
-            _ => self.say(mark, said_of(wrong), &[key]),
+        if is_told(keys, mistakes, wrong) {
+            return Ok(());
         }
+        self.in_wrong_key(plant, keys, mistakes, wrong)
+    }
+
+    /// Tells of these mistakes in the text of the plant file, but for those at a key that one of the lines that it hasn't may be; and of the epoch.
+    fn in_each_key(
+        &mut self,
+        plant: &[u8],
+        (keys, lost): (&Keys<'_>, &[LostLine<'_>]),
+        mistakes: &[Mistake],
+    ) -> Result<(), AllocError> {
+        for wrong in mistakes {
+            let key = wrong.key.as_str().as_bytes();
+            if !may_have(lost, key, wrong.why == Why::MissingKey) {
+                self.in_key(plant, keys, mistakes, wrong)?;
+            }
+        }
+        if has_no_epoch(keys, plant) && !may_have(lost, b"epoch", false) {
+            self.no_epoch(plant, keys)?;
+        }
+        Ok(())
+    }
+
+    /// Tells of the mistakes in the text of the plant file, as they are found.
+    fn in_found_keys(&mut self, plant: &[u8], mistakes: &[Mistake]) -> Result<(), AllocError> {
+        let keys = keys_of(self.alloc, plant)?;
+        let lost = lost_lines(self.alloc, self.plant, plant)?;
+        self.in_each_key(plant, (&keys, lost.as_slice()), mistakes)
     }
 
     /// Tells of the mistakes in the text of the plant file, which is whole, or has lines left out: then nothing is told of a key that one of these may be. What
     /// has no place comes first, but behind what was told already.
     fn in_keys_of(&mut self, plant: &[u8], mistakes: &[Mistake]) -> Result<(), AllocError> {
         let placeless = if self.told.is_empty() { 0 } else { usize::MAX };
-        let keys = keys_of(self.alloc, plant)?;
-        let lost = lost_lines(self.alloc, self.plant, plant)?;
-        for wrong in mistakes {
-            let key = wrong.key.as_str().as_bytes();
-            if !may_have(lost.as_slice(), key, wrong.why == Why::MissingKey) {
-                self.in_key(plant, &keys, mistakes, wrong)?;
-            }
-        }
-        if has_no_epoch(&keys, plant) && !may_have(lost.as_slice(), b"epoch", false) {
-            self.no_epoch(plant, &keys)?;
-        }
+        self.in_found_keys(plant, mistakes)?;
         if self.told.is_empty() {
             let text = "the sources that were handed in aren't those that 'sources' lists";
             self.say(None, text, &[])?;
