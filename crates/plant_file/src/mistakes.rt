@@ -252,6 +252,26 @@ fn judge_number(
     }
 }
 
+/// Judges the console of a number, counted from 1, whose areas stand in this list: its own number is none of these, to which it is added.
+fn judge_console(
+    alloc: Global,
+    (console, item): (usize, &Value),
+    areas: Option<&TextSet>,
+    numbers: &mut IndexSet<u32>,
+    found: &mut Mistakes,
+) -> Result<(), AllocError> {
+    let Some(table) = item.as_table() else {
+        return found.add(alloc, Under { console, key: "" }, None, Why::NoConsole);
+    };
+    judge_keys(alloc, table, console, &["number", "areas"], found)?;
+    judge_number(alloc, table, console, numbers, found)?;
+    let under = Under {
+        console,
+        key: "areas",
+    };
+    judge_list(alloc, table, under, Form::Among(areas), found)
+}
+
 /// Judges the consoles, whose areas stand in this list.
 fn judge_consoles(
     alloc: Global,
@@ -263,18 +283,7 @@ fn judge_consoles(
     let mut console = 0usize;
     for item in consoles {
         console = console.saturating_add(1);
-        match item.as_table() {
-            Some(table) => {
-                judge_keys(alloc, table, console, &["number", "areas"], found)?;
-                judge_number(alloc, table, console, &mut numbers, found)?;
-                let under = Under {
-                    console,
-                    key: "areas",
-                };
-                judge_list(alloc, table, under, Form::Among(areas), found)?;
-            }
-            None => found.add(alloc, Under { console, key: "" }, None, Why::NoConsole)?,
-        }
+        judge_console(alloc, (console, item), areas, &mut numbers, found)?;
     }
     Ok(())
 }
