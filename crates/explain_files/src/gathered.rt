@@ -61,21 +61,35 @@ fn lists(listed: &Listed, name: &str) -> bool {
     sources.any(|file| file.name.as_str() == name) || alarms.any(|file| file.name.as_str() == name)
 }
 
-/// The name of a file on a shelf that one may be meant as which isn't there, and that isn't listed; empty where there is none.
-fn meant_by<S: Shelf>(
+/// Whether a file of a name is on a shelf, and isn't listed.
+fn is_there<S: Shelf>(
     alloc: Global,
     (shelf, plant_path): (&S, &str),
     listed: &Listed,
     name: &str,
+) -> Result<bool, AllocError> {
+    if name.is_empty() || lists(listed, name) {
+        return Ok(false);
+    }
+    let path = beside(alloc, plant_path, name)?;
+    match shelf.text(alloc, path.as_str())? {
+        Shelved::Text(text) => {
+            drop(text);
+            Ok(true)
+        }
+        Shelved::Missing | Shelved::Unread => Ok(false),
+    }
+}
+
+/// The name of a file on a shelf that one may be meant as which isn't there, and that isn't listed; empty where there is none.
+fn meant_by<S: Shelf>(
+    alloc: Global,
+    place: (&S, &str),
+    listed: &Listed,
+    name: &str,
 ) -> Result<String, AllocError> {
     for near in names_near(alloc, name)? {
-        let path = beside(alloc, plant_path, near.as_str())?;
-        let is_new = !near.as_str().is_empty() && !lists(listed, near.as_str());
-        if !is_new {
-            continue;
-        }
-        if let Shelved::Text(text) = shelf.text(alloc, path.as_str())? {
-            drop(text);
+        if is_there(alloc, place, listed, near.as_str())? {
             return Ok(near);
         }
     }
@@ -134,6 +148,36 @@ impl Gathered {
         Ok(())
     }
 
+    /// Notes of each file that is missing which other one may be meant.
+    fn add_meant<S: Shelf>(
+        &mut self,
+        alloc: Global,
+        place: (&S, &str),
+        listed: &Listed,
+    ) -> Result<(), AllocError> {
+        for missing in self.missing.as_mut_slice() {
+            missing.meant = meant_by(alloc, place, listed, missing.name.as_str())?;
+        }
+        Ok(())
+    }
+
+    /// Reads the files that are listed, from a shelf, beside the path of the plant file.
+    fn add_listed<S: Shelf>(
+        &mut self,
+        alloc: Global,
+        place: (&S, &str),
+        listed: &Listed,
+    ) -> Result<(), AllocError> {
+        self.add_sources(alloc, place, listed.sources.as_slice())?;
+        if !listed.is_list {
+            self.missing.clear();
+        }
+        if let Some(file) = &listed.alarms {
+            self.alarms = self.text_of(alloc, place, file)?;
+        }
+        self.add_meant(alloc, place, listed)
+    }
+
     /// Reads the files that the text of a plant file lists, from a shelf, beside the path of the plant file.
     pub fn of<S: Shelf>(
         alloc: Global,
@@ -148,16 +192,7 @@ impl Gathered {
             missing: Vec::new(alloc),
             is_document: listed.is_document,
         };
-        gathered.add_sources(alloc, place, listed.sources.as_slice())?;
-        if !listed.is_list {
-            gathered.missing.clear();
-        }
-        if let Some(file) = &listed.alarms {
-            gathered.alarms = gathered.text_of(alloc, place, file)?;
-        }
-        for missing in gathered.missing.as_mut_slice() {
-            missing.meant = meant_by(alloc, place, &listed, missing.name.as_str())?;
-        }
+        gathered.add_listed(alloc, place, &listed)?;
         Ok(gathered)
     }
 

@@ -50,6 +50,17 @@ fn behind_value(alloc: Global, text: &str) -> Result<&str, AllocError> {
     }
 }
 
+/// What stands behind the dotted key with which a text begins.
+fn behind_key(alloc: Global, text: &str) -> Result<&str, ParseError> {
+    Ok(dotted_key(alloc, text)?.1)
+}
+
+/// What stands behind the item of a list with which a text begins, and the comma behind it.
+fn behind_item(alloc: Global, text: &str) -> Result<&str, AllocError> {
+    let behind = skip_blank(behind_value(alloc, skip_blank(text, true))?, true);
+    Ok(behind.strip_prefix(",").unwrap_or(behind))
+}
+
 impl<'t> Keys<'t> {
     /// The bytes from the beginning of one rest of the text to that of another.
     fn between(&self, from: &str, until: &str) -> Mark {
@@ -74,21 +85,26 @@ impl<'t> Keys<'t> {
         Ok(())
     }
 
-    /// Takes a key with its value, and returns what stands behind them.
-    fn take_pair(&mut self, text: &'t str) -> Result<&'t str, ParseError> {
-        let sign = dotted_key(self.alloc, text)?.1;
-        let value = skip_ws(sign.get(1..).unwrap_or(""));
-        let behind = behind_value(self.alloc, value)?;
+    /// Adds a key with which a text begins, and its value, which stands between the beginnings of two others.
+    fn add_pair(&mut self, text: &'t str, (value, behind): (&str, &str)) -> Result<(), AllocError> {
         let (owner, key) = (self.current, self.word(text)?.0);
         let value = self.between(value, behind);
-        self.add(owner, key, value)?;
+        self.add(owner, key, value)
+    }
+
+    /// Takes a key with its value, and returns what stands behind them.
+    fn take_pair(&mut self, text: &'t str) -> Result<&'t str, ParseError> {
+        let sign = behind_key(self.alloc, text)?;
+        let value = skip_ws(sign.get(1..).unwrap_or(""));
+        let behind = behind_value(self.alloc, value)?;
+        self.add_pair(text, (value, behind))?;
         Ok(behind)
     }
 
     /// Takes a header, and returns what stands behind it.
     fn take_header(&mut self, text: &'t str) -> Result<&'t str, ParseError> {
         let words = skip_ws(text.trim_start_matches('['));
-        let behind = dotted_key(self.alloc, words)?.1.trim_start_matches(']');
+        let behind = behind_key(self.alloc, words)?.trim_start_matches(']');
         let header = self.between(text, behind);
         let (first, rest) = self.word(words)?;
         let second = skip_ws(rest).strip_prefix(".");
@@ -132,8 +148,7 @@ impl<'t> Keys<'t> {
         let first = entry.value.0.saturating_add(1);
         let mut rest = self.text.get(first..).unwrap_or("");
         for _ in 0..number {
-            let behind = skip_blank(behind_value(self.alloc, skip_blank(rest, true))?, true);
-            rest = behind.strip_prefix(",").unwrap_or(behind);
+            rest = behind_item(self.alloc, rest)?;
         }
         let item = skip_blank(rest, true);
         Ok(Some(self.between(item, behind_value(self.alloc, item)?)))

@@ -60,25 +60,41 @@ fn add_slips(alloc: Global, name: &str, names: &mut Vec<String>) -> Result<(), A
     Ok(())
 }
 
-/// Names that a name may be meant as: without blanks beside it, in small letters, with an ending, or with an 's' more or less before its ending; without its
-/// folder, with two letters changed about, or without one of them.
-pub fn names_near(alloc: Global, name: &str) -> Result<Vec<String>, AllocError> {
-    let bare = name.trim();
-    let mut names = Vec::new(alloc);
+/// Adds a name with an 's' more before its ending, and with one less where it has one there.
+fn add_plurals(
+    alloc: Global,
+    (stem, ending): (&str, &str),
+    names: &mut Vec<String>,
+) -> Result<(), AllocError> {
+    names.push(format!(in alloc; "{stem}s.{ending}")?)?;
+    if let Some(shorter) = stem.strip_suffix("s") {
+        names.push(format!(in alloc; "{shorter}.{ending}")?)?;
+    }
+    Ok(())
+}
+
+/// Adds a name with each ending.
+fn add_endings(alloc: Global, bare: &str, names: &mut Vec<String>) -> Result<(), AllocError> {
+    names.push(format!(in alloc; "{bare}.st")?)?;
+    names.push(format!(in alloc; "{bare}.csv")?)?;
+    Ok(())
+}
+
+/// Adds the names that a name without blanks beside it may be meant as.
+fn add_near(alloc: Global, bare: &str, names: &mut Vec<String>) -> Result<(), AllocError> {
     names.push(String::from_str(alloc, bare)?)?;
     names.push(small(alloc, bare)?)?;
     match bare.split_once(".") {
-        Some((stem, ending)) => {
-            names.push(format!(in alloc; "{stem}s.{ending}")?)?;
-            if let Some(shorter) = stem.strip_suffix("s") {
-                names.push(format!(in alloc; "{shorter}.{ending}")?)?;
-            }
-        }
-        None => {
-            names.push(format!(in alloc; "{bare}.st")?)?;
-            names.push(format!(in alloc; "{bare}.csv")?)?;
-        }
+        Some(parts) => add_plurals(alloc, parts, names)?,
+        None => add_endings(alloc, bare, names)?,
     }
-    add_slips(alloc, bare, &mut names)?;
+    add_slips(alloc, bare, names)
+}
+
+/// Names that a name may be meant as: without blanks beside it, in small letters, with an ending, or with an 's' more or less before its ending; without its
+/// folder, with two letters changed about, or without one of them.
+pub fn names_near(alloc: Global, name: &str) -> Result<Vec<String>, AllocError> {
+    let mut names = Vec::new(alloc);
+    add_near(alloc, name.trim(), &mut names)?;
     Ok(names)
 }
