@@ -268,16 +268,6 @@ impl Delays {
         }
     }
 
-    /// Puts in the place of each condition that a scan leaves whether it counts.
-    pub fn which_count(&self, conditions: &mut [bool], moment: u64)
-        requires { length conditions.old ≡ length self.now.delays }
-        ensures { conditions.new ≡ delayed_each conditions.old moment self.now.delays self.now.since }
-    {
-        for at in 0..self.delays.len() {
-            conditions[at] = self.counts(at, conditions[at], moment);
-        }
-    }
-
     /// Takes the last conditions of alarms, by their numbers, in the scan of the last moment, where no alarm has a delay.
     fn take_moved(&mut self, moved: &[(u32, Alarm)])
         requires { have_none self.old.delays ≡ true }

@@ -21,4 +21,3 @@ mod Typed
 mod Shown
 mod Initials
 pub mod Known
-mod Copied

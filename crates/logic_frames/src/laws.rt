@@ -24,11 +24,10 @@ ghost use Rattle.logic_source.specs.Worlds.{World, run_program, globals_routine,
 ghost use Rattle.logic_cells.specs.Cells.{PlainCells};
 ghost use Rattle.logic_walk.specs.declared.frame.Frame.{Frame};
 ghost use Rattle.logic_walk.specs.Frames.{frame_paths};
-ghost use Rattle.logic_walk.specs.Plain.{view_frame};
 ghost use Rattle.logic_walk.specs.Standards.{frame_standards};
 ghost use Rattle.logic_walk.specs.Walks.{run_frame};
 ghost use Rattle.logic_frames.specs.Numbers.{variable_number, instance_number, KnowsNames, HasAllNames};
-ghost use Rattle.logic_frames.specs.Frames.{IsFrame, IsFrames, IsStart, program_base};
+ghost use Rattle.logic_frames.specs.Frames.{IsFrame, IsFrames, program_base};
 ghost use Rattle.logic_frames.specs.Stands.{standard_of, StandFor};
 ghost use Rattle.logic_frames.specs.Opening.{opening_cells};
 
@@ -109,14 +108,4 @@ pub fn frames_have_standards()
         → frame_standards frames (length frames) (length order + n)
         ≡ map (λ (c : ClockAt). standard_of c.of)
         (clocks_rule (routine_clocks source.blocks) p (folded p.name ∷ [])) }
-{}
-
-/// Copies of a source's frames are its frames, and so is a copy of the frame of the globals' initial values.
-pub fn copied_frames_are_frames()
-    ensures frames { (source : Source) (order : List ℕ) (frames copies : List Frame)
-        → map view_frame copies ≡ map view_frame frames → IsFrames source order frames
-        → IsFrames source order copies }
-    ensures start { (source : Source) (start : Frame) (copies : List Frame)
-        → map view_frame copies ≡ view_frame start ∷ [] → IsStart source start
-        → (copy : Frame) × (copies ≡ copy ∷ []) × IsStart source copy }
 {}

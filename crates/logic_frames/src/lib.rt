@@ -22,7 +22,6 @@ mod scope;
 
 pub use frames::{frames_of, start_of};
 pub use laws::{
-    copied_frames_are_frames, fitting_names_are_known, frames_agree, frames_begin,
-    frames_have_paths, frames_have_standards, instances_have_numbers, typed_names_are_known,
-    variables_have_numbers,
+    fitting_names_are_known, frames_agree, frames_begin, frames_have_paths, frames_have_standards,
+    instances_have_numbers, typed_names_are_known, variables_have_numbers,
 };

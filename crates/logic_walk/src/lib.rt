@@ -28,7 +28,7 @@ mod starts;
 mod walk;
 mod walker;
 
-pub use copy::{copy_frames, copy_seats};
+pub use copy::copy_seats;
 pub use frame::{Base, Frame, Seat, SeatOf};
 pub use laws::{frame_runs_its_body, seats_lie_apart};
 pub use paths::push_path;
