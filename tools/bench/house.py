@@ -2,7 +2,7 @@
 """Makes a large house for the control room, and a day of it.
 
     python3 tools/bench/house.py FOLDER [--consoles N] [--alarms N] [--scans N] [--changes N] [--turns N]
-    cd FOLDER && time /path/to/crates/try_room/out/try_room < stdin
+    cd FOLDER && time /path/to/crates/try_plants/out/try_plants < stdin
 
 FOLDER gets the plant (house/) and the script (stdin). Each console has an area of its own, and each alarm a condition of its own; in each scan --changes alarms, chosen at
 random but the same each time, come up, and those of the scan before return. Each of its four programs has a FOR of so many --turns: a crew keeps rounds that cost less than
@@ -49,6 +49,11 @@ def day(alarms, scans, changes):
     yield " ".join([f"scan {(scans + 1) * 1000}"] + [f"c{n}=0" for n in sorted(up)])
 
 
+def room(lines):
+    """The input of try_plants for a control room with this script."""
+    return "\n== room\n" + "".join(line + "\n" for line in lines)
+
+
 def main():
     reads = argparse.ArgumentParser(description="Makes a large house for the control room, and a day of it.")
     reads.add_argument("folder")
@@ -59,7 +64,7 @@ def main():
     reads.add_argument("--turns", type=int, default=200, help="how many turns each program's FOR has (200)")
     options = reads.parse_args()
     plant(os.path.join(options.folder, "house"), options.consoles, options.alarms, options.turns)
-    write(options.folder, "stdin", "".join(line + "\n" for line in day(options.alarms, options.scans, options.changes)))
+    write(options.folder, "stdin", room(day(options.alarms, options.scans, options.changes)))
 
 
 if __name__ == "__main__":

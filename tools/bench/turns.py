@@ -12,7 +12,7 @@ there. What a gate has proved on this machine it takes from there: the program i
 | allocations | what such a turn allocates: twice as many turns less so many, divided (tools/allocations/count.c stands before malloc; needs gcc) |
 | looks | looks at the board by a console in a thread of its own, beside an owner who turns without pause: the call, with the states of its area until the view is let go, the clock alone, and the owner's turns (least, median, 99th percentile, most) |
 | parts | instructions of a turn and of its parts, as valgrind counts them: 40 turns less 20, divided |
-| room | the control room on the house of 20,000 alarms, with `--workers` workers (4), of which the owner is one: for this its const is changed in the clone |
+| room | the control room on the house of 20,000 alarms, with `--workers` workers (4), of which the owner is one: for this its const is changed in the clone, and try_plants is built |
 
 Times are in microseconds. `--ahead` runs the program ahead of all else (`chrt -f 10`): no run is longer than some seconds. It needs Python 3.9 or later.
 """
@@ -190,11 +190,11 @@ class Bench:
         for loops in (200, 2000):
             place = f"{self.folder}/room_{loops}"
             house.plant(f"{place}/house", 4, ALARMS, loops)
-            house.write(place, "stdin", "".join(line + "\n" for line in house.day(ALARMS, 2000, 200)))
+            house.write(place, "stdin", house.room(house.day(ALARMS, 2000, 200)))
             for _ in range(self.options.repeat):
                 with open(f"{place}/stdin") as given:
                     began = time.monotonic()
-                    ran = subprocess.run([*self.ahead, self.programs["try_room"]], cwd=place, stdin=given, stdout=subprocess.PIPE, text=True)
+                    ran = subprocess.run([*self.ahead, self.programs["try_plants"]], cwd=place, stdin=given, stdout=subprocess.PIPE, text=True)
                     took = time.monotonic() - began
                 orders = int(re.search(r"AND (\d+) ORDERS", ran.stdout)[1])
                 lost = re.findall(r".*(?:LEFT [1-9]|APART [1-9]|ANSWERED ORDER [1-9]|FALSE).*", ran.stdout)
@@ -220,9 +220,9 @@ def main():
     install(options.clone)
     names = ["turns"]
     if "room" in kinds:
-        names.append("try_room")
-        source = f"{options.clone}/crates/try_room/src/main.rt"
-        house.write(options.clone, "crates/try_room/src/main.rt", re.sub(r"const WORKERS: u32 = \d+;", f"const WORKERS: u32 = {options.workers};", read(source)))
+        names.append("try_plants")
+        source = "crates/try_room/src/lib.rt"
+        house.write(options.clone, source, re.sub(r"const WORKERS: u32 = \d+;", f"const WORKERS: u32 = {options.workers};", read(f"{options.clone}/{source}")))
     bench.programs = dict(zip(names, build(options.clone, names)))
     try:
         for kind in kinds:

@@ -1,7 +1,7 @@
 #!/usr/bin/env python3
 """Refuses a built program each growth of its memory in turn, and looks at what comes of it.
 
-    python3 tools/refusals/refusals.py crates/try_room/out/try_room --crate crates/try_room --table stations
+    python3 tools/refusals/refusals.py crates/try_plants/out/try_plants --crate crates/try_plants --table stations
     python3 tools/refusals/refusals.py crates/alarmd/out/alarmd --examples examples
 
 A program of rows is run on its stored input (`--crate`), or on one table of it: each run has to write the same as without, or to end with status 1 and write nothing. The server is run on the

@@ -1,7 +1,7 @@
 #!/usr/bin/env python3
 """Stations on random schedules, held against a model of the rules (rings.py).
 
-    python3 tools/simulate/stations.py crates/try_room/out/try_room --stations 1000
+    python3 tools/simulate/stations.py crates/try_plants/out/try_plants --stations 1000
 
 Each seed makes a random plant and the rows of a station: turns, scans right and refused, orders of all verbs right and wrong, rings that are filled, answers that are taken late or
 never, looks at boards, pages of the archive, workers who are gone after some rounds, and an end with orders left. The built row program plays them, and each line has to be the model's. Beside that the orders and answers are counted by the output

@@ -44,7 +44,9 @@
 //! a line such as `2 WORKERS DIFFER` and their answer follow. The last line of these answers in the file `stdout` says that they never do.
 //!
 //! Behind a line `== parts` the file has rows on what the parts below the server answer (try_parts), and behind a line `== language` those on texts and their
-//! trees, on the sources of plants, and on what a person is told of plants (try_language). Each are answered behind such a line.
+//! trees, on the sources of plants, and on what a person is told of plants (try_language). Behind `== room` stands the script of a control room (try_room), whose
+//! consoles are in threads of their own; behind `== stations` are rows on stations with consoles in one thread (try_stations), and behind `== crews` those on who
+//! runs the programs of a scan (try_room). Each are answered behind such a line.
 //!
 //! Texts are spelled as the crate try_text says. Each run of commands, up to a word of the table, is an input of its own: where its
 //! last line ends in a backslash, the input ends without a line feed. Where memory is refused a row is answered once more.
@@ -66,15 +68,19 @@ mod shown;
 mod steps;
 mod table;
 
+ghost use Rattle.std.specs.Thread.{IsSync};
+
 use crews::Crews;
 use examples::push_examples_by_all;
 use std::alloc::{AllocError, Global};
 use std::io;
 use std::io::Write;
-use std::rt::Files;
+use std::rt::{Files, Runtime};
 use std::sync::Wait;
 use std::thread::Threads;
 use table::push_answers_to;
+use try_room::push_rows;
+use try_stations::push_stations;
 use try_text::Page;
 
 /// Adds what a table is answered, and a last line where all crews answer alike. The crews are let go here alone.
@@ -103,33 +109,86 @@ fn push_made(page: &mut Page, title: &str, made: Result<Vec<u8>, AllocError>) {
     }
 }
 
-/// Adds the answers to the rows on parts and on the language, as far as there are any.
-fn push_others<R: Threads + Sync>(rt: &R, alloc: Global, page: &mut Page, rows: (&str, &str)) {
-    if !rows.0.is_empty() {
-        push_made(page, "== parts", try_parts::answers_to(rt, alloc, rows.0));
-    }
-    if !rows.1.is_empty() {
-        push_made(
-            page,
-            "== language",
-            try_language::answers_to(rt, alloc, rows.1),
-        );
+/// The tables of an input: the rows on plants, and behind them, where there are any, the others, each behind a line with its name.
+#[derive(Clone, Copy, Drop)]
+struct Tables<'a> {
+    plants: &'a str,
+    parts: &'a str,
+    language: &'a str,
+    room: &'a str,
+    stations: &'a str,
+    crews: &'a str,
+}
+
+/// What stands before a line and behind it; all of it, and nothing, where there is no such line.
+fn parted<'a>(table: &'a str, line: &str) -> (&'a str, &'a str) {
+    table.split_once(line).unwrap_or((table, ""))
+}
+
+/// The tables of an input.
+fn tables_of(input: &str) -> Tables<'_> {
+    let (rest, crews) = parted(input, "\n== crews\n");
+    let (rest, stations) = parted(rest, "\n== stations\n");
+    let (rest, room) = parted(rest, "\n== room\n");
+    let (rest, language) = parted(rest, "\n== language\n");
+    let (plants, parts) = parted(rest, "\n== parts\n");
+    Tables {
+        plants,
+        parts,
+        language,
+        room,
+        stations,
+        crews,
     }
 }
 
-/// The rows on plants, and behind them those on parts and those on the language.
-fn parted(table: &str) -> (&str, (&str, &str)) {
-    let (rest, language) = table.split_once("\n== language\n").unwrap_or((table, ""));
-    let (plants, parts) = rest.split_once("\n== parts\n").unwrap_or((rest, ""));
-    (plants, (parts, language))
+/// Adds the answers to the rows on parts and on the language, as far as there are any.
+fn push_others<R: Threads + Sync>(rt: &R, alloc: Global, page: &mut Page, tables: Tables<'_>) {
+    if !tables.parts.is_empty() {
+        let made = try_parts::answers_to(rt, alloc, tables.parts);
+        push_made(page, "== parts", made);
+    }
+    if !tables.language.is_empty() {
+        let made = try_language::answers_to(rt, alloc, tables.language);
+        push_made(page, "== language", made);
+    }
+}
+
+/// Adds what there is to tell of a control room, of stations and of crews, as far as there are any.
+fn push_stations_and_crews<R: Runtime + Threads + Wait + AllocGlobal + Send + Sync + 'static>(
+    rt: &R,
+    alloc: Global,
+    page: &mut Page,
+    tables: Tables<'_>,
+)
+    requires { IsSync R.row }
+{
+    if !tables.room.is_empty() {
+        push_made(
+            page,
+            "== room",
+            try_room::answers_to(rt, alloc, tables.room),
+        );
+    }
+    if !tables.stations.is_empty() {
+        page.line("== stations");
+        push_stations(rt, alloc, page, tables.stations);
+    }
+    if !tables.crews.is_empty() {
+        page.line("== crews");
+        push_rows(rt, alloc, page, tables.crews);
+    }
 }
 
 fn main(rt: HostRuntime) -> io::Result<()> {
-    let table = io::read_to_string(rt.alloc(), rt.reader())?;
-    let (plants, others) = parted(table.as_str());
+    let input = io::read_to_string(rt.alloc(), rt.reader())?;
+    let tables = tables_of(input.as_str());
     let mut page = Page::new(rt.alloc());
-    push_all(&rt, rt.alloc(), &mut page, plants);
-    push_others(&rt, rt.alloc(), &mut page, others);
+    if !tables.plants.is_empty() {
+        push_all(&rt, rt.alloc(), &mut page, tables.plants);
+    }
+    push_others(&rt, rt.alloc(), &mut page, tables);
+    push_stations_and_crews(&rt, rt.alloc(), &mut page, tables);
     let text = page.end()?;
     io::writer(&rt).write_all(text.as_slice())?;
     Ok(())

@@ -1,7 +1,7 @@
 //! What a shift has beside the station: its script, what owner and consoles tell each other, the owner's events, and the text of the report.
 
 use crate::events::Events;
-use std::alloc::Global;
+use std::alloc::{AllocError, Global};
 use std::sync::Arc;
 use try_desks::Watch;
 use try_text::Page;
@@ -24,5 +24,10 @@ impl Shift {
             events: Events::new(alloc),
             page: Page::new(alloc),
         }
+    }
+    /// What there is to tell of the shift, which ends. Fails where memory was refused for a part of it.
+    pub fn told(self) -> Result<Vec<u8>, AllocError> {
+        let Shift { page, .. } = self;
+        page.end()
     }
 }

@@ -1,6 +1,6 @@
 //! Station rows: stations with consoles in one thread, and what they do.
 //!
-//! try_room reads the table, which stands in its file `stdin` behind a line `== stations`, and writes what the stations do. Rows are bytes, so more of them
+//! try_plants reads the table, which stands in its file `stdin` behind a line `== stations`, and writes what the stations do. Rows are bytes, so more of them
 //! cost no proof. Nothing here is part of the server.
 //!
 //! A line `station NAME` begins a station. Its plant is the one that is built in (in `src/plants.rt`), which has two consoles; or, where the lines after
