@@ -1,9 +1,6 @@
 //! The store of a plant's cells after the plant was changed while it runs.
 //!
 //! The server makes the store of a level's jobs anew in each scan, so none stands where a reload comes. This is for hosts that keep one from scan to scan.
-//!
-//! Layer level_: it must not know alarms, files or events.
-#![tactic(auto)]
 
 ghost use Rattle.std.specs.Prelude.{◌≡◌, [], false, length, replicate, IfOk};
 ghost use Rattle.logic_source.specs.Worlds.{World};
