@@ -2,7 +2,7 @@
 
 use crate::telling::Refused;
 use explain_bodies::{BrokenRule, Mistake};
-use explain_files::{Listed, files_listed, keys_of};
+use explain_files::{Listed, ListedFile, files_listed, keys_of};
 use explain_rows::is_table;
 use explain_tokens::{Cause, FileOf, part};
 use plant_folder::PlantTexts;
@@ -107,58 +107,82 @@ impl<'t> Refused<'t> {
         looked_at < listed
     }
 
+    /// What is said of a source that is none.
+    fn said_of(&self, files: &Listed, (name, text): (&str, &[u8])) -> Result<String, AllocError> {
+        let mut alarms = files.alarms.iter();
+        let what = if text == self.plant {
+            "the plant file itself"
+        } else if alarms.any(|file| file.name.as_str() == name) {
+            "the table of alarms (key 'alarms')"
+        } else {
+            "a table of alarms"
+        };
+        format!(in self.alloc; "'{name}' is {what}, and no source")
+    }
+
+    /// Tells of a source that is none, where the plant file lists it.
+    fn in_no_source(&mut self, files: &Listed, source: (&str, &[u8])) -> Result<(), AllocError> {
+        let said = self.said_of(files, source)?;
+        let mut sources = files.sources.iter();
+        let file = sources.find(|file| file.name.as_str() == source.0);
+        let (mark, page) = (file.map(|file| file.mark), PAGE);
+        self.tell(FileOf::Plant, Cause { mark, said, page })
+    }
+
+    /// Tells of each of these sources that is a table of alarms.
+    fn in_no_sources(
+        &mut self,
+        files: &Listed,
+        listed: &[(&str, &[u8])],
+    ) -> Result<(), AllocError> {
+        for (number, source) in listed.iter().enumerate() {
+            if self.is_misplaced(FileOf::Source(number)) {
+                self.in_no_source(files, *source)?;
+            }
+        }
+        Ok(())
+    }
+
     /// Tells of each source that is a table of alarms.
     pub fn in_misplaced(&mut self) -> Result<(), AllocError> {
         let (files, listed) = (files_listed(self.alloc, self.plant)?, self.listed);
-        for (number, source) in listed.iter().enumerate() {
-            if !self.is_misplaced(FileOf::Source(number)) {
-                continue;
-            }
-            let name = source.0;
-            let mut alarms = files.alarms.iter();
-            let is_named = alarms.any(|file| file.name.as_str() == name);
-            let said = if source.1 == self.plant {
-                format!(in self.alloc; "'{name}' is the plant file itself, and no source")?
-            } else if is_named {
-                format!(in self.alloc;
-                    "'{name}' is the table of alarms (key 'alarms'), and no source"
-                )?
-            } else {
-                format!(in self.alloc; "'{name}' is a table of alarms, and no source")?
-            };
-            let mut sources = files.sources.iter();
-            let file = sources.find(|file| file.name.as_str() == name);
-            let (mark, page) = (file.map(|file| file.mark), PAGE);
-            self.tell(FileOf::Plant, Cause { mark, said, page })?;
+        let told = self.in_no_sources(&files, listed);
+        drop(files);
+        told
+    }
+
+    /// Tells where what the plant file lists as the table of alarms is a source, or the plant file itself; returns whether it is.
+    fn in_table_listed(&mut self, files: &Listed, alarms: &ListedFile) -> Result<bool, AllocError> {
+        let name = alarms.name.as_str();
+        let mut sources = files.sources.iter();
+        let is_source = sources.any(|file| file.name.as_str() == name);
+        let is_plant = self.alarms == self.plant;
+        let is_none = is_no_source(files, self.plant, (name, self.alarms));
+        if !is_plant && (is_source && is_none || !is_source && !begins_source(self.alarms)) {
+            return Ok(false);
         }
-        Ok(())
+        let what = if is_plant {
+            "the plant file itself, and"
+        } else if is_source {
+            "listed as a source, and is"
+        } else {
+            "a source, and"
+        };
+        let said = format!(in self.alloc; "'{name}' is {what} no table of alarms")?;
+        let (mark, page) = (Some(alarms.mark), PAGE);
+        self.tell(FileOf::Plant, Cause { mark, said, page })?;
+        Ok(true)
     }
 
     /// Tells where the plant file names one of its sources as the table of alarms; returns whether it does.
     pub fn in_named_source(&mut self) -> Result<bool, AllocError> {
         let files = files_listed(self.alloc, self.plant)?;
-        let Some(alarms) = &files.alarms else {
-            return Ok(false);
+        let told = match &files.alarms {
+            Some(alarms) => self.in_table_listed(&files, alarms),
+            None => Ok(false),
         };
-        let name = alarms.name.as_str();
-        let mut sources = files.sources.iter();
-        let is_source = sources.any(|file| file.name.as_str() == name);
-        let is_begun = begins_source(self.alarms);
-        let is_plant = self.alarms == self.plant;
-        let is_none = is_no_source(&files, self.plant, (name, self.alarms));
-        if !is_plant && (is_source && is_none || !is_source && !is_begun) {
-            return Ok(false);
-        }
-        let said = if is_plant {
-            format!(in self.alloc; "'{name}' is the plant file itself, and no table of alarms")?
-        } else if is_source {
-            format!(in self.alloc; "'{name}' is listed as a source, and is no table of alarms")?
-        } else {
-            format!(in self.alloc; "'{name}' is a source, and no table of alarms")?
-        };
-        let (mark, page) = (Some(alarms.mark), PAGE);
-        self.tell(FileOf::Plant, Cause { mark, said, page })?;
-        Ok(true)
+        drop(files);
+        told
     }
 
     /// Tells that no source has globals, or none has blocks, at the list of sources, with the first name of what is missing.

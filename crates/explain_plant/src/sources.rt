@@ -105,7 +105,7 @@ impl<'t> Refused<'t> {
         Ok(())
     }
 
-    /// Tells what is wrong in the spelling and the grammar of the sources, as `in_all_sources` does, and what of them can be read; returns whether anything is.
+    /// Tells what is wrong in the spelling and the grammar of the sources, as `in_all_sources` does, and what of them can be read; returns whether anything is wrong.
     fn in_spelling(
         &mut self,
         first: Option<(FileOf, Option<Mark>)>,

@@ -43,12 +43,20 @@ impl<'t> Refused<'t> {
         Ok(())
     }
 
-    /// Tells what is wrong in the plant file.
-    fn in_document(&mut self, causes: Vec<Cause>) -> Result<(), AllocError> {
-        for cause in causes {
-            self.tell(FileOf::Plant, cause)?;
-        }
-        Ok(())
+    /// Tells of a file that can't be read.
+    fn in_missing(&mut self, missing: &MissingFile) -> Result<(), AllocError> {
+        let has_control = missing.name.chars().any(|c| c.is_control());
+        let more = if has_control {
+            "; in double quotes '\\' begins a sign of its own, and a path is written with '/'"
+        } else {
+            ""
+        };
+        let path = missing.path.as_str();
+        let other = meant(self.alloc, missing)?;
+        let other = other.as_str();
+        let said = format!(in self.alloc; "this file can't be read: {path}{more}{other}")?;
+        let (mark, page) = (Some(missing.mark), "docs/PLANT.md, \"Reading the files\"");
+        self.tell(FileOf::Plant, Cause { mark, said, page })
     }
 
     /// Tells which files can't be read, and what is wrong in the others, where the plant file is refused or a file of it is missing.
@@ -57,18 +65,7 @@ impl<'t> Refused<'t> {
             return Ok(());
         };
         for missing in &gathered.missing {
-            let has_control = missing.name.chars().any(|c| c.is_control());
-            let more = if has_control {
-                "; in double quotes '\\' begins a sign of its own, and a path is written with '/'"
-            } else {
-                ""
-            };
-            let path = missing.path.as_str();
-            let other = meant(self.alloc, missing)?;
-            let other = other.as_str();
-            let said = format!(in self.alloc; "this file can't be read: {path}{more}{other}")?;
-            let (mark, page) = (Some(missing.mark), "docs/PLANT.md, \"Reading the files\"");
-            self.tell(FileOf::Plant, Cause { mark, said, page })?;
+            self.in_missing(missing)?;
         }
         self.in_misplaced()?;
         self.in_all_sources(None)
@@ -87,20 +84,35 @@ impl<'t> Refused<'t> {
         }
     }
 
+    /// What is wrong in a plant file that is no document, has a wrong key, or has a wrong epoch.
+    fn causes(&self, fault: &ConfigFault) -> Result<Vec<Cause>, AllocError> {
+        match fault {
+            ConfigFault::NotToml(unread) => no_document(self.alloc, self.plant, unread),
+            ConfigFault::PlantFile(mistakes) => {
+                wrong_keys(self.alloc, self.plant, mistakes.as_slice())
+            }
+            _ => wrong_epoch(self.alloc, self.plant),
+        }
+    }
+
+    /// Tells what is wrong in the plant file.
+    fn in_plant_file(&mut self, fault: &ConfigFault) -> Result<(), AllocError> {
+        for cause in self.causes(fault)? {
+            self.tell(FileOf::Plant, cause)?;
+        }
+        Ok(())
+    }
+
     /// Tells what is wrong, as far as it is found.
     fn find(&mut self, fault: &ConfigFault) -> Result<(), AllocError> {
         match fault {
             ConfigFault::Memory => Ok(()),
-            ConfigFault::NotToml(unread) => {
-                self.in_document(no_document(self.alloc, self.plant, unread)?)?;
-                self.in_gathered()
-            }
-            ConfigFault::PlantFile(mistakes) => {
-                self.in_document(wrong_keys(self.alloc, self.plant, mistakes.as_slice())?)?;
+            ConfigFault::NotToml(_) | ConfigFault::PlantFile(_) => {
+                self.in_plant_file(fault)?;
                 self.in_gathered()
             }
             ConfigFault::Epoch => {
-                self.in_document(wrong_epoch(self.alloc, self.plant)?)?;
+                self.in_plant_file(fault)?;
                 self.in_misplaced()?;
                 self.in_all_sources(None)
             }
@@ -175,17 +187,50 @@ fn find_all<'t>(
     Ok(spots)
 }
 
+/// The name of the alarm database that a plant file lists, which isn't right as a whole; `alarms` where it isn't certain.
+fn alarms_listed(alloc: Global, plant: &[u8]) -> Result<String, AllocError> {
+    let alarms = files_listed(alloc, plant)?.alarms;
+    let name = alarms.as_ref().map_or("alarms", |file| file.name.as_str());
+    String::from_str(alloc, name)
+}
+
 /// The name of the alarm database of a plant file, as far as that can be read.
 pub fn alarms_name(alloc: Global, plant: &[u8]) -> Result<String, AllocError> {
-    match Plant::files(alloc, plant) {
+    let read = Plant::files(alloc, plant);
+    let name = match &read {
         Ok(files) => String::from_str(alloc, files.alarms.as_str()),
         Err(ConfigFault::Memory) => Err(AllocError),
-        Err(_) => {
-            let alarms = files_listed(alloc, plant)?.alarms;
-            let name = alarms.as_ref().map_or("alarms", |file| file.name.as_str());
-            String::from_str(alloc, name)
-        }
+        Err(_) => alarms_listed(alloc, plant),
+    };
+    drop(read);
+    name
+}
+
+/// Adds a fault, shown, and where to read on, unless that is the page of the fault before it.
+fn push_shown(
+    told: &mut String,
+    alloc: Global,
+    texts: &PlantTexts<'_>,
+    alarms: &str,
+    (spot, page): (&Spot, &str),
+) -> Result<(), AllocError> {
+    told.push_str(shown(alloc, texts, alarms, spot)?.as_str())?;
+    let next = spot.cause.page;
+    if next == page {
+        return Ok(());
     }
+    told.push_str(format!(in alloc; "read on: {next}\n")?.as_str())
+}
+
+/// Adds how many faults are told, where it isn't one alone.
+fn push_count(told: &mut String, alloc: Global, count: usize) -> Result<(), AllocError> {
+    let more = match count {
+        0 | 1 => return Ok(()),
+        MOST_FAULTS => ", and there may be more",
+        _ => "",
+    };
+    let last = format!(in alloc; "{count} faults told{more}: correct these and check again\n")?;
+    told.push_str(last.as_str())
 }
 
 /// What is said of faults, each with its place in these texts, and where to read on behind the first one of a page; and how many they are with those that were
@@ -196,24 +241,14 @@ fn all_shown(
     spots: &[Spot],
     before: usize,
 ) -> Result<String, AllocError> {
+    let alarms = alarms_name(alloc, texts.plant)?;
     let mut told = String::new(alloc);
     let mut page = "";
-    let alarms = alarms_name(alloc, texts.plant)?;
     for spot in spots {
-        told.push_str(shown(alloc, texts, alarms.as_str(), spot)?.as_str())?;
-        if spot.cause.page != page {
-            page = spot.cause.page;
-            told.push_str(format!(in alloc; "read on: {page}\n")?.as_str())?;
-        }
+        push_shown(&mut told, alloc, texts, alarms.as_str(), (spot, page))?;
+        page = spot.cause.page;
     }
-    let count = spots.len().saturating_add(before);
-    let more = match count {
-        0 | 1 => return Ok(told),
-        MOST_FAULTS => ", and there may be more",
-        _ => "",
-    };
-    let last = format!(in alloc; "{count} faults told{more}: correct these and check again\n")?;
-    told.push_str(last.as_str())?;
+    push_count(&mut told, alloc, spots.len().saturating_add(before))?;
     Ok(told)
 }
 
@@ -262,6 +297,19 @@ fn texts_of<'t>(
     }
 }
 
+/// The faults of a plant whose own file is refused, and of the files that it lists, which were gathered, shown.
+fn shown_gathered(
+    alloc: Global,
+    texts: &PlantTexts<'_>,
+    fault: &ConfigFault,
+    gathered: &Gathered,
+) -> Result<String, AllocError> {
+    let spots = find_all(alloc, texts, fault, Some(gathered))?;
+    let told = all_shown(alloc, texts, spots.as_slice(), 0);
+    drop(spots);
+    told
+}
+
 /// The faults of a plant whose own file is refused, and of the files that it lists, shown.
 fn shown_from<S: Shelf>(
     alloc: Global,
@@ -272,8 +320,10 @@ fn shown_from<S: Shelf>(
     let gathered = Gathered::of(alloc, (shelf, path), plant)?;
     let sources = gathered.lent(alloc)?;
     let texts = texts_of(path, plant, sources.as_slice(), &gathered);
-    let spots = find_all(alloc, &texts, fault, Some(&gathered))?;
-    all_shown(alloc, &texts, spots.as_slice(), 0)
+    let told = shown_gathered(alloc, &texts, fault, &gathered);
+    drop(sources);
+    drop(gathered);
+    told
 }
 
 /// As `explain_all`, of a plant whose own file is refused before others are read. What is certainly wrong in the files that it lists is told too: as far as the
