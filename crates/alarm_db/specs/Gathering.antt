@@ -1,5 +1,5 @@
 -- The rows of an alarm database, gathered record by record.
-use Rattle.std.specs.Prelude.{◌≡◌, ◌<◌, ◌≤◌, ℕ, not, if◌then◌else◌, List, [], ◌∷◌, length, map, nat_lt, Option, Some, None}
+use Rattle.std.specs.Prelude.{◌≡◌, ◌<◌, ◌≤◌, ℕ, true, not, if◌then◌else◌, List, [], ◌∷◌, length, map, nat_lt, Option, Some, None}
 use Rattle.std.specs.Borrow.{Bor}
 use Rattle.std.specs.List.{list_all}
 use Rattle.csv.specs.Reading.{Reached, Ready, default_config, reader_config, reader_state, reader_trim, source_of, strip_bom}
@@ -11,7 +11,7 @@ use Rattle.alarm_db.specs.declared.fault.DbFault.TheVariants as fault
 use Rattle.alarm_db.specs.declared.column.Version.{Version}
 use Rattle.alarm_db.specs.declared.gathering.Gathered.{Gathered}
 use Rattle.alarm_db.specs.Rows.{row_of}
-use Rattle.alarm_db.specs.Databases.{first_wrong, is_even, version_of}
+use Rattle.alarm_db.specs.Databases.{first_wrong, is_even, records_of, version_of}
 
 -- a reader has read these records of a text, and goes on behind them
 pub record HasRead (text : List ℕ) (records : List (List (List ℕ))) (reader : Reader (Bor (List ℕ))) : Type 0 where
@@ -41,3 +41,13 @@ pub record HasGathered (v : Version) (rows : List (List (List ℕ))) (gathered :
   pub many : 20000 ≤ gathered.count → 20000 ≤ length rows
   pub fault_is : gathered.fault ≡ forms_fault v rows
   pub rows_are : gathered.fault ≡ None → gathered.rows.items ≡ map (row_of v) rows
+
+-- what was gathered of all records of a text: the first is the header of a version, and each other has a field for each of its columns
+pub record HasGatheredAll (text : List ℕ) (gathered : Gathered) : Type 0 where
+  pub header : List (List ℕ)
+  pub rows : List (List (List ℕ))
+  pub version : Version
+  pub all : (header ∷ rows) ≡ records_of text
+  pub names : version_of header ≡ Some version
+  pub even : list_all (is_even version) rows ≡ true
+  pub told : HasGathered version rows gathered

@@ -165,38 +165,63 @@ fn headless(alloc: Global, at: usize) -> Result<Examined, AllocError> {
     Ok(found)
 }
 
-/// Looks at the rows of a text that was read up to its header, which is of a version.
-fn rows_from(
+/// Looks at the records that a reader has behind the header, as far as a text may have rows.
+fn look_at_all(
     alloc: Global,
     reader: &mut Reader<&[u8]>,
-    version: Version,
-) -> Result<Examined, AllocError> {
-    let mut found = nothing(alloc, Some(version));
-    let mut row = ByteRecord::new(alloc);
-    let mut tags = Tags::new(alloc);
+    (row, version): (&mut ByteRecord, Version),
+    (found, tags): (&mut Examined, &mut Tags),
+) -> Result<(), AllocError> {
     let mut counts = Counts {
         uneven: 0,
         form: 0,
         again: 0,
     };
     'records: for _ in 0..MOST_ROWS {
-        if !has_next(reader, &mut row)? {
-            return Ok(found);
+        if !has_next(reader, row)? {
+            return Ok(());
         }
-        found.look(alloc, (&row, version), &mut tags, &mut counts)?;
+        found.look(alloc, (row, version), tags, &mut counts)?;
     }
+    Ok(())
+}
+
+/// Looks at the rows of a text that was read up to its header, which is of a version. The record is the reader's to read into.
+fn rows_from(
+    alloc: Global,
+    reader: &mut Reader<&[u8]>,
+    (row, version): (&mut ByteRecord, Version),
+) -> Result<Examined, AllocError> {
+    let mut found = nothing(alloc, Some(version));
+    let mut tags = Tags::new(alloc);
+    let all = look_at_all(alloc, reader, (row, version), (&mut found, &mut tags));
+    drop(tags);
+    all?;
     Ok(found)
+}
+
+/// Looks at the rows of a text of so many bytes, from its header on, which is read into a record.
+fn examine_from(
+    alloc: Global,
+    reader: &mut Reader<&[u8]>,
+    row: &mut ByteRecord,
+    len: usize,
+) -> Result<Examined, AllocError> {
+    if !has_next(reader, row)? {
+        return headless(alloc, len);
+    }
+    match version_of(row) {
+        Some(version) => rows_from(alloc, reader, (row, version)),
+        None => headless(alloc, start_of(row)),
+    }
 }
 
 /// Looks at each row of an alarm database's text by itself, and at its tag among those of the others.
 pub fn examine(alloc: Global, text: &[u8]) -> Result<Examined, AllocError> {
     let mut reader = reader_of(alloc, text);
-    let mut header = ByteRecord::new(alloc);
-    if !has_next(&mut reader, &mut header)? {
-        return headless(alloc, text.len());
-    }
-    match version_of(&header) {
-        Some(version) => rows_from(alloc, &mut reader, version),
-        None => headless(alloc, start_of(&header)),
-    }
+    let mut row = ByteRecord::new(alloc);
+    let examined = examine_from(alloc, &mut reader, &mut row, text.len());
+    drop(row);
+    drop(reader);
+    examined
 }

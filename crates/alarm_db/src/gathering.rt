@@ -5,7 +5,7 @@ ghost use Rattle.csv.specs.Records.{fields_of};
 ghost use Rattle.alarm_db.specs.declared.column.Version.{Version};
 ghost use Rattle.alarm_db.specs.Rows.{row_of};
 ghost use Rattle.alarm_db.specs.Databases.{records_of, rows_in, Refuses};
-ghost use Rattle.alarm_db.specs.Gathering.{early_fault, forms_fault, HasGathered};
+ghost use Rattle.alarm_db.specs.Gathering.{early_fault, forms_fault, HasGathered, HasGatheredAll};
 
 use crate::column::Version;
 use crate::fault::DbFault;
@@ -73,37 +73,58 @@ fn finished(gathered: Gathered) -> Result<Vec<DatabaseRow>, DbFault>
     }
 }
 
+/// Gathers what the records of a text give, of which the first is the header, or tells their first fault, but for tags. Nothing is gathered before.
+fn gather(
+    alloc: Global,
+    text: &[u8],
+    row: &mut ByteRecord,
+    gathered: &mut Gathered,
+) -> Result<(), DbFault>
+    requires count { gathered.old.count ≡ 0 }
+    requires fault { gathered.old.fault ≡ None }
+    requires rows { gathered.old.rows.items ≡ [] }
+    ensures { MatchResult result (λ _. HasGatheredAll text.now gathered.new)
+        (Refuses (early_fault (records_of text.now))) }
+{
+    let mut reader = reader_of(alloc, text);
+    let found = next_record(&mut reader, row)?;
+    if !found {
+        return Err(DbFault::Header);
+    }
+    let version = match version_of(row) {
+        Some(version) => version,
+        None => return Err(DbFault::Header),
+    };
+    // No text has so many records.
+    'records: for _ in 0..usize::MAX {
+        let more = next_record(&mut reader, row)?;
+        if !more {
+            return Ok(());
+        }
+        if !is_even(row, version) {
+            return Err(DbFault::Header);
+        }
+        add_row(alloc, version, gathered, row)?;
+    }
+    Err(DbFault::Memory)
+}
+
 /// The rows of the records of a text, or their first fault, but for tags. The first record is the header.
 pub(crate) fn rows_in(alloc: Global, text: &[u8]) -> Result<Vec<DatabaseRow>, DbFault>
     ensures { MatchResult result
         (λ rows. (early_fault (records_of text.now) ≡ None)
         × (rows.items ≡ rows_in (records_of text.now))) (Refuses (early_fault (records_of text.now))) }
 {
-    let mut reader = reader_of(alloc, text);
     let mut row = ByteRecord::new(alloc);
-    let found = next_record(&mut reader, &mut row)?;
-    if !found {
-        return Err(DbFault::Header);
-    }
-    let version = match version_of(&row) {
-        Some(version) => version,
-        None => return Err(DbFault::Header),
-    };
     let mut gathered = Gathered {
         count: 0,
         fault: None,
         rows: Vec::new(alloc),
     };
-    // No text has so many records.
-    'records: for _ in 0..usize::MAX {
-        let more = next_record(&mut reader, &mut row)?;
-        if !more {
-            return finished(gathered);
-        }
-        if !is_even(&row, version) {
-            return Err(DbFault::Header);
-        }
-        add_row(alloc, version, &mut gathered, &row)?;
+    let read = gather(alloc, text, &mut row, &mut gathered);
+    drop(row);
+    match read {
+        Ok(()) => finished(gathered),
+        Err(fault) => Err(fault),
     }
-    Err(DbFault::Memory)
 }
