@@ -122,6 +122,46 @@ pub fn too_long(
     Ok(found)
 }
 
+/// What there is, in a list.
+fn listed(alloc: Global, one: Option<Found>) -> Result<Vec<Found>, AllocError> {
+    let mut found = Vec::new(alloc);
+    match one {
+        Some(one) => found.push(one)?,
+        None => {}
+    }
+    Ok(found)
+}
+
+/// With what sources are past a limit, by their units and by the names that these declare.
+fn past_in(
+    alloc: Global,
+    sources: &[Source<'_>],
+    (units, entries): (&[Unit], &[DeclaredName<'_>]),
+    measure: Measure,
+) -> Result<Vec<Found>, AllocError> {
+    match measure {
+        Measure::Turns => too_long(alloc, sources, units),
+        Measure::Elements => long_arrays(alloc, entries),
+        Measure::Depth => listed(alloc, too_deep(alloc, entries)?),
+        _ => listed(alloc, too_much(alloc, sources, entries, measure)?),
+    }
+}
+
+/// With what read sources are past a limit.
+fn past(alloc: Global, sources: &[Source<'_>], measure: Measure) -> Result<Vec<Found>, AllocError> {
+    let units = units_of(alloc, sources)?;
+    let entries = entries_of(alloc, units.as_slice())?;
+    let past = past_in(
+        alloc,
+        sources,
+        (units.as_slice(), entries.as_slice()),
+        measure,
+    );
+    drop(entries);
+    drop(units);
+    past
+}
+
 /// With what the sources of a plant are past a limit, in order of text: all FORs with too many turns and then all arrays with too many elements, all these
 /// arrays, else one place. None where a source isn't spelled as the grammar says.
 pub fn where_past<'a>(
@@ -130,17 +170,7 @@ pub fn where_past<'a>(
     measure: Measure,
 ) -> Result<Vec<Found>, AllocError> {
     let sources = sources_of(alloc, texts)?;
-    let units = units_of(alloc, sources.as_slice())?;
-    let entries = entries_of(alloc, units.as_slice())?;
-    let one = match measure {
-        Measure::Turns => return too_long(alloc, sources.as_slice(), units.as_slice()),
-        Measure::Elements => return long_arrays(alloc, entries.as_slice()),
-        Measure::Depth => too_deep(alloc, entries.as_slice())?,
-        _ => too_much(alloc, sources.as_slice(), entries.as_slice(), measure)?,
-    };
-    let mut found = Vec::new(alloc);
-    if let Some(one) = one {
-        found.push(one)?;
-    }
-    Ok(found)
+    let past = past(alloc, sources.as_slice(), measure);
+    drop(sources);
+    past
 }

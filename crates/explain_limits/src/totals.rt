@@ -93,6 +93,24 @@ fn texts_of(measure: Measure, entry: &DeclaredName<'_>) -> [&'static str; 2] {
     }
 }
 
+/// Counts as they are written.
+#[derive(Drop)]
+struct Numbers {
+    total: String,
+    own: String,
+    part: String,
+}
+
+impl Numbers {
+    /// What there is in all, in a program or a global, and in a part of it.
+    fn of(alloc: Global, [total, own, part]: [u64; 3]) -> Result<Numbers, AllocError> {
+        let total = written(alloc, total)?;
+        let own = written(alloc, own)?;
+        let part = written(alloc, part)?;
+        Ok(Numbers { total, own, part })
+    }
+}
+
 /// What is said of a program, or a global, that is past a limit, by what there is in all, and where most of what it counts stands.
 fn told(
     alloc: Global,
@@ -103,19 +121,19 @@ fn told(
 ) -> Result<Found, AllocError> {
     let (mark, part, count) = told_part(measure, source, (entry, weight));
     let [text, more] = texts_of(measure, entry);
-    let total = written(alloc, total)?;
-    let own = written(alloc, weight.total)?;
-    let count = written(alloc, count)?;
+    let numbers = Numbers::of(alloc, [total, weight.total, count])?;
     let words = [
-        total.as_str(),
+        numbers.total.as_str(),
         entry.name.as_str(),
-        own.as_str(),
-        count.as_str(),
+        numbers.own.as_str(),
+        numbers.part.as_str(),
     ];
     let words = words
         .get(usize::from(measure == Measure::Cost)..)
         .unwrap_or(&[]);
-    let said = filled(alloc, &[text, more, part], "", words)?;
+    let said = filled(alloc, &[text, more, part], "", words);
+    drop(numbers);
+    let said = said?;
     let page = if measure == Measure::Cost {
         COSTS
     } else {

@@ -84,6 +84,75 @@ fn stage_of(mistake: &RowMistake) -> usize {
     }
 }
 
+/// A row with a wrong field.
+#[derive(Clone, Copy, Drop)]
+struct WrongRow<'a> {
+    known: &'a Known,
+    version: Version,
+    fields: &'a [Mark],
+    /// The byte at which it begins.
+    at: usize,
+}
+
+impl WrongRow<'_> {
+    /// Adds which fields have names that aren't known, but for those that were put in.
+    fn add_unknown(
+        &self,
+        put: &[bool; MOST_COLUMNS],
+        row: &DatabaseRow,
+        found: &mut Vec<RowMistake>,
+    ) -> Result<(), AllocError> {
+        let at = self.at;
+        for (column, is_unknown) in self.known.unknown_in(row) {
+            let field = self.version.place(column);
+            let is_told = field.is_some_and(|number| put.get(number) == Some(&true));
+            if is_unknown && !is_told {
+                let fault = RowFault::Unknown(column);
+                found.push(RowMistake { at, field, fault })?;
+            }
+        }
+        Ok(())
+    }
+
+    /// Adds what is found in it with right fields put in; returns the number of the field that is wrong next, if one is.
+    fn add(
+        &self,
+        put: &[bool; MOST_COLUMNS],
+        examined: &Examined,
+        found: &mut Vec<RowMistake>,
+    ) -> Result<Option<usize>, AllocError> {
+        if let Some((_, row)) = examined.rows.first() {
+            self.add_unknown(put, row, found)?;
+            return Ok(None);
+        }
+        let Some(next) = examined.mistakes.first() else {
+            return Ok(None);
+        };
+        if next.field.is_some() {
+            found.push(RowMistake {
+                at: self.at,
+                ..*next
+            })?;
+        }
+        Ok(next.field)
+    }
+}
+
+/// Moves what was found behind a header of so many bytes to where it stands behind one that ends at another.
+fn move_all(found: &mut Examined, (len, until): (usize, usize)) {
+    let moved = |at: usize| at.saturating_add(until).saturating_sub(len);
+    for wrong in found.mistakes.as_mut_slice() {
+        wrong.at = moved(wrong.at);
+        if let RowFault::Again { first } = wrong.fault {
+            let first = moved(first);
+            wrong.fault = RowFault::Again { first };
+        }
+    }
+    for row in found.rows.as_mut_slice() {
+        row.0 = moved(row.0);
+    }
+}
+
 /// Whether a row of fields may be no row at all: it has commas alone, or goes on in the next line.
 fn is_apart(text: &[u8], fields: &[Mark]) -> bool {
     let mut lines = fields.iter().filter_map(|field| first_line(text, *field));
@@ -167,7 +236,51 @@ impl<'t> Table<'t> {
         Ok(head)
     }
 
-    /// Adds what else is wrong in the row of a mistake: it is read on with a right field in the place of each that is wrong.
+    /// What is found in a row of these fields, with right ones in the place of some.
+    fn examined_with(
+        &self,
+        version: Version,
+        fields: &[Mark],
+        put: &[bool; MOST_COLUMNS],
+    ) -> Result<Examined, AllocError> {
+        let text = self.row_with(version, fields, put)?;
+        let examined = examine(self.alloc, text.as_slice());
+        drop(text);
+        examined
+    }
+
+    /// Adds what is wrong next in a row with right fields in the place of some; returns the number of its field, if one is.
+    fn add_next(
+        &self,
+        row: WrongRow<'_>,
+        put: &[bool; MOST_COLUMNS],
+        found: &mut Vec<RowMistake>,
+    ) -> Result<Option<usize>, AllocError> {
+        let examined = self.examined_with(row.version, row.fields, put)?;
+        let next = row.add(put, &examined, found);
+        drop(examined);
+        next
+    }
+
+    /// Adds what else is wrong in a row whose field of a number is: it is read on with a right field in the place of each that is wrong.
+    fn add_all(
+        &self,
+        row: WrongRow<'_>,
+        field: Option<usize>,
+        found: &mut Vec<RowMistake>,
+    ) -> Result<(), AllocError> {
+        let (mut put, mut last) = ([false; MOST_COLUMNS], field);
+        for _ in 0..MOST_COLUMNS {
+            let Some(is_put) = last.and_then(|number| put.get_mut(number)) else {
+                return Ok(());
+            };
+            *is_put = true;
+            last = self.add_next(row, &put, found)?;
+        }
+        Ok(())
+    }
+
+    /// Adds what else is wrong in the row of a mistake.
     fn add_further(
         &self,
         known: &Known,
@@ -176,32 +289,55 @@ impl<'t> Table<'t> {
         found: &mut Vec<RowMistake>,
     ) -> Result<(), AllocError> {
         let fields = fields_of_row(self.alloc, self.alarms, wrong.at)?;
-        if is_apart(self.alarms, fields.as_slice()) {
-            return Ok(());
+        let (at, slice) = (wrong.at, fields.as_slice());
+        let row = WrongRow {
+            known,
+            version,
+            fields: slice,
+            at,
+        };
+        let added = if is_apart(self.alarms, slice) {
+            Ok(())
+        } else {
+            self.add_all(row, wrong.field, found)
+        };
+        drop(fields);
+        added
+    }
+
+    /// Adds what else is wrong in the rows of mistakes, as far as these are told.
+    fn add_all_further(
+        &self,
+        known: &Known,
+        mistakes: &[RowMistake],
+        all: &mut Vec<RowMistake>,
+    ) -> Result<(), AllocError> {
+        let version = self.version()?;
+        for wrong in mistakes.iter().take(MOST_FAULTS) {
+            self.add_further(known, version, wrong, all)?;
         }
-        let (mut put, mut last, at) = ([false; MOST_COLUMNS], wrong.field, wrong.at);
-        for _ in 0..MOST_COLUMNS {
-            let Some(is_put) = last.and_then(|number| put.get_mut(number)) else {
-                return Ok(());
-            };
-            *is_put = true;
-            let text = self.row_with(version, fields.as_slice(), &put)?;
-            let examined = examine(self.alloc, text.as_slice())?;
-            if let Some((_, row)) = examined.rows.first() {
-                for (column, is_unknown) in known.unknown_in(row) {
-                    let field = version.place(column);
-                    let is_told = field.is_some_and(|number| put.get(number) == Some(&true));
-                    if is_unknown && !is_told {
-                        let fault = RowFault::Unknown(column);
-                        found.push(RowMistake { at, field, fault })?;
-                    }
-                }
-                return Ok(());
-            }
-            last = examined.mistakes.first().and_then(|next| next.field);
-            if let (Some(next), Some(_)) = (examined.mistakes.first(), last) {
-                found.push(RowMistake { at, ..*next })?;
-            }
+        Ok(())
+    }
+
+    /// The version that the header has by its length.
+    fn version(&self) -> Result<Version, AllocError> {
+        let header = fields_of_row(self.alloc, self.alarms, 0)?;
+        Ok(match header.len() {
+            MOST_COLUMNS => Version::Second,
+            _ => Version::First,
+        })
+    }
+
+    /// Tells of mistakes in rows, where these are more than 20 of those whose refusals come first, in order of text.
+    fn tell_first(&mut self, units: &[Unit], all: &mut Vec<RowMistake>) -> Result<(), AllocError> {
+        all.sort_by_key(stage_of)?;
+        all.truncate(MOST_FAULTS);
+        all.sort_unstable_by_key(|wrong| {
+            let field = wrong.field.unwrap_or(0);
+            wrong.at.saturating_mul(MOST_COLUMNS).saturating_add(field)
+        });
+        for wrong in all.as_slice() {
+            self.in_row(units, wrong)?;
         }
         Ok(())
     }
@@ -217,24 +353,10 @@ impl<'t> Table<'t> {
             return Ok(());
         }
         let mut all = Vec::from_slice(self.alloc, mistakes)?;
-        let header = fields_of_row(self.alloc, self.alarms, 0)?;
-        let version = match header.len() {
-            MOST_COLUMNS => Version::Second,
-            _ => Version::First,
-        };
-        for wrong in mistakes.iter().take(MOST_FAULTS) {
-            self.add_further(known, version, wrong, &mut all)?;
-        }
-        all.sort_by_key(stage_of)?;
-        all.truncate(MOST_FAULTS);
-        all.sort_unstable_by_key(|wrong| {
-            let field = wrong.field.unwrap_or(0);
-            wrong.at.saturating_mul(MOST_COLUMNS).saturating_add(field)
-        });
-        for wrong in &all {
-            self.in_row(units, wrong)?;
-        }
-        Ok(())
+        self.add_all_further(known, mistakes, &mut all)?;
+        let told = self.tell_first(units, &mut all);
+        drop(all);
+        told
     }
 
     /// The table with the right names in its header, where some alone are wrong, or their order; and the byte at which the header ends there, and in the table itself.
@@ -265,6 +387,23 @@ impl<'t> Table<'t> {
         Ok(are_reordered(self.alarms, fields.as_slice(), columns))
     }
 
+    /// What is found in the rows below a header that is wrong, and was made right, behind what is wrong in it; none where that can't be, or the order of its
+    /// columns is wrong and few rows are right by theirs.
+    fn examined_below(&self, header: &[RowMistake]) -> Result<Option<Examined>, AllocError> {
+        let Some((text, len, until)) = self.with_right_header()? else {
+            return Ok(None);
+        };
+        let below = examine(self.alloc, text.as_slice());
+        drop(text);
+        let mut below = below?;
+        if below.mistakes.len() > below.rows.len() && self.is_reordered()? {
+            return Ok(None);
+        }
+        move_all(&mut below, (len, until));
+        below.mistakes.extend_from_slice(header)?;
+        Ok(Some(below))
+    }
+
     /// What is found in the rows. Where names of the header alone are wrong, the rows below it are read with the right ones; where their order is, only if most of
     /// the rows are right by theirs.
     fn examined(&self) -> Result<Examined, AllocError> {
@@ -272,27 +411,10 @@ impl<'t> Table<'t> {
         if examined.version.is_some() {
             return Ok(examined);
         }
-        let Some((text, len, until)) = self.with_right_header()? else {
-            return Ok(examined);
-        };
-        let mut below = examine(self.alloc, text.as_slice())?;
-        if below.mistakes.len() > below.rows.len() && self.is_reordered()? {
-            return Ok(examined);
+        match self.examined_below(examined.mistakes.as_slice())? {
+            Some(below) => Ok(below),
+            None => Ok(examined),
         }
-        let moved = |at: usize| at.saturating_add(until).saturating_sub(len);
-        for wrong in below.mistakes.as_mut_slice() {
-            wrong.at = moved(wrong.at);
-            if let RowFault::Again { first } = wrong.fault {
-                let first = moved(first);
-                wrong.fault = RowFault::Again { first };
-            }
-        }
-        for row in below.rows.as_mut_slice() {
-            row.0 = moved(row.0);
-        }
-        let header = examined.mistakes.as_slice();
-        below.mistakes.extend_from_slice(header)?;
-        Ok(below)
     }
 
     /// Tells what is wrong in the rows of a plant of units; of what they name only the areas where there are no units.

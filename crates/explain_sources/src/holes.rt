@@ -69,37 +69,77 @@ fn hole_of(at: usize, bytes: &[u8]) -> Option<(usize, &'static str)> {
     }
 }
 
-/// The tokens of a text, and what stands between them.
-pub fn tokens_with_holes(alloc: Global, text: &[u8]) -> Result<Lexed<'_>, AllocError> {
-    let mut read = Vec::new(alloc);
-    let mut holes = Vec::new(alloc);
-    let mut is_cut = true;
-    for _ in 0..MOST_HOLES {
-        let rest = part(text, read.len(), text.len());
-        let (line, column) = match lex(alloc, rest) {
-            Ok(_) => {
-                read.extend_from_slice(rest)?;
-                is_cut = false;
+/// Where bytes of a text first begin no token, by line and column.
+fn misspelling(alloc: Global, text: &[u8]) -> Result<Option<(usize, usize)>, AllocError> {
+    match lex(alloc, text) {
+        Ok(_) => Ok(None),
+        Err(LexFault::Memory) => Err(AllocError),
+        Err(LexFault::Bad { line, column }) => Ok(Some((line, column))),
+    }
+}
+
+/// A text that is read, with others in the place of bytes that begin no token.
+#[derive(Drop)]
+struct Patched<'a> {
+    text: &'a [u8],
+    /// As far as it is read.
+    read: Vec<u8>,
+    holes: Vec<(usize, usize)>,
+    is_cut: bool,
+}
+
+impl Patched<'_> {
+    /// Passes over bytes that begin no token; whether it is certain how.
+    fn pass(&mut self) -> Result<bool, AllocError> {
+        let (at, end) = (self.read.len(), self.text.len());
+        let Some((len, put)) = hole_of(at, part(self.text, at, end)) else {
+            self.holes.push((at, end))?;
+            return Ok(false);
+        };
+        let until = at.saturating_add(len).min(end);
+        self.read.extend_from_slice(put.as_bytes())?;
+        for _ in self.read.len()..until {
+            self.read.push(b' ')?;
+        }
+        self.holes.push((at, until))?;
+        Ok(true)
+    }
+
+    /// Reads the tokens up to the next bytes that begin none, and passes over these; whether there is more to read.
+    fn read_on(&mut self, alloc: Global) -> Result<bool, AllocError> {
+        let rest = part(self.text, self.read.len(), self.text.len());
+        let Some((line, column)) = misspelling(alloc, rest)? else {
+            self.is_cut = false;
+            self.read.extend_from_slice(rest)?;
+            return Ok(false);
+        };
+        let right = part(rest, 0, byte_at(rest, line, column));
+        self.read.extend_from_slice(right)?;
+        self.pass()
+    }
+
+    /// Reads the text, as far as it is certain how.
+    fn read_all(&mut self, alloc: Global) -> Result<Vec<Token>, AllocError> {
+        for _ in 0..MOST_HOLES {
+            if !self.read_on(alloc)? {
                 break;
             }
-            Err(LexFault::Memory) => return Err(AllocError),
-            Err(LexFault::Bad { line, column }) => (line, column),
-        };
-        read.extend_from_slice(part(rest, 0, byte_at(rest, line, column)))?;
-        let at = read.len();
-        let Some((len, put)) = hole_of(at, part(text, at, text.len())) else {
-            holes.push((at, text.len()))?;
-            break;
-        };
-        let until = at.saturating_add(len).min(text.len());
-        read.extend_from_slice(put.as_bytes())?;
-        for _ in read.len()..until {
-            read.push(b' ')?;
         }
-        holes.push((at, until))?;
+        tokens_of(alloc, self.read.as_slice())
     }
-    let tokens = tokens_of(alloc, read.as_slice())?;
-    is_cut = is_cut || tokens.is_empty() && !holes.is_empty();
+}
+
+/// The tokens of a text, and what stands between them.
+pub fn tokens_with_holes(alloc: Global, text: &[u8]) -> Result<Lexed<'_>, AllocError> {
+    let mut patched = Patched {
+        text,
+        read: Vec::new(alloc),
+        holes: Vec::new(alloc),
+        is_cut: true,
+    };
+    let tokens = patched.read_all(alloc)?;
+    let is_cut = patched.is_cut || tokens.is_empty() && !patched.holes.is_empty();
+    let Patched { holes, .. } = patched;
     Ok(Lexed {
         text,
         tokens,

@@ -99,6 +99,38 @@ enum Once {
     Whole(Unit),
 }
 
+/// A unit that is read, and mended where it stops.
+#[derive(Drop)]
+struct Draft {
+    /// Its tokens, and some that follow it.
+    tokens: Vec<Token>,
+    /// How many follow it.
+    ahead: usize,
+    /// Whether the unit above it has no end.
+    is_apart: bool,
+    /// Where it stopped last.
+    last: Option<usize>,
+    /// Whether it isn't certain which FORs stand around its statements.
+    blurs: bool,
+    /// Whether it may declare more than its tree will have.
+    lacks: bool,
+}
+
+impl Draft {
+    /// How many tokens are its own.
+    fn len(&self) -> usize {
+        self.tokens.len().saturating_sub(self.ahead)
+    }
+
+    /// Its own tokens, which are none of it any more.
+    fn own_tokens(&mut self, alloc: Global) -> Vec<Token> {
+        let len = self.len();
+        let mut tokens = replace(&mut self.tokens, Vec::new(alloc));
+        tokens.truncate(len);
+        tokens
+    }
+}
+
 /// Whether the tokens from one to before another are those of a program, which has nothing that others have.
 fn is_program(first: TokenPlace<'_>, end: TokenPlace<'_>) -> bool {
     let closing = first.ahead("END_PROGRAM|END_FUNCTION_BLOCK");
@@ -132,56 +164,138 @@ impl Told {
         }
     }
 
+    /// Notes what is left out around a token at which a unit stops, and what may be missing for that.
+    fn note_gap(
+        &mut self,
+        place: TokenPlace<'_>,
+        mend: Option<Mend>,
+        gap: (usize, usize),
+    ) -> Result<(), AllocError> {
+        let is_blurred = mend.is_some_and(|mend| blurs_name(place, mend));
+        self.parts.lacks_blocks = self.parts.lacks_blocks || is_blurred;
+        self.parts.gaps.push(gap)?;
+        Ok(())
+    }
+
+    /// Tells why a unit stops at a token, if that isn't behind one at which it stopped before, nor comes of bytes that begin no token.
+    fn tell_stop(
+        &mut self,
+        alloc: Global,
+        lexed: &Lexed<'_>,
+        place: TokenPlace<'_>,
+        (gap, last): ((usize, usize), Option<usize>),
+    ) -> Result<(), AllocError> {
+        let (from, until) = gap;
+        let is_told = || !lexed.has_hole(from, until) || is_word_before(lexed, place, from);
+        if last.is_none_or(|last| last < place.mark().0) && is_told() {
+            self.tell(alloc, place)?;
+        }
+        Ok(())
+    }
+
+    /// Mends a unit at a token of its own at which it stops; whether it is read once more.
+    fn mend(
+        &mut self,
+        alloc: Global,
+        lexed: &Lexed<'_>,
+        draft: &mut Draft,
+        number: usize,
+    ) -> Result<bool, AllocError> {
+        let tokens = draft.tokens.as_slice();
+        let place = TokenPlace::new(lexed.text, tokens, number);
+        let mend = way_on(place);
+        let gap = around(place, mend);
+        self.tell_stop(alloc, lexed, place, (gap, draft.last))?;
+        self.note_gap(place, mend, gap)?;
+        draft.last = Some(place.mark().0);
+        draft.blurs = draft.blurs || mend.is_some_and(|mend| mend.blurs_loops(tokens));
+        draft.lacks = draft.lacks || may_declare(place, mend);
+        let Some(mend) = mend else {
+            return Ok(false);
+        };
+        if self.left.causes == 0 {
+            return Ok(false);
+        }
+        draft.tokens = mended(alloc, tokens, mend)?;
+        Ok(true)
+    }
+
+    /// Goes on with a unit that stops at a token, its own or one behind it; whether it ends before these, once that is known.
+    fn stop(
+        &mut self,
+        alloc: Global,
+        lexed: &Lexed<'_>,
+        draft: &mut Draft,
+        number: usize,
+    ) -> Result<Option<bool>, AllocError> {
+        let is_behind = number >= draft.len();
+        let place = TokenPlace::new(lexed.text, draft.tokens.as_slice(), number);
+        if is_behind && (draft.ahead > 0 || !lexed.is_cut) {
+            self.tell(alloc, place)?;
+        }
+        if is_behind || !draft.is_apart && place.stand() == "behind" {
+            return Ok(Some(!is_behind));
+        }
+        let is_mended = self.mend(alloc, lexed, draft, number)?;
+        Ok(if is_mended { None } else { Some(true) })
+    }
+
+    /// Reads a unit once, and keeps its tree or mends it; whether it ends before the tokens behind it, once that is known.
+    fn go_on(
+        &mut self,
+        alloc: Global,
+        lexed: &Lexed<'_>,
+        draft: &mut Draft,
+    ) -> Result<Option<bool>, AllocError> {
+        let len = draft.len();
+        let unit = draft.tokens.as_slice().get(..len).unwrap_or(&[]);
+        match self.read_once(alloc, lexed.text, unit)? {
+            Once::Unread => Ok(Some(true)),
+            Once::Stops(number) => self.stop(alloc, lexed, draft, number),
+            Once::Whole(unit) => {
+                let tokens = draft.own_tokens(alloc);
+                self.parts.keep(tokens, unit, (draft.blurs, draft.lacks))?;
+                Ok(Some(true))
+            }
+        }
+    }
+
+    /// Reads a unit as often as it is mended, and keeps its tree, where it comes to have one; whether it ends before the tokens behind it.
+    fn read_draft(
+        &mut self,
+        alloc: Global,
+        lexed: &Lexed<'_>,
+        draft: &mut Draft,
+    ) -> Result<bool, AllocError> {
+        draft.lacks = self.parts.add_holes(lexed, draft.tokens.as_slice())?;
+        for _ in 0..MOST_READINGS {
+            if let Some(ends) = self.go_on(alloc, lexed, draft)? {
+                return Ok(ends);
+            }
+        }
+        Ok(true)
+    }
+
     /// Reads a unit, whose tokens stand before some that follow it, as often as it is mended, and keeps its tree, where it comes to have one; whether it ends
     /// before these. What is behind its end isn't told where the unit above has none (`is_apart`).
     fn read_unit(
         &mut self,
         alloc: Global,
         lexed: &Lexed<'_>,
-        mut tokens: Vec<Token>,
+        tokens: Vec<Token>,
         (ahead, is_apart): (usize, bool),
     ) -> Result<bool, AllocError> {
-        let (mut last, mut blurs) = (None, false);
-        let mut lacks = self.parts.add_holes(lexed, tokens.as_slice())?;
-        for _ in 0..MOST_READINGS {
-            let len = tokens.len().saturating_sub(ahead);
-            let unit = tokens.as_slice().get(..len).unwrap_or(&[]);
-            let number = match self.read_once(alloc, lexed.text, unit)? {
-                Once::Unread => return Ok(true),
-                Once::Stops(number) => number,
-                Once::Whole(unit) => {
-                    tokens.truncate(len);
-                    self.parts.keep(tokens, unit, (blurs, lacks))?;
-                    return Ok(true);
-                }
-            };
-            let place = TokenPlace::new(lexed.text, tokens.as_slice(), number);
-            if number >= len && (ahead > 0 || !lexed.is_cut) {
-                self.tell(alloc, place)?;
-            }
-            if number >= len || !is_apart && place.stand() == "behind" {
-                return Ok(number < len);
-            }
-            let (mend, at) = (way_on(place), place.mark().0);
-            let (from, until) = around(place, mend);
-            let is_told = || !lexed.has_hole(from, until) || is_word_before(lexed, place, from);
-            if last.is_none_or(|last| last < at) && is_told() {
-                self.tell(alloc, place)?;
-            }
-            last = Some(at);
-            blurs = blurs || mend.is_some_and(|mend| mend.blurs_loops(tokens.as_slice()));
-            lacks = lacks || may_declare(place, mend);
-            let is_blurred = mend.is_some_and(|mend| blurs_name(place, mend));
-            self.parts.lacks_blocks = self.parts.lacks_blocks || is_blurred;
-            self.parts.gaps.push((from, until))?;
-            match mend {
-                Some(mend) if self.left.causes > 0 => {
-                    tokens = mended(alloc, tokens.as_slice(), mend)?;
-                }
-                _ => return Ok(true),
-            }
-        }
-        Ok(true)
+        let mut draft = Draft {
+            tokens,
+            ahead,
+            is_apart,
+            last: None,
+            blurs: false,
+            lacks: false,
+        };
+        let read = self.read_draft(alloc, lexed, &mut draft);
+        drop(draft);
+        read
     }
 
     /// Tells what is wrong in the units and the sections of globals, each of which begins with its keyword, and keeps their trees.
@@ -218,6 +332,31 @@ impl Told {
         }
         Ok(())
     }
+
+    /// Leaves out the causes that may come of bytes that begin no token, and tells these.
+    fn tell_holes(&mut self, alloc: Global, lexed: &Lexed<'_>) -> Result<(), AllocError> {
+        for cause in replace(&mut self.causes, Vec::new(alloc)) {
+            if !lexed.is_behind_hole(cause.mark) {
+                self.causes.push(cause)?;
+            }
+        }
+        for hole in lexed.holes.as_slice() {
+            let cause = misspelled_at(alloc, lexed.text, hole.0)?;
+            self.causes.push(cause)?;
+        }
+        Ok(())
+    }
+
+    /// Tells what is wrong in the tokens of a source, and between them, in order of text.
+    fn tell_all(&mut self, alloc: Global, lexed: &Lexed<'_>) -> Result<(), AllocError> {
+        self.read_units(alloc, lexed)?;
+        if lexed.is_cut {
+            self.parts.lose();
+        }
+        self.tell_holes(alloc, lexed)?;
+        let start_of = |cause: &Cause| cause.mark.map_or(0, |mark| mark.0);
+        self.causes.sort_by_key(start_of)
+    }
 }
 
 /// What is wrong in the spelling and the grammar of a source, as far as that is left to be told and to be read.
@@ -228,19 +367,8 @@ pub fn tell(alloc: Global, text: &[u8], left: Reading) -> Result<Told, AllocErro
         left,
         parts: Parts::none(alloc),
     };
-    told.read_units(alloc, &lexed)?;
-    if lexed.is_cut {
-        told.parts.lose();
-    }
-    for cause in replace(&mut told.causes, Vec::new(alloc)) {
-        if !lexed.is_behind_hole(cause.mark) {
-            told.causes.push(cause)?;
-        }
-    }
-    for hole in lexed.holes.as_slice() {
-        told.causes.push(misspelled_at(alloc, text, hole.0)?)?;
-    }
-    let start_of = |cause: &Cause| cause.mark.map_or(0, |mark| mark.0);
-    told.causes.sort_by_key(start_of)?;
+    let whole = told.tell_all(alloc, &lexed);
+    drop(lexed);
+    whole?;
     Ok(told)
 }

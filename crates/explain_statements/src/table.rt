@@ -156,6 +156,30 @@ fn push_runs(
     text.push_str("\n")
 }
 
+/// Adds the row of a unit and its file, whose statements stand in runs.
+fn push_row(
+    alloc: Global,
+    text: &mut String,
+    (unit, file): (&str, &str),
+    (runs, widths): (&[Run], Widths),
+) -> Result<(), AllocError> {
+    push_left(text, unit, widths.unit)?;
+    text.push_str("  ")?;
+    push_left(text, file, widths.file)?;
+    push_runs(alloc, text, runs, widths)
+}
+
+/// The runs of the statements of a block or a program.
+fn runs_in(
+    alloc: Global,
+    source: &Source<'_>,
+    lines: &mut Lines<'_>,
+    routine: Routine,
+) -> Result<Vec<Run>, AllocError> {
+    let found = lines_of(alloc, source, lines, routine)?;
+    runs_of(alloc, found.as_slice())
+}
+
 /// Adds the rows of a source's blocks and programs.
 fn push_source(
     alloc: Global,
@@ -169,13 +193,11 @@ fn push_source(
         line: 1,
     };
     for routine in &source.routines {
-        let found = lines_of(alloc, source, &mut lines, *routine)?;
-        let runs = runs_of(alloc, found.as_slice())?;
+        let runs = runs_in(alloc, source, &mut lines, *routine)?;
         let unit = word_at(source.text, source.tokens.as_slice(), routine.name);
-        push_left(text, unit, widths.unit)?;
-        text.push_str("  ")?;
-        push_left(text, source.name, widths.file)?;
-        push_runs(alloc, text, runs.as_slice(), widths)?;
+        let pushed = push_row(alloc, text, (unit, source.name), (runs.as_slice(), widths));
+        drop(runs);
+        pushed?;
     }
     Ok(())
 }
@@ -201,25 +223,42 @@ fn longest_file(sources: &[Source<'_>], least: usize) -> usize {
     width.min(MOST)
 }
 
-/// The line of each statement of all blocks and programs, in a table: the unit, its file, and the numbers of its statements with their lines, as
-/// `1-3:12-14  4:17  5-6:18`. Nothing where there is no unit.
-pub fn statement_table(alloc: Global, texts: &PlantTexts<'_>) -> Result<String, AllocError> {
-    let sources = sources_of(alloc, texts.sources)?;
+/// Adds the heading of a table of sources, and their rows.
+fn push_table(
+    alloc: Global,
+    text: &mut String,
+    sources: &[Source<'_>],
+    widths: Widths,
+) -> Result<(), AllocError> {
+    push_left(text, "unit", widths.unit)?;
+    text.push_str("  ")?;
+    push_left(text, "file", widths.file)?;
+    text.push_str("  statement:line\n")?;
+    for source in sources {
+        push_source(alloc, text, source, widths)?;
+    }
+    text.push_str("\n")
+}
+
+/// The table of sources; nothing where there is no unit.
+fn table_of(alloc: Global, sources: &[Source<'_>]) -> Result<String, AllocError> {
     let mut text = String::new(alloc);
     if sources.iter().all(|source| source.routines.is_empty()) {
         return Ok(text);
     }
     let widths = Widths {
-        unit: longest_unit(sources.as_slice(), "unit".len()),
-        file: longest_file(sources.as_slice(), "file".len()),
+        unit: longest_unit(sources, "unit".len()),
+        file: longest_file(sources, "file".len()),
     };
-    push_left(&mut text, "unit", widths.unit)?;
-    text.push_str("  ")?;
-    push_left(&mut text, "file", widths.file)?;
-    text.push_str("  statement:line\n")?;
-    for source in &sources {
-        push_source(alloc, &mut text, source, widths)?;
-    }
-    text.push_str("\n")?;
+    push_table(alloc, &mut text, sources, widths)?;
     Ok(text)
+}
+
+/// The line of each statement of all blocks and programs, in a table: the unit, its file, and the numbers of its statements with their lines, as
+/// `1-3:12-14  4:17  5-6:18`. Nothing where there is no unit.
+pub fn statement_table(alloc: Global, texts: &PlantTexts<'_>) -> Result<String, AllocError> {
+    let sources = sources_of(alloc, texts.sources)?;
+    let table = table_of(alloc, sources.as_slice());
+    drop(sources);
+    table
 }
