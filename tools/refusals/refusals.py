@@ -1,7 +1,7 @@
 #!/usr/bin/env python3
 """Refuses a built program each growth of its memory in turn, and looks at what comes of it.
 
-    python3 tools/refusals/refusals.py crates/try_plants/out/try_plants --crate crates/try_plants --table stations
+    python3 tools/refusals/refusals.py crates/try_plants/out/try_plants --crate crates/try_plants --table plants
     python3 tools/refusals/refusals.py crates/alarmd/out/alarmd --examples examples
 
 A program of rows is run on its stored input (`--crate`), or on one table of it: each run has to write the same as without, or to end with status 1 and write nothing. The server is run on the
@@ -10,7 +10,7 @@ also with `RUN CREW`). The first, second, third .. growth is refused, one a run,
 
 | option | what it is | without it |
 |---|---|---|
-| `--table NAME` | of the stored input only what stands behind its line `== NAME` | the whole |
+| `--table NAME` | of the stored input only what stands behind its line `== NAME`; `plants`: before the first such line | the whole, with the script of a control room, which isn't played once more |
 | `--later` | each growth is refused with all later ones | it alone |
 | `--sample N` | so many places of all, chosen at random | each place |
 | `--seed S` | what they are chosen by | 1 |
@@ -57,7 +57,9 @@ def read(*names):
 
 
 def table_of(given, name):
-    """The table of a name, as an input of its own: from the line `== NAME` to the next such line."""
+    """The table of a name, as an input of its own: from the line `== NAME` to the next such line; of `plants` what stands before the first."""
+    if name == "plants":
+        return given.partition(b"\n== ")[0] + b"\n"
     return b"\n== %s\n%s" % (name.encode(), given.partition(b"\n== %s\n" % name.encode())[2].partition(b"\n== ")[0])
 
 
