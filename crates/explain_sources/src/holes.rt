@@ -26,47 +26,87 @@ fn closed_len(bytes: &[u8], mark: u8) -> usize {
     if is_closed { len.saturating_add(2) } else { 1 }
 }
 
+/// How many bytes there are up to the end of the line.
+fn line_len(bytes: &[u8]) -> usize {
+    bytes.iter().take_while(|byte| **byte != b'\n').count()
+}
+
+/// How many bytes of a time belong together that has a comma or a blank in it, and what may stand in their place; `None` of another one.
+fn time_hole(bytes: &[u8], len: usize) -> Option<(usize, &'static str)> {
+    if matches!(part(bytes, len, bytes.len()), [b',', b'0'..=b'9', ..]) {
+        let decimals = run_len(part(bytes, len.saturating_add(1), bytes.len()));
+        return Some((len.saturating_add(1).saturating_add(decimals), "0"));
+    }
+    if bytes.get(2) != Some(&b' ') {
+        return None;
+    }
+    let behind = part(bytes, 2, bytes.len());
+    let blanks = behind.iter().take_while(|byte| **byte == b' ').count();
+    let parts = run_len(part(behind, blanks, behind.len()));
+    Some((blanks.saturating_add(parts).saturating_add(2), "0"))
+}
+
+/// The same of a word or a number that is no token.
+fn word_hole(bytes: &[u8]) -> (usize, &'static str) {
+    let len = run_len(bytes);
+    if matches!(bytes, [b't' | b'T', b'#', ..]) {
+        return time_hole(bytes, len).unwrap_or((len, "0"));
+    }
+    (len, "0")
+}
+
+/// The same of an address that is none.
+fn address_hole(bytes: &[u8]) -> (usize, &'static str) {
+    let len = run_len(part(bytes, 1, bytes.len())).saturating_add(1);
+    (len, if len > 2 { "%M0" } else { "" })
+}
+
+/// The same of a text in quotes.
+fn text_hole(bytes: &[u8], mark: u8) -> (usize, &'static str) {
+    match closed_len(bytes, mark) {
+        1 => (quoted_len(bytes, mark).saturating_add(1), ""),
+        len => (len, if len > 2 { " 0" } else { "" }),
+    }
+}
+
+/// The same of another sign.
+fn sign_hole(bytes: &[u8], first: u8, second: u8) -> (usize, &'static str) {
+    let is_name = matches!(second, b'a'..=b'z' | b'A'..=b'Z' | b'_');
+    if first == b'#' && is_name && !bytes.starts_with(b"#include") {
+        return (1, "");
+    }
+    if first == b'#' || first == b'\\' && second == b'\\' {
+        return (line_len(bytes), "");
+    }
+    if first == b'|' && second == b'|' {
+        return (2, "&");
+    }
+    if matches!(first, b'!' | b'~') && second == b'=' {
+        return (2, "<>");
+    }
+    (first_character(bytes).len().max(1), "")
+}
+
+/// Whether a text that begins with these bytes looks like UTF-16.
+fn is_wide(first: u8, second: u8) -> bool {
+    first == 0 || first == 0xFF && second == 0xFE || first == 0xFE && second == 0xFF
+}
+
 /// How many bytes belong together from the one of a number on that begin no token, and what may stand in their place; `None` where what follows can't be told: a
 /// comment isn't closed, or the text looks like UTF-16.
 fn hole_of(at: usize, bytes: &[u8]) -> Option<(usize, &'static str)> {
-    let len = run_len(bytes);
-    let has_comma = matches!(part(bytes, len, bytes.len()), [b',', b'0'..=b'9', ..]);
-    match bytes {
-        [b't' | b'T', b'#', ..] if has_comma => {
-            let decimals = run_len(part(bytes, len.saturating_add(1), bytes.len()));
-            Some((len.saturating_add(1).saturating_add(decimals), "0"))
-        }
-        [b't' | b'T', b'#', b' ', ..] => {
-            let behind = part(bytes, 2, bytes.len());
-            let blanks = behind.iter().take_while(|byte| **byte == b' ').count();
-            let parts = run_len(part(behind, blanks, behind.len()));
-            Some((blanks.saturating_add(parts).saturating_add(2), "0"))
-        }
-        [b'0'..=b'9' | b'a'..=b'z' | b'A'..=b'Z' | b'_', ..] => Some((len, "0")),
-        [b'%', b'a'..=b'z' | b'A'..=b'Z', ..] => {
-            let len = run_len(part(bytes, 1, bytes.len())).saturating_add(1);
-            Some((len, if len > 2 { "%M0" } else { "" }))
-        }
-        [b'(' | b'/', b'*', ..] | [] => None,
-        [0xFF, 0xFE, ..] | [0xFE, 0xFF, ..] | [0, ..] if at < 2 => None,
-        [mark @ (b'\'' | b'"'), ..] => {
-            match closed_len(bytes, *mark) {
-                1 => Some((quoted_len(bytes, *mark).saturating_add(1), "")),
-                len => Some((len, if len > 2 { " 0" } else { "" })),
-            }
-        }
-        [b'{', ..] => Some((closed_len(bytes, b'}'), "")),
-        [b'#', b'a'..=b'z' | b'A'..=b'Z' | b'_', ..] if !bytes.starts_with(b"#include") => Some((
-            1, "",
-        )),
-        [b'#', ..] | [b'\\', b'\\', ..] => Some((
-            bytes.iter().take_while(|byte| **byte != b'\n').count(),
-            "",
-        )),
-        [b'|', b'|', ..] => Some((2, "&")),
-        [b'!' | b'~', b'=', ..] => Some((2, "<>")),
-        _ => Some((first_character(bytes).len().max(1), "")),
+    let first = *bytes.first()?;
+    let second = bytes.get(1).copied().unwrap_or(0);
+    if matches!(first, b'(' | b'/') && second == b'*' || at < 2 && is_wide(first, second) {
+        return None;
     }
+    Some(match first {
+        b'0'..=b'9' | b'a'..=b'z' | b'A'..=b'Z' | b'_' => word_hole(bytes),
+        b'%' if matches!(second, b'a'..=b'z' | b'A'..=b'Z') => address_hole(bytes),
+        b'\'' | b'"' => text_hole(bytes, first),
+        b'{' => (closed_len(bytes, b'}'), ""),
+        _ => sign_hole(bytes, first, second),
+    })
 }
 
 /// Where bytes of a text first begin no token, by line and column.
