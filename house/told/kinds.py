@@ -10,7 +10,7 @@ for m,p in t:
     d=m-last; last=m
     b=p.rsplit('/',1)[1]
     b=re.sub(r'\.oantt$','',b)
-    k=b.rsplit('.',1)[-1] if '.' in b else b
+    d2=b.endswith('.decls'); b=re.sub(r'\.decls$','',b); k=(b.rsplit('.',1)[-1] if '.' in b else b)
     k=re.sub(r'^(Lts|Goals)-.*',r'\1',k)
     if 'Lts-' in b: k='Lts'
     if not re.match(r'^(Layout|Lts|Tie|Proof|Code|Statement|Met|Answers|Invariants|is|Goals|Mir|Kinds|Given|decls|Run|Borrows|Drops|Places)$',k): 
