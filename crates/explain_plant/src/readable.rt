@@ -1,7 +1,7 @@
 //! What of a plant's sources can be read, where a part of them can't.
 
 use explain_files::Mark;
-use explain_sources::{Part, Parts};
+use explain_sources::{ReadUnit, ReadUnits};
 use explain_trees::{Parsed, Source, Unknown, sources_of, units_of};
 use st_parser::Unit;
 use std::alloc::{AllocError, Global};
@@ -34,7 +34,7 @@ impl<'t> Readable<'t> {
         }
     }
 
-    /// All sources of a plant that are right, each as a part by itself, with their units; no units where one isn't spelled as the grammar says.
+    /// All sources of a plant that are right, each by itself, with their units; no units where one isn't spelled as the grammar says.
     pub fn of_right(
         alloc: Global,
         texts: &[(&'t str, &'t [u8])],
@@ -58,36 +58,36 @@ impl<'t> Readable<'t> {
         Ok(())
     }
 
-    /// Adds a part of the source of a number.
-    fn add_part(
+    /// Adds a unit of the source of a number.
+    fn add_unit(
         &mut self,
         number: usize,
         (name, text): (&'t str, &'t [u8]),
-        part: Part,
+        unit: ReadUnit,
     ) -> Result<(), AllocError> {
-        if part.lacks {
+        if unit.lacks {
             self.unknown.owners.push(self.units.len())?;
         }
-        self.origins.push((number, part.blurs_loops))?;
-        self.units.push(part.unit)?;
-        let tokens = part.tokens;
+        self.origins.push((number, unit.blurs_loops))?;
+        self.units.push(unit.tree)?;
+        let tokens = unit.tokens;
         self.sources.push(Source { name, text, tokens })?;
         Ok(())
     }
 
-    /// Adds the parts of the source of a number.
+    /// Adds the units of the source of a number that can be read.
     pub fn add(
         &mut self,
         number: usize,
         source: (&'t str, &'t [u8]),
-        parts: Parts,
+        units: ReadUnits,
     ) -> Result<(), AllocError> {
         let unknown = &mut self.unknown;
-        unknown.globals = unknown.globals || parts.lacks_globals;
-        unknown.blocks = unknown.blocks || parts.lacks_blocks;
-        self.add_gaps(number, parts.gaps)?;
-        for part in parts.list {
-            self.add_part(number, source, part)?;
+        unknown.globals = unknown.globals || units.lacks_globals;
+        unknown.blocks = unknown.blocks || units.lacks_blocks;
+        self.add_gaps(number, units.gaps)?;
+        for unit in units.list {
+            self.add_unit(number, source, unit)?;
         }
         Ok(())
     }
@@ -101,9 +101,9 @@ impl<'t> Readable<'t> {
         }
     }
 
-    /// The number of the source of a part, and whether it isn't certain which FORs stand around the statements of the part.
-    pub fn origin(&self, part: usize) -> (usize, bool) {
-        self.origins.get(part).copied().unwrap_or((part, true))
+    /// The number of the source of a unit, and whether it isn't certain which FORs stand around the unit's statements.
+    pub fn origin(&self, unit: usize) -> (usize, bool) {
+        self.origins.get(unit).copied().unwrap_or((unit, true))
     }
 
     /// Whether bytes of the source of a number touch those around what can't be read.

@@ -7,7 +7,7 @@ use crate::telling::{MOST_FAULTS, REFUSALS, Refused};
 use explain_bodies::{BrokenRule, Mistake, mistakes};
 use explain_files::Mark;
 use explain_limits::too_long;
-use explain_sources::{Reading, tell, ungrammatical};
+use explain_sources::{Budget, tell, ungrammatical};
 use explain_spelling::misspelled_at;
 use explain_tokens::{Cause, FileOf, Spot, byte_at, cause_of, part};
 use explain_trees::{Parsed, Unknown};
@@ -94,12 +94,12 @@ impl<'t> Refused<'t> {
         found: &mut Vec<Spot>,
     ) -> Result<(), AllocError> {
         let (causes, tokens) = (MOST_FAULTS, LEAST_TOKENS);
-        let mut left = Reading { causes, tokens };
+        let mut left = Budget { causes, tokens };
         for (number, source) in self.sources.iter().enumerate() {
             left.tokens = left.tokens.saturating_add(source.1.len());
             let told = tell(self.alloc, source.1, left)?;
             left = told.left;
-            readable.add(number, *source, told.parts)?;
+            readable.add(number, *source, told.units)?;
             add_others(FileOf::Source(number), told.causes, first, found)?;
         }
         Ok(())

@@ -144,41 +144,54 @@ fn hides_end(gap: &[u8]) -> bool {
     remark.is_some_and(|from| part(line, from, line.len()).contains(&b';'))
 }
 
-/// What is said behind a token.
-fn told(alloc: Global, place: TokenPlace<'_>) -> Result<String, AllocError> {
-    let lacks = place.lacks_end();
-    let is_alone = !lacks || is_second_kind(place) || fits("CLOSING", place.sign());
+/// What is said of a token by where it stands, or where it stands twice; empty where that says nothing.
+fn told_of(place: TokenPlace<'_>) -> &'static str {
+    let is_alone = !place.lacks_end() || is_second_kind(place) || fits("CLOSING", place.sign());
     let may_double = place.stand() != "argued" && is_alone;
-    let told = match told_by_place(place) {
+    match told_by_place(place) {
         _ if may_double && is_doubled(place, "word|KEYWORD") => "it stands here twice",
         "" if is_doubled(place, ":=|=>|:|,|.|+|*|/|=|<|>|int|literal|address") => {
             "it stands here twice"
         }
         told => told,
-    };
-    match unpaired(place) {
-        Some(open) if told.is_empty() || open.sign() == "[" || begins_call(place) => {
-            let opening = open.sign();
-            let closing = if opening == "[" { "]" } else { ")" };
-            let (line, column) = place_of(open.text, open.tokens, open.number);
-            format!(in alloc;
-                "the '{opening}' of line {line}, column {column} has no '{closing}' before it"
-            )
-        }
-        _ if told.is_empty() && lacks && hides_end(place.gap()) => {
-            let line = place.previous().line();
-            format!(in alloc;
-                "the ';' of line {line} stands in a remark, which begins with //; a quotient is written n / 2"
-            )
-        }
-        _ if told.is_empty() && lacks => {
-            let lacking = lacking_said(place);
-            let line = place.previous().line();
-            format!(in alloc; "{lacking} seems to be missing before it, in line {line}")
-        }
-        _ if told.is_empty() => String::from_str(alloc, wanted(place)),
-        _ => String::from_str(alloc, told),
     }
+}
+
+/// What is said of a parenthesis or a bracket that isn't closed before a token.
+fn unpaired_said(alloc: Global, open: TokenPlace<'_>) -> Result<String, AllocError> {
+    let opening = open.sign();
+    let closing = if opening == "[" { "]" } else { ")" };
+    let (line, column) = place_of(open.text, open.tokens, open.number);
+    format!(in alloc;
+        "the '{opening}' of line {line}, column {column} has no '{closing}' before it"
+    )
+}
+
+/// What is said where something seems to be missing before a token.
+fn missing_said(alloc: Global, place: TokenPlace<'_>) -> Result<String, AllocError> {
+    let line = place.previous().line();
+    if hides_end(place.gap()) {
+        return format!(in alloc;
+            "the ';' of line {line} stands in a remark, which begins with //; a quotient is written n / 2"
+        );
+    }
+    let lacking = lacking_said(place);
+    format!(in alloc; "{lacking} seems to be missing before it, in line {line}")
+}
+
+/// What is said behind a token.
+fn told(alloc: Global, place: TokenPlace<'_>) -> Result<String, AllocError> {
+    let told = told_of(place);
+    if let Some(open) = unpaired(place) {
+        if told.is_empty() || open.sign() == "[" || begins_call(place) {
+            return unpaired_said(alloc, open);
+        }
+    }
+    if told.is_empty() && place.lacks_end() {
+        return missing_said(alloc, place);
+    }
+    let told = if told.is_empty() { wanted(place) } else { told };
+    String::from_str(alloc, told)
 }
 
 /// What a keyword closes or parts that isn't open; empty where that is open.

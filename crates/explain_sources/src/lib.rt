@@ -5,7 +5,7 @@
 //! put in, and the unit is read anew. So each further cause stands behind the one before it, in tokens that are those of the source. Where it isn't certain how
 //! to go on, the rest of the unit isn't read. What a byte that begins no token leads to isn't told again.
 //!
-//! The units that can be read then, perhaps with something left out or put in, are kept with their trees (`Parts`), for what else is wrong in them.
+//! The units that can be read then, perhaps with something left out or put in, are kept with their trees (`ReadUnits`), for what else is wrong in them.
 //!
 //! No clause says what is told; that is tried on examples.
 //!
@@ -15,10 +15,10 @@
 mod grammar;
 mod holes;
 mod mend;
-mod parts;
+mod read_units;
 mod rules;
 mod told;
 
 pub use grammar::ungrammatical;
-pub use parts::{Part, Parts};
-pub use told::{Reading, Told, tell};
+pub use read_units::{ReadUnit, ReadUnits};
+pub use told::{Budget, ToldSource, tell};

@@ -217,26 +217,61 @@ fn past_else(place: TokenPlace<'_>) -> Mend {
     }
 }
 
+/// At a `;` that ends a value too early: without it, or with a `,` between arguments.
+fn past_early_end(place: TokenPlace<'_>) -> Option<Mend> {
+    if place.stand() == "valued" && fits("THEN|DO|OF", place.behind(1)) {
+        Some(instead(place, ""))
+    } else {
+        parts_arguments(place).then_some(instead(place, ","))
+    }
+}
+
+/// At a slip in a value or behind one: without an IF that chooses between values, or without the ELSE behind a CASE of which it is the last part.
+fn past_slip_in_value(place: TokenPlace<'_>) -> Option<Mend> {
+    let (here, previous, is_first) = (
+        place.number,
+        place.previous().number,
+        place.stand() == "value",
+    );
+    match place.sign() {
+        ";" if !is_first => past_early_end(place),
+        "IF" if is_chosen(place) => {
+            let put = if is_first { "0" } else { "" };
+            Some(with(here, place.ahead(";").number, put))
+        }
+        "ELSE" if is_first && place.before(1) == "CASE" => Some(with(previous, here, "")),
+        _ => None,
+    }
+}
+
+/// At a slip behind the end of a statement: without a keyword that closes it once more, or with the `;` for another mark.
+fn past_slip_behind(place: TokenPlace<'_>) -> Option<Mend> {
+    match place.sign() {
+        "IF" | "CASE" | "FOR" if place.behind(1) == ";" => Some(instead(place, "")),
+        "." | "," | ":" if !has_loose_end(place) => Some(instead(place, ";")),
+        _ => None,
+    }
+}
+
 /// At a token that is too many, or stands for another one, where the rest of its statement or declaration seems right: without it, or with that one.
 fn past_slip(place: TokenPlace<'_>) -> Option<Mend> {
-    let (here, previous) = (place.number, place.previous().number);
-    match (place.stand(), place.sign()) {
-        ("statement" | "head" | "declaration", "+" | "-") if is_marked(place) => Some(instead(
-            place, "",
-        )),
-        ("valued", "IF") if is_chosen(place) => Some(with(here, place.ahead(";").number, "")),
-        ("value", "IF") if is_chosen(place) => Some(with(here, place.ahead(";").number, "0")),
-        ("valued", ";") if fits("THEN|DO|OF", place.behind(1)) => Some(instead(place, "")),
-        ("value", "ELSE") if place.before(1) == "CASE" => Some(with(previous, here, "")),
-        ("label", "CASE") => Some(with(here, place.ahead("OF").next().number, "")),
-        ("declaration", ";") => Some(instead(place, "")),
-        ("ended", "IF" | "CASE" | "FOR") if place.behind(1) == ";" => Some(instead(place, "")),
-        ("ended", "." | "," | ":") if !has_loose_end(place) => Some(instead(place, ";")),
-        ("declared" | "addressed", _) if is_colon(place) => Some(instead(place, ":")),
-        ("name", sign) if fits("KIND", sign) => Some(with(previous, here, ":")),
-        ("valued" | "taken", ";") if parts_arguments(place) => Some(instead(place, ",")),
-        _ if is_second_kind(place) => Some(instead(place, "")),
+    let (here, sign) = (place.number, place.sign());
+    let mend = match place.stand() {
+        "statement" | "head" | "declaration" if fits("+|-", sign) && is_marked(place) => Some(
+            instead(place, ""),
+        ),
+        "declaration" => (sign == ";").then_some(instead(place, "")),
+        "value" | "valued" => past_slip_in_value(place),
+        "taken" if sign == ";" => past_early_end(place),
+        "label" if sign == "CASE" => Some(with(here, place.ahead("OF").next().number, "")),
+        "ended" => past_slip_behind(place),
+        "declared" | "addressed" => is_colon(place).then_some(instead(place, ":")),
+        "name" if fits("KIND", sign) => Some(with(place.previous().number, here, ":")),
         _ => None,
+    };
+    match mend {
+        None => is_second_kind(place).then_some(instead(place, "")),
+        mend => mend,
     }
 }
 
@@ -279,6 +314,33 @@ fn past_first(place: TokenPlace<'_>) -> Option<Mend> {
     }
 }
 
+/// Whether a statement that begins before a token seems to be a label.
+fn follows_label(place: TokenPlace<'_>) -> bool {
+    let is_parted = [place.sign(), place.opener()] == [":", "CASE"];
+    is_parted && begins_statement(place.next()) || is_labelling(place)
+}
+
+/// At a token between the name of a unit and its first statement: with VAR for inputs or outputs of a program, or without an END_VAR that ends nothing.
+fn past_title(place: TokenPlace<'_>) -> Option<Mend> {
+    match place.sign() {
+        "END_VAR" => Some(instead(place, "")),
+        "VAR_INPUT" | "VAR_OUTPUT" => Some(instead(place, "VAR")),
+        _ => None,
+    }
+}
+
+/// At a token outside of declarations, before which nothing is missing.
+fn past_stop(place: TokenPlace<'_>) -> Option<Mend> {
+    match place.stand() {
+        "label" | "labelled" => past_label(place),
+        "begun" if follows_label(place) => past_label(place),
+        "statement" => past_first(place),
+        "head" => past_title(place),
+        "top" | "behind" | "title" => None,
+        _ => past_inside(place),
+    }
+}
+
 /// What is left out and put in at a token with which no source can go on; `None` where that isn't certain, and nothing where no statement can be left out.
 fn mend_at(place: TokenPlace<'_>) -> Option<Mend> {
     let (here, told) = (place.number, misnomer(place));
@@ -286,22 +348,11 @@ fn mend_at(place: TokenPlace<'_>) -> Option<Mend> {
         Some((place, way, ..)) if way != "part" => return past_word(place, way),
         _ => past_slip(place),
     };
-    if certain.is_some() {
-        return certain;
-    }
-    match (place.stand(), place.sign()) {
-        _ if told.is_none() && place.lacks_end() => Some(with(here, here, missing(place))),
-        _ if place.is_declared() => past_declaration(place),
-        ("label" | "labelled", _) => past_label(place),
-        ("begun", ":") if place.opener() == "CASE" && begins_statement(place.next()) => {
-            past_label(place)
-        }
-        ("begun", _) if is_labelling(place) => past_label(place),
-        ("statement", _) => past_first(place),
-        ("head", "END_VAR") => Some(instead(place, "")),
-        ("head", "VAR_INPUT" | "VAR_OUTPUT") => Some(instead(place, "VAR")),
-        ("top" | "behind" | "head" | "title", _) => None,
-        _ => past_inside(place),
+    match certain {
+        None if told.is_none() && place.lacks_end() => Some(with(here, here, missing(place))),
+        None if place.is_declared() => past_declaration(place),
+        None => past_stop(place),
+        mend => mend,
     }
 }
 

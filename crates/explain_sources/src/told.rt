@@ -3,7 +3,7 @@
 use crate::grammar::cause_at_token;
 use crate::holes::{Lexed, tokens_with_holes};
 use crate::mend::{Mend, way_on};
-use crate::parts::Parts;
+use crate::read_units::ReadUnits;
 use explain_spelling::misspelled_at;
 use explain_tokens::{Cause, TokenPlace, fits, part, tokens_of};
 use explain_words::{misnomer, statement_start};
@@ -20,7 +20,7 @@ const AHEAD: usize = 2;
 
 /// How much is left to be told and to be read.
 #[derive(Clone, Copy, Drop)]
-pub struct Reading {
+pub struct Budget {
     /// How many causes.
     pub causes: usize,
     /// How many tokens.
@@ -80,13 +80,13 @@ fn mended(alloc: Global, tokens: &[Token], mend: Mend) -> Result<Vec<Token>, All
 
 /// What is told of a source.
 #[derive(Drop)]
-pub struct Told {
+pub struct ToldSource {
     /// What is wrong in its spelling and its grammar, in order of text.
     pub causes: Vec<Cause>,
     /// What is left to be told and to be read.
-    pub left: Reading,
-    /// What of it can be read.
-    pub parts: Parts,
+    pub left: Budget,
+    /// Its units that can be read.
+    pub units: ReadUnits,
 }
 
 /// What comes of reading the tokens of a unit once.
@@ -138,7 +138,7 @@ fn is_program(first: TokenPlace<'_>, end: TokenPlace<'_>) -> bool {
     first.sign() == "PROGRAM" && is_closed
 }
 
-impl Told {
+impl ToldSource {
     /// Tells the cause at a token.
     fn tell(&mut self, alloc: Global, place: TokenPlace<'_>) -> Result<(), AllocError> {
         self.causes.push(cause_at_token(alloc, place)?)?;
@@ -172,8 +172,8 @@ impl Told {
         gap: (usize, usize),
     ) -> Result<(), AllocError> {
         let is_blurred = mend.is_some_and(|mend| blurs_name(place, mend));
-        self.parts.lacks_blocks = self.parts.lacks_blocks || is_blurred;
-        self.parts.gaps.push(gap)?;
+        self.units.lacks_blocks = self.units.lacks_blocks || is_blurred;
+        self.units.gaps.push(gap)?;
         Ok(())
     }
 
@@ -254,7 +254,7 @@ impl Told {
             Once::Stops(number) => self.stop(alloc, lexed, draft, number),
             Once::Whole(unit) => {
                 let tokens = draft.own_tokens(alloc);
-                self.parts.keep(tokens, unit, (draft.blurs, draft.lacks))?;
+                self.units.keep(tokens, unit, (draft.blurs, draft.lacks))?;
                 Ok(Some(true))
             }
         }
@@ -267,7 +267,7 @@ impl Told {
         lexed: &Lexed<'_>,
         draft: &mut Draft,
     ) -> Result<bool, AllocError> {
-        draft.lacks = self.parts.add_holes(lexed, draft.tokens.as_slice())?;
+        draft.lacks = self.units.add_holes(lexed, draft.tokens.as_slice())?;
         for _ in 0..MOST_READINGS {
             if let Some(ends) = self.go_on(alloc, lexed, draft)? {
                 return Ok(ends);
@@ -309,10 +309,10 @@ impl Told {
                 return Ok(());
             }
             if self.left.causes == 0 {
-                self.parts.lose();
+                self.units.lose();
                 return Ok(());
             }
-            let kept = self.parts.list.len();
+            let kept = self.units.list.len();
             let end = first.next().ahead("UNIT|VAR_GLOBAL");
             let are_globals = first.sign() == "VAR_GLOBAL";
             if are_globals && has_units && is_closed {
@@ -325,8 +325,8 @@ impl Told {
                 is_closed = self.read_unit(alloc, lexed, unit, (ahead, is_closed))?;
             }
             has_units = has_units || fits("UNIT", first.sign());
-            if self.parts.list.len() == kept && !is_program(first, end) {
-                self.parts.lose();
+            if self.units.list.len() == kept && !is_program(first, end) {
+                self.units.lose();
             }
             first = end;
         }
@@ -351,7 +351,7 @@ impl Told {
     fn tell_all(&mut self, alloc: Global, lexed: &Lexed<'_>) -> Result<(), AllocError> {
         self.read_units(alloc, lexed)?;
         if lexed.is_cut {
-            self.parts.lose();
+            self.units.lose();
         }
         self.tell_holes(alloc, lexed)?;
         let start_of = |cause: &Cause| cause.mark.map_or(0, |mark| mark.0);
@@ -360,12 +360,12 @@ impl Told {
 }
 
 /// What is wrong in the spelling and the grammar of a source, as far as that is left to be told and to be read.
-pub fn tell(alloc: Global, text: &[u8], left: Reading) -> Result<Told, AllocError> {
+pub fn tell(alloc: Global, text: &[u8], left: Budget) -> Result<ToldSource, AllocError> {
     let lexed = tokens_with_holes(alloc, text)?;
-    let mut told = Told {
+    let mut told = ToldSource {
         causes: Vec::new(alloc),
         left,
-        parts: Parts::none(alloc),
+        units: ReadUnits::none(alloc),
     };
     let whole = told.tell_all(alloc, &lexed);
     drop(lexed);

@@ -7,28 +7,28 @@ use st_lexer::Token;
 use st_parser::Unit;
 use std::alloc::{AllocError, Global};
 
-/// A block, a program or a section of globals with its tree.
+/// A unit that was read, perhaps with something left out or put in: a block, a program or a section of globals, with its tree.
 #[derive(Drop)]
-pub struct Part {
+pub struct ReadUnit {
     /// Its tokens, and among them those that were put in, which have no bytes.
     pub tokens: Vec<Token>,
-    pub unit: Unit,
+    pub tree: Unit,
     /// Whether it isn't certain which FORs stand around its statements.
     pub blurs_loops: bool,
     /// Whether it may declare more than its tree has.
     pub lacks: bool,
 }
 
-/// The parts of a source that can be read, perhaps with something left out or put in.
+/// The units of a source that can be read.
 #[derive(Drop)]
-pub struct Parts {
+pub struct ReadUnits {
     /// In order of text.
-    pub list: Vec<Part>,
+    pub list: Vec<ReadUnit>,
     /// The bytes around what can't be read, each time from one number to another.
     pub gaps: Vec<(usize, usize)>,
-    /// Whether the source may have globals that no part has.
+    /// Whether the source may have globals that none of these has.
     pub lacks_globals: bool,
-    /// Whether the source may have blocks that no part has.
+    /// Whether the source may have blocks that are none of these.
     pub lacks_blocks: bool,
 }
 
@@ -38,10 +38,10 @@ fn token_at(tokens: &[Token], at: usize) -> usize {
     number.unwrap_or(tokens.len())
 }
 
-impl Parts {
-    /// No parts.
-    pub(crate) fn none(alloc: Global) -> Parts {
-        Parts {
+impl ReadUnits {
+    /// No units.
+    pub(crate) fn none(alloc: Global) -> ReadUnits {
+        ReadUnits {
             list: Vec::new(alloc),
             gaps: Vec::new(alloc),
             lacks_globals: false,
@@ -49,18 +49,18 @@ impl Parts {
         }
     }
 
-    /// Takes a part, of which it may not be certain which FORs stand around its statements, and which may lack declarations.
+    /// Takes a unit, of which it may not be certain which FORs stand around its statements, and which may lack declarations.
     pub(crate) fn keep(
         &mut self,
         tokens: Vec<Token>,
-        unit: Unit,
+        tree: Unit,
         (blurs_loops, lacks): (bool, bool),
     ) -> Result<(), AllocError> {
-        let has_globals = !unit.globals.is_empty();
+        let has_globals = !tree.globals.is_empty();
         self.lacks_globals = self.lacks_globals || lacks && has_globals;
-        self.list.push(Part {
+        self.list.push(ReadUnit {
             tokens,
-            unit,
+            tree,
             blurs_loops,
             lacks,
         })?;
