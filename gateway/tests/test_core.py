@@ -343,11 +343,12 @@ def test_how_often_a_server_is_started_again_is_counted_from_its_last_answer(
 
 def test_the_next_start_goes_on_from_the_record(config: Config) -> None:
     async def work() -> None:
-        async with served(config) as core:
+        slow = config_for(config.alarmd, config.plant, period_ms=3_600_000)  # the order is last
+        async with served(slow) as core:
             await busy(core)
             before = core.state.listing()
             stopped = core.state.stopped
-        async with served(config) as core:
+        async with served(slow) as core:
             assert core.state.listing() == before
             assert core.state.stopped == stopped
             assert core.last is not None
