@@ -5,7 +5,7 @@ R='/work/main/'
 crates=[l.split(':')[0] for l in open(R+'crates.txt') if re.match(r'\w+:',l)]
 lines={c:sum(len(open(f,errors='replace').read().split('\n')) for f in glob.glob(f'{R}crates/{c}/**/*.rt',recursive=True)) for c in crates}
 done={};edits=0
-for l in open('/work/m5.procs'):
+for l in open('/work/m6.procs'):
     w=l.split(' ',7)
     m=re.search(r'--crate-name (\w+)',l)
     if not m: continue
