@@ -75,7 +75,7 @@ impl<'t> Readable<'t> {
         Ok(())
     }
 
-    /// Adds the units of the source of a number that can be read.
+    /// Adds the units that can be read of the source of a number.
     pub fn add(
         &mut self,
         number: usize,

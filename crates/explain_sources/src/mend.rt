@@ -212,7 +212,10 @@ fn past_else(place: TokenPlace<'_>) -> Mend {
         "IF" if closed_in(place, "END_IF").is_lt() => with(here, here, "END_IF;"),
         "CASE" if closed_in(place, "END_CASE").is_lt() => with(here, here, "END_CASE;"),
         _ if is_loose && closed_in(place, "END_IF").is_gt() => instead(place, "IF TRUE THEN"),
-        _ if is_loose && closed_in(place, "END_CASE").is_gt() => instead(place, "CASE 0 OF ELSE"),
+        _ if is_loose && closed_in(place, "END_CASE").is_gt() => instead(
+            place,
+            "CASE 0 OF 0: ELSE",
+        ),
         _ => instead(place, ""),
     }
 }
