@@ -5,12 +5,14 @@ R='/work/main/'
 crates=[l.split(':')[0] for l in open(R+'crates.txt') if re.match(r'\w+:',l)]
 lines={c:sum(len(open(f,errors='replace').read().split('\n')) for f in glob.glob(f'{R}crates/{c}/**/*.rt',recursive=True)) for c in crates}
 done={};edits=0
-for l in open('/work/m6.procs'):
+best={}
+for l in open("/work/m6.procs"):
     w=l.split(' ',7)
     m=re.search(r'--crate-name (\w+)',l)
     if not m: continue
     if 'rt-edit' in l: edits+=float(w[2]); continue
-    done[m.group(1)]=done.get(m.group(1),0)+float(w[2])
+    if w[4]!='rattle': continue
+    done[m.group(1)]=max(done.get(m.group(1),0),float(w[2]))
 known=[c for c in done if c in old]
 ratio=sum(done[c] for c in known)/sum(old[c] for c in known)
 recent=list(known)[-8:]
