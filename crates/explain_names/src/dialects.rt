@@ -1,7 +1,7 @@
 //! The blocks and kinds that may be meant by a word that is none.
 
 use crate::slips::{Said, Slips, plain, question_or_nothing, with_words};
-use explain_tokens::{Nearest, said_of};
+use explain_tokens::{said_of, within_two};
 use explain_trees::{Form, Trees};
 
 /// Blocks and kinds that other dialects have, and what stands in their place.
@@ -30,34 +30,35 @@ TIMER|IEC_TIMER|FBD_TIMER a timer is an instance of TON, which delays on, or of 
 /// The kinds, and the blocks that are there from the start.
 const STANDARD: [&str; 6] = ["BOOL", "DINT", "TIME", "TON", "TOF", "R_TRIG"];
 
-/// A question for the block or kind that is meant by a word, or for two that are as near; empty where there is none.
+/// Whether a word of more than five letters is a name but for two of these.
+fn is_nearly(word: &str, name: &str) -> bool {
+    let is_long = word.len() > 5 && word.len().max(name.len()) <= 64;
+    is_long && within_two(word.as_bytes(), name.as_bytes())
+}
+
+/// A question for the block or kind that is meant by a word, or for two that are as near; where none is near for the block that it nearly is. Empty where there
+/// is none.
 fn nearest_type<'t>(plant: &Trees<'t>, word: &'t str) -> Said<'t> {
-    let mut standard = Slips::of(word);
+    let (mut slips, mut others) = (Slips::of(word), Slips::of(word));
     for name in STANDARD {
-        standard.offer(name);
+        slips.offer(name);
     }
-    let mut slips = standard;
-    let mut others = Slips::of(word);
     for entry in &plant.entries {
         if let Form::Block(_) = &entry.form {
             let name = entry.name.as_str();
             slips.offer(name);
-            if Nearest::to(word).offer(name) {
+            if is_nearly(word, name) {
                 others.keep(name);
             }
         }
     }
     let [one, other, third] = slips.near();
-    let are_timers = one == "TON" && other == "TOF" && third.is_empty();
-    let is_standard = slips.only() == standard.only();
-    if are_timers {
+    if one == "TON" && other == "TOF" && third.is_empty() {
         plain("; did you mean 'TON' or 'TOF'?")
-    } else if !slips.has_near() {
-        question_or_nothing(others.only())
-    } else if is_standard {
-        question_or_nothing(standard.likely())
-    } else {
+    } else if slips.has_near() {
         question_or_nothing(slips.likely())
+    } else {
+        question_or_nothing(others.only())
     }
 }
 

@@ -52,6 +52,18 @@ impl Wanted {
     fn is_instance(self) -> bool {
         matches!(self, Wanted::Instance | Wanted::Called)
     }
+
+    /// What is said of a variable of a kind that isn't what is wanted.
+    fn said_of_other(self, kind: Kind) -> &'static str {
+        match self {
+            Wanted::Target => "; '%' is there, and can't be assigned here",
+            Wanted::TargetOf(wanted) if wanted == kind =>
+                "; '%' is there, and can't be assigned here",
+            Wanted::Control if kind == Kind::Dint =>
+                "; '%' is there, and doesn't stand in VAR of this unit",
+            _ => "; '%' is there, and is a %",
+        }
+    }
 }
 
 /// What stands behind the name of an instance.
@@ -187,7 +199,8 @@ impl<'n> Near<'n> {
         }
         match self.sort? {
             Sort::Kind(kind) => {
-                Some(with_words("; '%' is there, and is a %", name, kind_text(*kind)))
+                let text = self.wanted.said_of_other(*kind);
+                Some(with_words(text, name, kind_text(*kind)))
             }
             Sort::Block(word) => {
                 let text = "; '%' is there, and is an instance of %";
@@ -323,10 +336,8 @@ pub fn variable_hint<'t>(
         if let Some(told) = called_for(body, name)? {
             return Ok(told);
         }
-    } else if matches!(wanted, Wanted::Instance) {
-        if let Some(told) = list_hint(body.plant, name, behind) {
-            return Ok(told);
-        }
+    } else if let Some(told) = list_hint(body.plant, name, behind) {
+        return Ok(told);
     }
     match by_uses(body, name, wanted, behind)? {
         Some(told) => Ok(told),

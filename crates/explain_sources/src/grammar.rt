@@ -34,6 +34,7 @@ fn left_open(place: TokenPlace<'_>) -> Option<TokenPlace<'_>> {
         ("declaration", _, sign) if fits("SECTION", sign) => place.before(1) == ";",
         ("declared", _, "(" | ":=") => lacks_end_var(place),
         ("statement", "IF" | "FOR", _) if parts_case(place) => true,
+        ("head", _, sign) if fits("END_PROGRAM|END_FUNCTION_BLOCK", sign) => sign != closing,
         ("statement" | "declaration", _, sign) => {
             fits("ELSE|ELSIF|UNIT|VAR_GLOBAL|CLOSING", sign) && sign != closing
         }

@@ -14,7 +14,7 @@ mod spot;
 mod tokens;
 
 pub use cause::{Cause, byte_at, cause_at, cause_of, part};
-pub use near::{Hint, Nearest, within_one};
+pub use near::{within_one, within_two};
 pub use patterns::{closing_of, fits, said_of};
 pub use place::TokenPlace;
 pub use spot::{FileOf, Spot};

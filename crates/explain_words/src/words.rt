@@ -306,9 +306,6 @@ pub fn parted_len(place: TokenPlace<'_>, keyword: &str) -> usize {
 
 /// The keyword that closes what is open, where a word begins as those do that close something; `None` where it doesn't.
 fn closing(place: TokenPlace<'_>) -> Option<Misnomer<'_>> {
-    if !same_word(part(place.word().as_bytes(), 0, 1), b"E") {
-        return None;
-    }
     let keyword = closing_of(place.opener());
     let len = parted_len(place, keyword);
     let is_end = same_word(part(place.word().as_bytes(), 0, 3), b"END") || len > 1;

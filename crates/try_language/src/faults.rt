@@ -19,6 +19,7 @@ fn number(word: &str) -> usize {
 /// The limit of a name; for another word that on areas.
 fn limit(word: &str) -> Limit {
     for limit in [
+        Limit::Text,
         Limit::Consoles,
         Limit::Turns,
         Limit::BlockDepth,
