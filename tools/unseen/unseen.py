@@ -19,10 +19,12 @@ import re
 import subprocess
 import sys
 import tempfile
+import threading
 
 TOP = os.path.dirname(os.path.dirname(os.path.dirname(os.path.abspath(__file__))))
 TABLE = re.compile(r'^const (\w+): &str = "\\\n(.*?)";', re.S | re.M)
 ESCAPE = re.compile(r'\\u\{(\w+)\}|\\(["\\])')
+ONE_AT_A_TIME = threading.Lock()
 
 
 def spelled(text):
@@ -64,12 +66,15 @@ def answers(program, given):
     """What each row is answered, by its line."""
     with tempfile.TemporaryDirectory() as folder:
         path = os.path.join(folder, "program")
-        with open(path, "wb") as file:
-            file.write(program)
-        os.chmod(path, 0o755)
-        done = subprocess.run([path], input=given, capture_output=True, timeout=600)
+        # (another program that begins while this one is written has it open too, and then it can't be begun)
+        with ONE_AT_A_TIME:
+            with open(path, "wb") as file:
+                file.write(program)
+            os.chmod(path, 0o755)
+            running = subprocess.Popen([path], stdin=subprocess.PIPE, stdout=subprocess.PIPE, stderr=subprocess.PIPE)
+        printed, _ = running.communicate(given, timeout=600)
     found, row = {}, b""
-    for line in done.stdout.split(b"\n"):
+    for line in printed.split(b"\n"):
         row = line if line.startswith(b"with ") else row
         found.setdefault(row, []).append(line)
     return found
