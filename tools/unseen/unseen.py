@@ -72,7 +72,11 @@ def answers(program, given):
                 file.write(program)
             os.chmod(path, 0o755)
             running = subprocess.Popen([path], stdin=subprocess.PIPE, stdout=subprocess.PIPE, stderr=subprocess.PIPE)
-        printed, _ = running.communicate(given, timeout=600)
+        try:
+            printed, _ = running.communicate(given, timeout=600)
+        except subprocess.TimeoutExpired:
+            running.kill()
+            raise
     found, row = {}, b""
     for line in printed.split(b"\n"):
         row = line if line.startswith(b"with ") else row
