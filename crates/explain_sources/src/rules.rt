@@ -262,7 +262,6 @@ declared _ _ a : and a kind are wanted here, as in n : DINT
 address _ _ an address is wanted here, as in pump AT %QX0.0 : BOOL
 addressed _ _ a : and a kind are wanted here, as in pump AT %QX0.0 : BOOL
 kind _ _ a kind is wanted here: BOOL, DINT, TIME or the name of a block
-array _ _ an array is declared as w : ARRAY[1..10] OF DINT
 kinded _ _ a ';', or := and an initial value, is wanted here
 statement IF _ a statement, ELSIF, ELSE or END_IF is wanted here
 statement CASE _ a statement, a label, ELSE or END_CASE is wanted here
@@ -280,7 +279,6 @@ argument _ _ the name of an argument is wanted here, as in t(IN := a, Q => b)
 argued _ _ a := or a => is wanted here, as in t(IN := a, Q => b)
 taker _ _ the name of the variable that takes the output is wanted here
 taken _ _ a ',' or a ')' is wanted here
-member _ _ the name of an output is wanted here, as in t.Q
 value _ _ a value is wanted here
 valued _ call an operator, a ',' or a ')' is wanted here
 valued _ ( an operator or a ')' is wanted here

@@ -47,6 +47,7 @@ _ _ _ => taker
 _ call _ (|, argument
 _ _ _ ,|..|OF label
 _ label _ int labelled
+CASE _ ,|..|OF|;|: - label
 _ _ _ :=|(|[|+|-|*|/|=|<>|<|>|<=|>=|& value
 _ _ _ IF|ELSIF|CASE|TO|BY|NOT|AND|OR|XOR|MOD value
 _ _ _ _ valued

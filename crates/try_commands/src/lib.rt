@@ -9,7 +9,7 @@
 //!
 //! A plant of the table is a line `plant NAME`, its files, a line `run`, and commands. Empty lines between commands are passed over.
 //! A file is a line `file NAME` and its text. Before the first such line stands the text of `p.st`; where a plant has no `plant.toml`
-//! or no `alarms.csv` of its own, the one that is built into this program stands in its place (in `src/plants.rt`). A file that is named
+//! or no `alarms.csv` of its own, the one that is built into this crate stands in its place (in `src/plants.rt`). A file that is named
 //! and isn't there prints `FILE NAME`. In place of `run` may stand:
 //!
 //! - `check`, which only reads the plant, and prints how many programs and alarms it has;

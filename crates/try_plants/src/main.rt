@@ -8,7 +8,7 @@
 //! Behind a line `== parts` the file has rows on what the parts below the server answer (try_parts), and behind a line `== language` those on texts and their
 //! trees, on the sources of plants, and on what a person is told of plants (try_language). Behind `== room` stands the script of a control room (try_room), whose
 //! consoles are in threads of their own; behind `== stations` are rows on stations with consoles in one thread (try_stations), and behind `== crews` those on who
-//! runs the programs of a scan (try_room). Each are answered behind such a line.
+//! runs the programs of a scan (try_room). Each table is answered behind such a line.
 //!
 //! Layer try_: nothing of the product stands on it.
 #![tactic(auto)]
