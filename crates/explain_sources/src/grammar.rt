@@ -3,7 +3,8 @@
 use crate::rules::{told_by_place, too_deep, wanted};
 use explain_tokens::{Cause, TokenPlace, cause_at, closing_of, fits, part, tokens_of};
 use explain_words::{
-    GRAMMAR, begins_call, closed_in, is_braced, is_second_kind, lacks_end_var, misnomer, parts_case,
+    GRAMMAR, begins_call, closed_in, is_braced, is_label, is_second_kind, lacks_end_var, misnomer,
+    parts_case,
 };
 use plant_types::same_word;
 use st_lexer::place_of;
@@ -30,6 +31,7 @@ fn left_open(place: TokenPlace<'_>) -> Option<TokenPlace<'_>> {
     let closing = closing_of(opened.sign());
     let is_left = match (place.stand(), opened.sign(), place.sign()) {
         ("statement", "IF", "ELSE" | "ELSIF") | ("statement", "CASE", "ELSE") => false,
+        ("declaration", ..) if fits(":|,", place.behind(1)) => false,
         ("declaration", _, "IF" | "CASE" | "FOR") => true,
         ("declaration", _, sign) if fits("SECTION", sign) => place.before(1) == ";",
         ("declared", _, "(" | ":=") => lacks_end_var(place),
@@ -149,9 +151,10 @@ fn hides_end(gap: &[u8]) -> bool {
 fn told_of(place: TokenPlace<'_>) -> &'static str {
     let is_alone = !place.lacks_end() || is_second_kind(place) || fits("CLOSING", place.sign());
     let may_double = place.stand() != "argued" && is_alone;
+    let is_part = place.lacks_end() && is_label(place);
     match told_by_place(place) {
         _ if may_double && is_doubled(place, "word|KEYWORD") => "it stands here twice",
-        "" if is_doubled(place, ":=|=>|:|,|.|+|*|/|=|<|>|int|literal|address") => {
+        "" if !is_part && is_doubled(place, ":=|=>|:|,|.|+|*|/|=|<|>|int|literal|address") => {
             "it stands here twice"
         }
         told => told,

@@ -3,9 +3,9 @@
 use crate::grammar::{has_nested, unopened};
 use explain_tokens::{TokenPlace, closing_of, fits, opens_section, sign_at};
 use explain_words::{
-    begins_statement, closed_in, has_else, has_loose_end, is_behind_title, is_chosen, is_colon,
-    is_in_case, is_in_line, is_label, is_labelling, is_marked, is_second_kind, lacks_end_var,
-    misnomer, next_end, parted_len, parts_arguments, parts_case, statement_start,
+    begins_statement, closed_in, has_else, has_loose_end, is_behind_cased, is_behind_title,
+    is_chosen, is_colon, is_in_case, is_in_line, is_label, is_labelling, is_marked, is_second_kind,
+    lacks_end_var, misnomer, next_end, parted_len, parts_arguments, parts_case, statement_start,
 };
 use plant_types::same_word;
 use st_lexer::Token;
@@ -229,7 +229,23 @@ fn past_early_end(place: TokenPlace<'_>) -> Option<Mend> {
     }
 }
 
-/// At a slip in a value or behind one: without an IF that chooses between values, or without the ELSE behind a CASE of which it is the last part.
+/// At a CASE in the place of a label: without it before a label, and else without the head that it begins.
+fn past_second_head(place: TokenPlace<'_>) -> Option<Mend> {
+    if is_label(place.next()) {
+        return Some(instead(place, ""));
+    }
+    let end = place.next().ahead(";|:|OF|OUTER");
+    (end.sign() == "OF").then_some(with(place.number, end.next().number, ""))
+}
+
+/// At the mark behind a label that has a CASE of its own: without that, where it stands in another one.
+fn past_cased(place: TokenPlace<'_>) -> Option<Mend> {
+    let case = place.open("CASE", "", "OUTER")?;
+    is_in_case(case).then_some(instead(case, ""))
+}
+
+/// At a slip in a value or behind one: without an IF that chooses between values, without the ELSE behind a CASE of which it is the last part, or without the
+/// CASE before a label.
 fn past_slip_in_value(place: TokenPlace<'_>) -> Option<Mend> {
     let (here, previous, is_first) = (
         place.number,
@@ -238,6 +254,7 @@ fn past_slip_in_value(place: TokenPlace<'_>) -> Option<Mend> {
     );
     match place.sign() {
         ";" if !is_first => past_early_end(place),
+        ":" | "," | ".." if is_behind_cased(place) => past_cased(place),
         "IF" if is_chosen(place) => {
             let put = if is_first { "0" } else { "" };
             Some(with(here, place.ahead(";").number, put))
@@ -266,7 +283,7 @@ fn past_slip(place: TokenPlace<'_>) -> Option<Mend> {
         "declaration" => (sign == ";").then_some(instead(place, "")),
         "value" | "valued" => past_slip_in_value(place),
         "taken" if sign == ";" => past_early_end(place),
-        "label" if sign == "CASE" => Some(with(here, place.ahead("OF").next().number, "")),
+        "label" if sign == "CASE" => past_second_head(place),
         "ended" => past_slip_behind(place),
         "declared" | "addressed" => is_colon(place).then_some(instead(place, ":")),
         "name" if fits("KIND", sign) => Some(with(place.previous().number, here, ":")),
@@ -278,11 +295,17 @@ fn past_slip(place: TokenPlace<'_>) -> Option<Mend> {
     }
 }
 
+/// At a word that can't be the name of a declaration, with a `:` or a `,` behind it: without what stands up to the next `;`.
+fn past_name(place: TokenPlace<'_>) -> Mend {
+    with(place.number, place.ahead(";").next().number, "")
+}
+
 /// At a token with which no declaration goes on: with the END of its section before a statement or another section, or else without the declaration.
 fn past_declaration(place: TokenPlace<'_>) -> Option<Mend> {
     let (here, previous) = (place.number, place.previous().number);
     match (place.stand(), place.sign()) {
         ("declared", _) if lacks_end_var(place) => Some(with(previous, previous, "END_VAR")),
+        ("declaration", _) if fits(":|,", place.behind(1)) => Some(past_name(place)),
         ("declaration", sign) if fits("IF|CASE|FOR|SECTION", sign) => Some(with(
             here, here, "END_VAR",
         )),

@@ -113,7 +113,7 @@ statement CASE _ literal : a label is a whole number alone, as in 2:
 statement CASE _ ( int a label has no parentheses, as in 2:
 statement|head _ _ int _ no number stands before a statement, but for the labels of a CASE
 statement CASE _ TRUE|FALSE : a label is a whole number, as in 2:; an IF asks for TRUE or FALSE
-statement|control|taker|member _ _ KEYWORD :|:=|, it is a keyword, and can't be a name
+statement|head|control|taker|member _ _ KEYWORD :|:=|, it is a keyword, and can't be a name
 statement _ ELSE THEN _ behind ELSE stands no THEN
 statement IF _ ELSE|ELSIF _ the IF has its ELSE already, which is its last part
 statement CASE _ ELSE _ the CASE has its ELSE already, which is its last part
@@ -175,6 +175,7 @@ member _ _ ( _ an instance is called by its name alone, as in t(IN := a);
 member _ _ int _ a bit of a number has no name
 member _ _ PART _ behind a '.' stands the name of an output, and a statement ends with a ';'
 member _ _ _ _ the name of an output is missing before it, as in t.Q
+label _ OF CASE int|- a label of a CASE stands alone, as in 2:
 label _ OF CASE _ the CASE above it has no label: does the line stand here twice?
 labelled _ _ IF|CASE|FOR _ a ':' stands behind a label, as in 2:
 labelled _ _ OR|AND|& _ labels have a ',' between them, as in 1, 2:

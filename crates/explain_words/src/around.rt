@@ -40,6 +40,17 @@ pub fn is_label(place: TokenPlace<'_>) -> bool {
     number.sign() == "int" && fits(":|,|..", number.behind(1))
 }
 
+/// Whether a label that has a CASE of its own before it stands before a token.
+pub fn is_behind_cased(place: TokenPlace<'_>) -> bool {
+    let last = place.previous();
+    let first = if last.before(1) == "-" {
+        last.previous()
+    } else {
+        last
+    };
+    first.before(1) == "CASE" && is_label(first)
+}
+
 /// Whether a comparison with a number stands behind the first word of a statement in the place of a label.
 pub fn is_labelling(place: TokenPlace<'_>) -> bool {
     let is_compared = fits("=|<|>|<=|>=|<>", place.sign());
@@ -336,7 +347,6 @@ fn word_sign(place: TokenPlace<'_>) -> &'static str {
 /// What a `,`, a `;` or a `:` behind a value is.
 fn parting_sign(place: TokenPlace<'_>) -> &'static str {
     match place.sign() {
-        ":" if [place.before(2), place.before(1)] == ["CASE", "int"] => "label",
         ";" if parts_arguments(place) => "parting",
         "," if is_free(place) && has_loose_end(place) => "beyond",
         ":" | "," if is_free(place) && begins_statement(place.next()) => "ending",
@@ -353,6 +363,7 @@ fn is_dots(place: TokenPlace<'_>) -> bool {
 /// What a token is that stands behind a value, or behind a variable that takes an output; empty where that is told by its sign.
 pub fn valued_sign(place: TokenPlace<'_>) -> &'static str {
     match place.sign() {
+        ":" | "," | ".." if is_behind_cased(place) => "label",
         ":=" => assigned_sign(place),
         "word" | "int" => word_sign(place),
         "," | ";" | ":" => parting_sign(place),

@@ -12,9 +12,9 @@ mod signs;
 mod words;
 
 pub use around::{
-    begins_call, begins_statement, closed_in, has_else, has_loose_end, is_braced, is_chosen,
-    is_colon, is_in_case, is_in_line, is_label, is_labelling, is_second_kind, is_variable,
-    lacks_end_var, next_end, parts_arguments, parts_case, statement_start,
+    begins_call, begins_statement, closed_in, has_else, has_loose_end, is_behind_cased, is_braced,
+    is_chosen, is_colon, is_in_case, is_in_line, is_label, is_labelling, is_second_kind,
+    is_variable, lacks_end_var, next_end, parts_arguments, parts_case, statement_start,
 };
 pub use signs::{is_behind_title, is_marked, told_before, told_sign};
 pub use words::{GRAMMAR, Misnomer, Said, misnomer, parted_len};
