@@ -34,7 +34,7 @@ fn left_open(place: TokenPlace<'_>) -> Option<TokenPlace<'_>> {
         ("declaration", ..) if fits(":|,", place.behind(1)) => false,
         ("declaration", _, "IF" | "CASE" | "FOR") => true,
         ("declaration", _, sign) if fits("SECTION", sign) => place.before(1) == ";",
-        ("declared", _, "(" | ":=") => lacks_end_var(place),
+        ("declared", _, "(" | "[" | ":=") => lacks_end_var(place),
         ("statement", "IF" | "FOR", _) if parts_case(place) => true,
         ("head", _, sign) if fits("END_PROGRAM|END_FUNCTION_BLOCK", sign) => sign != closing,
         ("statement" | "declaration", _, sign) => {
@@ -85,7 +85,7 @@ fn unclosed(
     let closing = closing_of(open);
     let behind = led_to(alloc, place, opened)?;
     let said = format!(in alloc; "{closing} is missing for the {open} of line {line}{behind}")?;
-    let is_behind = fits("(|:=", sign);
+    let is_behind = fits("(|[|:=", sign);
     let mark = if is_behind {
         place.previous().mark()
     } else {
@@ -98,7 +98,8 @@ fn unclosed(
 fn unpaired(place: TokenPlace<'_>) -> Option<TokenPlace<'_>> {
     let (stand, sign, is_call) = (place.stand(), place.sign(), place.within() == "call");
     let is_keyword = fits("KEYWORD", sign) && sign != "NOT";
-    let is_bound = stand == "array" && !fits("[|-", place.before(1));
+    let parts_bounds = fits(":|TO", sign) && fits("int|-", place.behind(1));
+    let is_bound = stand == "array" && !fits("[|-", place.before(1)) && !parts_bounds;
     let ends_index = is_keyword || fits(";|:=|:|)|=>", sign);
     let begins_one = [place.behind(1), place.behind(2)] == ["(", "word"]
         && fits(":=|=>", place.behind(3));

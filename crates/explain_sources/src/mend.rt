@@ -100,13 +100,19 @@ fn past_head(place: TokenPlace<'_>, head: TokenPlace<'_>) -> Option<Mend> {
     fits("THEN|DO|OF", end.sign()).then_some(mend)
 }
 
-/// At a keyword that closes something else than what is open, or nothing: with what closes that, where the unit has too few of it, or else without the keyword.
+/// At a keyword that closes something else than what is open, or nothing: with what closes that before it, or in its place where the unit has too many of it and
+/// too few of that; where nothing is open that it closes, else without it.
 fn past_keyword(place: TokenPlace<'_>) -> Option<Mend> {
     let closing = match place.opener() {
         opener @ ("IF" | "CASE" | "FOR") => closing_of(opener),
         _ => "",
     };
+    let is_other = |sign| {
+        let is_lacking = !closing.is_empty() && closed_in(place, closing).is_lt();
+        is_lacking && fits("CLOSING", sign) && closed_in(place, sign).is_gt()
+    };
     match (unopened(place), place.sign()) {
+        ("", sign) if is_other(sign) => Some(instead(place, closing)),
         ("", _) => (!closing.is_empty()).then_some(with(place.number, place.number, closing)),
         (_, "ELSIF") if closed_in(place, "END_IF").is_gt() => Some(instead(place, "IF")),
         (_, "ELSIF") if closing == "END_CASE" => {
@@ -283,6 +289,11 @@ fn past_slip(place: TokenPlace<'_>) -> Option<Mend> {
         "declaration" => (sign == ";").then_some(instead(place, "")),
         "value" | "valued" => past_slip_in_value(place),
         "taken" if sign == ";" => past_early_end(place),
+        "begun" | "assigned" if fits(";|.|:", sign) && place.behind(1) == "=" => Some(with(
+            here,
+            place.next().next().number,
+            ":=",
+        )),
         "label" if sign == "CASE" => past_second_head(place),
         "ended" => past_slip_behind(place),
         "declared" | "addressed" => is_colon(place).then_some(instead(place, ":")),

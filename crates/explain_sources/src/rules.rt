@@ -20,7 +20,7 @@ begun _ otherwise <|>|<=|>=|<>|THEN|AND|OR|XOR|. _ behind ELSE stands no conditi
 array _ ARRAY _ _ the bounds of an array stand in brackets, as in ARRAY[1..10] OF DINT
 array _ int|OF second|ARRAY _ an array has one index, and its elements are no arrays
 array _ int ] _ both bounds of an array are written, as in ARRAY[1..8] OF DINT
-array _ int - _ the bounds of an array have .. between them, as in ARRAY[1..10] OF DINT
+array _ int -|:|.|TO _ the bounds of an array have .. between them, as in ARRAY[1..10] OF DINT
 array _ int|[|..|- _ _ the bounds of an array are numbers, as in ARRAY[1..10] OF DINT
 array _ ] _ _ OF and a kind stand behind the bounds of an array, as in ARRAY[1..10] OF DINT
 array _ OF _ _ the elements of an array are BOOL, DINT or TIME
@@ -37,6 +37,11 @@ statement|head _ _ [ _ the name of an array is missing before it
 controlled _ _ [ _ an element controls no FOR: that is a variable of the unit's own
 assigned _ _ ( _ an instance is called by its name alone, and none is an element
 assigned _ _ = _ an assignment is written :=, as in w[1] := 2;
+assigned _ _ ;|. = an assignment is written :=, as in w[1] := 2;
+assigned _ _ : = an assignment is written :=, without a blank in it
+assigned _ _ => _ an assignment is written :=, and => takes an output of a call
+assigned _ _ +|- +|-|= an assignment is written out, as w[1] := w[1] + 1
+assigned _ _ *|/ = an assignment is written out, as w[1] := w[1] * 2
 _ _ _ second _ an array has one index, and its elements are no arrays
 _ _ [ ]|unopened] _ an index is missing before it, as in w[1]
 _ _ _ unopened] _ no '[' is open here
@@ -141,6 +146,7 @@ valued _ _ ; THEN|DO|OF the ';' is too many: what it ends goes on
 valued _ word ( _ there are no functions, and a call of an instance stands by itself, as t(IN := a);
 valued _ word|output . _ behind the name of an output stands no point
 valued _ _ => _ at least is written >=, and => takes an output of a call
+valued _ _ range _ an index is one value, as in w[1]: each element is read and assigned by itself
 valued _ _ .. _ the bounds of a FOR have TO between them, as in FOR i := 1 TO 8 DO
 valued _ _ := _ a statement assigns one variable, with one :=
 value _ CASE ELSE _ the last part of a CASE is ELSE alone

@@ -262,6 +262,15 @@ impl<'a> TokenPlace<'a> {
         }
     }
 
+    /// Whether an assignment seems to begin at it: a := stands behind it, or behind its index.
+    pub fn is_assigned(self) -> bool {
+        let end = self.ahead(":=|;|OUTER");
+        match self.behind(1) {
+            "[" => [end.before(1), end.sign()] == ["]", ":="],
+            behind => behind == ":=",
+        }
+    }
+
     /// Whether something seems to be missing before it: what ends a statement, the head of one, a declaration or a label.
     pub fn lacks_end(self) -> bool {
         let (sign, behind) = (self.sign(), self.behind(1));
@@ -270,7 +279,7 @@ impl<'a> TokenPlace<'a> {
             ("ended", _) => fits("PART|word|int", sign),
             ("kinded", _) => fits("PART|word", sign),
             ("labelled", _) => fits("word|;", sign),
-            ("valued", "word") => fits(":=|=>|(|[", behind) || !is_in_line,
+            ("valued", "word") => fits("=>|(", behind) || self.is_assigned() || !is_in_line,
             ("valued", "int") if self.opener() == "CASE" && fits(":|,|..", behind) => true,
             ("valued", "int") => self.lacking().0 == "OF",
             ("valued", _) => fits("PART", sign),

@@ -109,9 +109,11 @@ pub fn parts_case(place: TokenPlace<'_>) -> bool {
 pub fn lacks_end_var(place: TokenPlace<'_>) -> bool {
     let end = place.ahead("CLOSING|SECTION|UNIT|IF|CASE|FOR");
     let mut behind = (place.number..end.number).map(|number| place.at(number));
+    let is_body = place.opener() != "VAR_GLOBAL" && !behind.any(|other| other.sign() == ":");
     let may_be = match place.sign() {
         "(" => true,
-        ":=" => place.opener() != "VAR_GLOBAL" && !behind.any(|other| other.sign() == ":"),
+        ":=" => is_body,
+        "[" => is_body && place.previous().is_assigned(),
         _ => false,
     };
     may_be && end.sign() != "END_VAR"
@@ -292,7 +294,7 @@ pub fn is_joined(first: &str, second: &str, word: &str) -> bool {
 
 /// Whether a mark stands before the kind of a declaration in the place of its colon.
 pub fn is_colon(place: TokenPlace<'_>) -> bool {
-    let is_kind = fits("KIND", place.behind(1)) || is_standard(place.next());
+    let is_kind = fits("KIND|ARRAY", place.behind(1)) || is_standard(place.next());
     fits("declared|addressed", place.stand()) && fits(";|.|,|<|>|-|=", place.sign()) && is_kind
 }
 

@@ -329,6 +329,7 @@ pub fn told_sign(place: TokenPlace<'_>, stand: &str) -> &'static str {
         (")", _) if place.parenthesis().is_none() => "unopened)",
         ("]", _) if !is_index => "unopened]",
         (",", _) if is_index => "second",
+        ("..", _) if is_index => "range",
         ("int", _) if place.tokens.get(place.number).is_some_and(is_least) => "least",
         (":=", "IF" | "ELSIF") => "condition",
         (":=", head) if !head.is_empty() => "within",
