@@ -258,6 +258,9 @@ def test_a_payload_that_is_no_value_is_a_trouble_until_one_comes(
         (("a", "1"), b'{"a": [1, 2.5]}', 25),
         (("a",), b'{"a": "7"}', 70),
         (("a",), b'{"a": 1.25}', 13),
+        (("a",), b'{"a": 1.5E1}', 150),
+        (("a",), b'{"a": -5.551115123125783e-17}', 0),  # what is left of 0.1 + 0.2 - 0.3
+        (("a",), b'{"a": 2.2250738585072014e-308}', 0),
     ],
 )
 def test_payloads_are_numbers(
@@ -281,6 +284,10 @@ def test_payloads_are_numbers(
         (("a",), b'{"b": 5}'),
         (("a",), b'{"a": null}'),
         (("a",), b'{"a": 1e999}'),
+        (("a",), b'{"a": 1e999999999}'),
+        (("a",), b'{"a": 1e999999999999999999}'),
+        (("a",), b'{"a": 1e-999999999999999999}'),
+        (("a",), b'{"a": 1e99999999999999999999}'),
         (("a",), b'{"a": true}'),
         (("5",), b"[1]"),
         (("a",), b"[1]"),
@@ -291,6 +298,26 @@ def test_other_payloads_are_none(examples: Path, path: tuple[str, ...], payload:
     topic = Topic(tank(examples).inputs["level"], "t", path, Scale(), False)
     with pytest.raises(BadRaw):
         value_of(topic, payload)
+
+
+def test_a_number_beyond_all_measure_costs_no_other_input_its_samples(
+    examples: Path, broker: Broker
+) -> None:
+    async def body() -> None:
+        kept = Kept(tank(examples))
+        client = MqttClient(source(kept.plant, broker.port), kept.intake())
+        running, field = Running(client, kept), Field(broker.port)
+        try:
+            await until(lambda: client.is_up)
+            await field.publish(("tank/running", '{"value": 1e99999999999999999999}'))
+            await field.publish(("tank/level", "30"))
+            await until(lambda: kept.samples == [("level", 300)])
+            assert kept.standing() == [("source", "broker running")]
+        finally:
+            await field.close()
+            await running.close()
+
+    asyncio.run(body())
 
 
 def test_payloads_are_truths(examples: Path) -> None:
