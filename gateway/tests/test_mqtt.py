@@ -3,6 +3,7 @@
 from __future__ import annotations
 
 import asyncio
+import contextlib
 import subprocess
 from collections.abc import Iterator
 from dataclasses import replace
@@ -196,6 +197,60 @@ def test_what_is_published_while_the_gateway_is_away_comes_later(
         finally:
             await field.close()
             await running.close()
+
+    asyncio.run(body())
+
+
+class Breaking:
+    """A broker that publishes one sample with as much quality as it is asked for, and breaks the connection at the first answer."""
+
+    def __init__(self) -> None:
+        self.port = 0
+        self.connections = 0
+        self._server: asyncio.Server | None = None
+
+    async def start(self) -> None:
+        self._server = await asyncio.start_server(self._serve, "127.0.0.1", 0)
+        self.port = self._server.sockets[0].getsockname()[1]
+
+    async def _serve(self, reader: asyncio.StreamReader, writer: asyncio.StreamWriter) -> None:
+        self.connections += 1
+        first = self.connections == 1
+        with contextlib.suppress(EOFError, OSError):
+            while True:
+                kind, size = await reader.readexactly(2)
+                body = await reader.readexactly(size)
+                if kind >> 4 == 1:  # CONNECT: CONNACK, and later the PUBREL that had no answer
+                    writer.write(b"\x20\x02\x00\x00" + (b"" if first else b"\x62\x02\x00\x07"))
+                elif kind >> 4 == 8:  # SUBSCRIBE: SUBACK, and a PUBLISH
+                    quality = body[-1]
+                    writer.write(b"\x90\x04" + body[:2] + bytes([quality] * 2))
+                    message = b"\x00\x0atank/level\x00\x0731"
+                    if first:
+                        writer.write(bytes([0x30 + 2 * quality, len(message)]) + message)
+                elif first and kind >> 4 in (4, 5):  # PUBACK, PUBREC
+                    break
+        writer.close()
+
+    async def close(self) -> None:
+        assert self._server is not None
+        self._server.close()
+        await self._server.wait_closed()
+
+
+def test_a_sample_with_the_highest_quality_outlasts_a_loss(examples: Path) -> None:
+    async def body() -> None:
+        broker = Breaking()
+        await broker.start()
+        kept = Kept(tank(examples))
+        client = MqttClient(replace(source(kept.plant, broker.port), quality=2), kept.intake())
+        running = Running(client, kept)
+        try:
+            await until(lambda: broker.connections == 2 and client.is_up)
+            await until(lambda: kept.samples == [("level", 310)], 10)
+        finally:
+            await running.close()
+            await broker.close()
 
     asyncio.run(body())
 

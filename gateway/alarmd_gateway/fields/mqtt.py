@@ -21,6 +21,9 @@ from ..model import Kind, Value
 from .source import Intake, Lost, Source
 
 CONNECT_SECONDS: Final = 10.0
+MOST_QUALITY: Final = 1
+"""Of what is read: with 1 the library acknowledges a message once it was taken. With 2 it does before, and keeps the message in a memory
+that a loss of the connection, or the gateway's end, takes away."""
 NOT_GRANTED: Final = 128
 PAYLOAD_BYTES: Final = 4096
 TRUTHS: Final = {"true": True, "1": True, "on": True, "false": False, "0": False, "off": False}
@@ -150,7 +153,8 @@ class MqttClient(Source):
                 tell(str(paho.connack_string(code)))
                 return
             if self._topics:
-                client.subscribe([(topic, self._given.quality) for topic in self._topics])
+                quality = min(self._given.quality, MOST_QUALITY)
+                client.subscribe([(topic, quality) for topic in self._topics])
             tell("")
 
         def on_disconnect(client: paho.Client, _: Any, code: int) -> None:
