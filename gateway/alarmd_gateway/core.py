@@ -7,6 +7,7 @@ A display begins with a snapshot, and goes on by the changes after it, whose num
 from __future__ import annotations
 
 import asyncio
+import contextlib
 from collections import deque
 from collections.abc import Awaitable, Callable, Iterable
 
@@ -207,6 +208,12 @@ class Core:
             self._taken.clear()
             await self._taken.wait()
         self._draining = False
+
+    async def finish(self, seconds: float) -> None:
+        """Waits until scans have taken all samples that wait, at most so long. Where no scan may be sent they are left."""
+        if self.leads and self._may_scan() and len(self._queue):
+            with contextlib.suppress(asyncio.TimeoutError):
+                await asyncio.wait_for(self.drain(), seconds)
 
     def stop(self) -> None:
         """Ends `run` in order, after the command that is under way."""
