@@ -147,6 +147,8 @@ class Core:
         while self._queue.full and not self._closing:
             self._taken.clear()
             await self._taken.wait()
+            # another plant may have been taken up meanwhile
+            variable, value = commands.fit(self.plant, sample.name, sample.value)
         if self._closing:
             return
         self._queue.put(variable.name, value)
