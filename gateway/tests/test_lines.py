@@ -179,6 +179,23 @@ def test_a_bad_sample_is_a_trouble_for_a_minute(examples: Path) -> None:
     asyncio.run(body())
 
 
+def test_an_input_that_cannot_be_had_is_a_trouble_for_longer_than_a_bad_sample(
+    examples: Path,
+) -> None:
+    now = 0.0
+    kept = Kept(plants.read(examples / "tank" / "plant.toml"))
+    intake = Intake(kept, Ages({}, 0.0), lambda: now)
+    intake.bad("broker", "level", "it is no number")
+    intake.fails("broker", "level", "the broker lets nobody read it")
+    now = 61.0
+    intake.look()
+    assert kept.standing() == [("source", "broker level")]
+    intake.bad("broker", "level", "it is no number")
+    now = 122.0
+    intake.look()
+    assert not kept.standing()
+
+
 def test_tries_come_later_and_later() -> None:
     backoff = Backoff(Retry(0.5, 3.0))
     assert [backoff.wait() for _ in range(5)] == [0.5, 1.0, 2.0, 3.0, 3.0]

@@ -68,11 +68,13 @@ class Intake:
 
     def bad(self, source: str, name: str, words: str) -> None:
         """A value of an input can't be taken from this source: a trouble for a minute, unless a good one comes."""
-        self._bad[f"{source} {name}"] = self._clock()
         self.fails(source, name, words)
+        self._bad[f"{source} {name}"] = self._clock()
 
     def fails(self, source: str, name: str, words: str) -> None:
-        """An input can't be had from this source, or an output not be written there: a trouble until `good`."""
+        """An input can't be had from this source, or an output not be written there: a trouble until `good`, also where a bad value
+        came before."""
+        self._bad.pop(f"{source} {name}", None)
         self.troubles.raises(TroubleKind.SOURCE, f"{source} {name}", f"{source}: {words}")
 
     def good(self, source: str, name: str) -> None:
