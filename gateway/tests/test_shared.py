@@ -161,6 +161,30 @@ def test_who_takes_over_goes_on_from_there(alarmd: Path, tmp_path: Path) -> None
     trial(Pair(alarmd, tmp_path, tank), work)
 
 
+def test_an_old_sample_is_none_where_the_log_has_a_newer_one(
+    alarmd: Path, tmp_path: Path, monkeypatch: pytest.MonkeyPatch
+) -> None:
+    monkeypatch.setattr(shared, "OLDER", 0.5)
+
+    async def work(pair: Pair) -> None:
+        a = await pair.join("a")
+        await until(lambda: a.leads, "a leads")
+        b = await pair.join("b")
+        for core in (a, b):
+            await give(core, running=True, level=250, flow=100)
+        await until(lambda: b.state.inputs["level"] == 250, "the sample of both")
+        await asyncio.sleep(1)
+        await give(a, level=950)  # of its own field alone
+        await until(lambda: b.state.inputs["level"] == 950, "the sample, by the log")
+        await give(b, flow=90)
+        await pair.served[0].close()
+        await until(lambda: b.leads, "b leads")
+        await until(lambda: b.state.inputs["flow"] == 90, "its own sample, which is newer")
+        assert b.state.inputs["level"] == 950
+
+    trial(Pair(alarmd, tmp_path, tank), work)
+
+
 def test_no_answer_of_etcd(alarmd: Path, tmp_path: Path, monkeypatch: pytest.MonkeyPatch) -> None:
     monkeypatch.setattr(shared, "ORDER", 1.0)
     monkeypatch.setattr(log_watch, "SILENT", 0.5)
