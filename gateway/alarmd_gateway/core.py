@@ -157,8 +157,8 @@ class Core:
 
     @property
     def has_room(self) -> bool:
-        """Whether `offer` takes a sample without waiting."""
-        return not self._queue.full
+        """Whether `offer` takes a sample of each input without waiting: they want a scan of their own at most, and room is left."""
+        return self._queue.room > 1
 
     def subscribe(self, room: int = 1000) -> Subscription:
         """The changes from now on. Make it before the snapshot, and pass over changes up to the snapshot's number."""
