@@ -66,7 +66,11 @@ class SharedOrders:
     async def append_request(self, request: Marked) -> bool:
         """An order that another gateway has handed on. Says whether this one may go on: else it was withdrawn, or another gateway
         leads. Raises Deposed where it isn't known whether it is in the log."""
-        request = await self._log.entries.asked(request)
+        try:
+            request = await self._log.entries.asked(request)
+        except GatewayFault:  # who gave it has gone meanwhile, and its texts went with the lease
+            await self._log.drop(request.mark)
+            return True
         plant = self._link.plant
         found = commands.read(plant, request.entry.line, request.entry.body)
         order = await prepared(plant.path, found)
