@@ -114,12 +114,20 @@ class SharedCore(Core):
         done, _ = await asyncio.wait({asked}, timeout=patience)
         if done:
             return asked.result()
-        waiting = next((job for job in self._jobs if job.command is command), None)
-        if waiting is not None:
-            self._jobs.remove(waiting)
+        taken_back = await self._taken_back(command)
+        if asked.done():
+            return asked.result()
         asked.cancel()
         words = f"the order wasn't taken: {self._watching.words()}"
-        raise ServerGone(UNKNOWN if waiting is None else words, 1)
+        raise ServerGone(words if taken_back else UNKNOWN, 1)
+
+    async def _taken_back(self, command: Command) -> bool:
+        """Whether an order without an answer is surely not taken, now or later: it waits here, or for the leader, and no longer does."""
+        waiting = next((job for job in self._jobs if job.command is command), None)
+        if waiting is None:
+            return await self._orders.withdraw(command)
+        self._jobs.remove(waiting)
+        return True
 
     async def offer(self, sample: Sample) -> None:
         """See Core. While another gateway leads, the last sample of each input is kept, for when this one does, unless the log has a

@@ -12,7 +12,7 @@ from . import commands
 from .away import Away
 from .commands import Command, Reload, Scan
 from .jobs import Job, fail
-from .etcd import EtcdRefused
+from .etcd import EtcdRefused, NoEtcd
 from .etcd_log import EtcdLog
 from .link import Link, NoReload, entry_of, prepared
 from .log_view import Marked
@@ -97,6 +97,16 @@ class SharedOrders:
             raise
         self.away.answer(mark, answer)
         self._tell(order, answer, happened)
+
+    async def withdraw(self, command: Command) -> bool:
+        """Takes back an order that was handed on and that the leader hasn't taken yet. Says whether that is so."""
+        mark = self.away.mark_of(command)
+        if mark is None:
+            return False
+        try:
+            return await self._log.withdraw(mark)
+        except (NoEtcd, EtcdRefused):
+            return False
 
     async def hand_on(self, lease: str | None) -> None:
         """Hands the orders that were given here on to the leader. Raises NoEtcd, EtcdRefused."""

@@ -399,6 +399,41 @@ def test_an_order_whose_lease_has_ended_is_handed_on_with_the_next(
     trial(Pair(alarmd, tmp_path, tank), work)
 
 
+def test_an_order_without_an_answer_is_not_taken_later(
+    alarmd: Path, tmp_path: Path, monkeypatch: pytest.MonkeyPatch
+) -> None:
+    """As where the leader's server plays the record anew, for longer than somebody waits."""
+    monkeypatch.setattr(shared, "ORDER", 1.0)
+
+    async def work(pair: Pair) -> None:
+        a = await pair.join("a")
+        await until(lambda: a.leads, "a leads")
+        b = await pair.join("b")
+        await give(a, running=True, level=250, flow=100)
+        await until(lambda: b.state.by_tag["LAL-101"].code is Code.UNACK, "the alarm")
+        gate, waiting = asyncio.Event(), asyncio.Event()
+
+        async def held(moment: int) -> None:
+            waiting.set()
+            await gate.wait()
+
+        a.before_scan = held
+        await waiting.wait()
+        try:
+            with pytest.raises(ServerGone) as told:
+                await b.order(Order(Verb.ACK, 1, "LAL-101"), "bert", "seen")
+        finally:
+            a.before_scan = None
+            gate.set()
+        assert "wasn't taken" in told.value.words
+        events = b.state.events
+        await until(lambda: b.state.events > events + 3, "scans go on")
+        assert b.state.by_tag["LAL-101"].code is Code.UNACK
+        assert (await b.order(Order(Verb.ACK, 1, "LAL-101"), "bert", "seen")).code == "OK"
+
+    trial(Pair(alarmd, tmp_path, tank), work)
+
+
 def test_who_waits_for_an_order_is_told_where_the_gateway_ends(
     alarmd: Path, tmp_path: Path, monkeypatch: pytest.MonkeyPatch
 ) -> None:
