@@ -266,6 +266,8 @@ class EtcdLog:
         try:
             await fresh.write(number, entries)
         except (NoEtcd, EtcdRefused) as fault:
+            if self.leads_since is None:
+                raise Deposed("", True) from None
             raise GatewayFault(f"etcd: {fault}", 1) from None
         fields = {"record": number, "log": log, "entries": len(entries)}
         compare = [*fresh.holds, etcd.modified(self.keys.last, known.revision)]

@@ -4,7 +4,7 @@ from __future__ import annotations
 
 import asyncio
 import contextlib
-from collections.abc import Awaitable, Callable
+from collections.abc import Awaitable, Callable, Sequence
 from pathlib import Path
 
 import pytest
@@ -12,11 +12,11 @@ from around import config_for, plant_copy, until, without_programs
 from core_help import Served
 from fake_etcd import FakeEtcd
 
-from alarmd_gateway import etcd_log, log_watch, shared
+from alarmd_gateway import etcd_log, log_watch, new_record, shared, transactions
 from alarmd_gateway.etcd import NoEtcd
 from alarmd_gateway.log_view import Last, Marked
 from alarmd_gateway.metrics import Metrics
-from alarmd_gateway.model import Code, Order, Sample, ServerGone, Verb
+from alarmd_gateway.model import Code, Order, Plant, Sample, ServerGone, Verb
 from alarmd_gateway.record import Entry
 from alarmd_gateway.shared import SharedCore
 from alarmd_gateway.shared_config import SharedConfig
@@ -268,6 +268,34 @@ def test_a_new_record_for_both(alarmd: Path, tmp_path: Path) -> None:
         assert b.state.by_tag["T1"].code is Code.OOS and b.state.by_tag["T1"].reason == "mended"
         first = [(tmp_path / name / "record.1").read_bytes() for name in "ab"]
         assert first[0] == first[1]
+
+    trial(Pair(alarmd, tmp_path, without_programs, rotate_at=20), work)
+
+
+def test_a_new_record_that_a_silent_etcd_has_ended_is_no_trouble_of_who_follows(
+    alarmd: Path, tmp_path: Path, monkeypatch: pytest.MonkeyPatch
+) -> None:
+    monkeypatch.setattr(log_watch, "SILENT", 0.5)
+    monkeypatch.setattr(transactions, "PATIENCE", 1.5)
+
+    async def work(pair: Pair) -> None:
+        a = await pair.join("a")
+        await until(lambda: a.leads, "a leads")
+        succeed = a._log.succeed
+
+        async def silent(entries: Sequence[Entry], plant: Plant | None = None) -> str:
+            pair.etcd.before = {len(entries) // new_record.BLOCK + 4: deafen}
+            return await succeed(entries, plant)
+
+        def deafen() -> None:
+            pair.etcd.deaf = 10**9
+
+        monkeypatch.setattr(a._log, "succeed", silent)
+        await give(a, a=5)
+        await until(lambda: pair.etcd.deaf, "silence while a new record is begun")
+        await until(lambda: not a.leads, "it leads no more")
+        await asyncio.sleep(2)
+        assert [one.kind for one in a.troubles if one.kind is TroubleKind.RECORD] == []
 
     trial(Pair(alarmd, tmp_path, without_programs, rotate_at=20), work)
 
