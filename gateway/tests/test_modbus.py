@@ -3,6 +3,8 @@
 from __future__ import annotations
 
 import asyncio
+import contextlib
+import struct
 import subprocess
 import sys
 from collections.abc import Iterator
@@ -203,3 +205,60 @@ def test_a_request_has_at_most_125_registers_and_2000_bits(examples: Path) -> No
     assert [(it.address, it.length) for it in blocks(words)] == [(0, 124), (124, 124), (248, 52)]
     bits = [point(plant.inputs["running"], Area.COIL, at) for at in range(2001)]
     assert [(it.address, it.length) for it in blocks(bits)] == [(0, 2000), (2000, 1)]
+
+
+class Late:
+    """A device behind a gateway of a serial line, which once says that it has no answer (exception 11), and has it a little later. What
+    stands in a register is its address."""
+
+    def __init__(self) -> None:
+        self.port = 0
+        self.requests = 0
+        self._server: asyncio.Server | None = None
+
+    async def start(self) -> None:
+        self._server = await asyncio.start_server(self._serve, "127.0.0.1", 0)
+        self.port = self._server.sockets[0].getsockname()[1]
+
+    async def _serve(self, reader: asyncio.StreamReader, writer: asyncio.StreamWriter) -> None:
+        with contextlib.suppress(EOFError, OSError):
+            while True:
+                number, _, size, unit = struct.unpack(">HHHB", await reader.readexactly(7))
+                function, address, count = struct.unpack(">BHH", await reader.readexactly(size - 1))
+                self.requests += 1
+                values = struct.pack(f">{count}H", *range(address, address + count))
+                answers = [bytes([function, len(values)]) + values]
+                if self.requests == 5:
+                    answers.insert(0, bytes([function | 0x80, 11]))
+                for answer in answers:
+                    head = struct.pack(">HHHB", number, 0, len(answer) + 1, unit)
+                    writer.write(head + answer)
+                    await writer.drain()
+        writer.close()
+
+    async def close(self) -> None:
+        assert self._server is not None
+        self._server.close()
+        await self._server.wait_closed()
+
+
+def test_an_answer_that_comes_late_is_taken_for_no_other(examples: Path) -> None:
+    async def body() -> None:
+        device = Late()
+        await device.start()
+        plant = plants.read(examples / "tank" / "plant.toml")
+        kept = Kept(plant)
+        level, flow = (
+            point(plant.inputs[name], Area.HOLDING, at)
+            for name, at in (("level", 10), ("flow", 50))
+        )
+        given = replace(source(plant, device.port), inputs=(level, flow), outputs=())
+        running = Running(ModbusClient(given, kept.intake()), kept)
+        try:
+            await until(lambda: device.requests > 20 and not kept.standing())
+            assert set(kept.samples) == {("level", 10), ("flow", 50)}
+        finally:
+            await running.close()
+            await device.close()
+
+    asyncio.run(body())

@@ -107,6 +107,9 @@ class Device:
             raise Lost(f"{what}: {fault}") from None
         if isinstance(answer, Exception):
             raise Lost(f"{what}: {answer}")
+        if answer.transaction_id != self._client.transaction.tid:
+            # it came late, and so would all that follow; the library takes each for what was asked last
+            raise Lost(f"{what}: the device answers another request")
         if answer.isError():
             raise Refusal(f"{what}: the device answers exception {answer.exception_code}")
         return answer
