@@ -27,7 +27,7 @@ PARTS: tuple[str, ...] = ("field", "simulate", "web")
 """The modules of the parts. Each has `async attach(core, config) -> Part | None`, None where its table isn't there."""
 
 LAST_SECONDS: Final = 10.0
-"""For so long, at the most, scans take what sources have brought before the end."""
+"""For so long, at the most, sources end, and scans take what they have brought, before the end."""
 
 
 class Part(Protocol):
@@ -120,10 +120,12 @@ class _Serving:
             tasks.append(stopping)
             await asyncio.wait({working, stopping}, return_when=asyncio.FIRST_COMPLETED)
         finally:
-            await self._end_sources()
+            ending = asyncio.create_task(self._end_sources())
+            await asyncio.wait({ending}, timeout=LAST_SECONDS)
             self._core.stop()
             await self._reloading.close()
             await asyncio.wait({working})
+            await ending  # a source that waited for room does so no more
             for part in self._parts:
                 await part.close()
             await asyncio.wait({showing}, timeout=2)

@@ -4,6 +4,8 @@ from __future__ import annotations
 
 import asyncio
 import contextlib
+import os
+import signal
 import subprocess
 from collections.abc import Iterator
 from dataclasses import replace
@@ -14,10 +16,15 @@ from typing import Any
 import paho.mqtt.client as paho
 import pytest
 
+from alarmd_gateway import config as configs
+from alarmd_gateway import core, serve
 from alarmd_gateway import plant as plants
+from alarmd_gateway.fields import mqtt
 from alarmd_gateway.fields.mqtt import MqttClient, value_of
 from alarmd_gateway.mapping import BadRaw, MqttSource, Retry, Scale, Topic
-from alarmd_gateway.model import Plant
+from alarmd_gateway.model import Plant, Value
+from alarmd_gateway.samples import SampleQueue
+from around import config_file, plant_copy
 from field_help import Kept, Running, free_port, until
 
 
@@ -251,6 +258,44 @@ def test_a_sample_with_the_highest_quality_outlasts_a_loss(examples: Path) -> No
         finally:
             await running.close()
             await broker.close()
+
+    asyncio.run(body())
+
+
+@pytest.mark.server
+def test_the_end_does_not_wait_for_room(
+    alarmd: Path, tmp_path: Path, broker: Broker, monkeypatch: pytest.MonkeyPatch
+) -> None:
+    """Where nothing is scanned, as before an answer to the question of the first moment, and samples wait for as many scans as may be."""
+    monkeypatch.setattr(core, "SampleQueue", lambda: SampleQueue(3))
+    monkeypatch.setattr(serve, "LAST_SECONDS", 0.5)
+    path = config_file(alarmd, plant_copy("tank", tmp_path, "2090-01-01T00:00:00Z"))
+    table = f'name = "broker"\nhost = "127.0.0.1"\nport = {broker.port}\n'
+    one = '[[mqtt.input]]\ninput = "level"\ntopic = "tank/level"\n'
+    (tmp_path / "map.toml").write_text(f"[[mqtt]]\n{table}{one}")
+    tables = f'[fields]\nmap = "map.toml"\n[web]\nlisten = "127.0.0.1:{free_port()}"\n'
+    path.write_text(path.read_text() + tables)
+
+    async def body() -> None:
+        taken: list[bytes] = []
+
+        def noted(topic: Topic, payload: bytes) -> Value:
+            taken.append(payload)
+            return value_of(topic, payload)
+
+        monkeypatch.setattr(mqtt, "value_of", noted)
+        serving, field = asyncio.create_task(serve.serve(configs.read(path))), Field(broker.port)
+        try:
+            for number in range(10_000):
+                await field.publish(("tank/level", str(number)))
+                if len(taken) == 4:
+                    break
+                await asyncio.sleep(0.01)
+            os.kill(os.getpid(), signal.SIGTERM)
+            done, _ = await asyncio.wait({serving}, timeout=30)
+            assert done
+        finally:
+            await field.close()
 
     asyncio.run(body())
 
