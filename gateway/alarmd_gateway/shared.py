@@ -256,7 +256,8 @@ class SharedCore(Core):
         tell(f"{self._name} leads no more")
         for subject in ("clock", "record"):
             self._questions.withdraw(subject)
-        self.troubles.clear(TroubleKind.RECORD, "")
+        for kind in (TroubleKind.RECORD, TroubleKind.CLOCK):  # of these tells who leads
+            self.troubles.clear(kind, "")
         self._queue = SampleQueue()
         self._taken.set()
 

@@ -300,6 +300,33 @@ def test_a_new_record_that_a_silent_etcd_has_ended_is_no_trouble_of_who_follows(
     trial(Pair(alarmd, tmp_path, without_programs, rotate_at=20), work)
 
 
+def test_a_clock_that_differs_is_no_trouble_of_who_leads_no_more(
+    alarmd: Path, tmp_path: Path, monkeypatch: pytest.MonkeyPatch
+) -> None:
+    def clock(core: SharedCore) -> bool:
+        return any(one.kind is TroubleKind.CLOCK for one in core.troubles)
+
+    async def work(pair: Pair) -> None:
+        a = await pair.join("a")
+        await until(lambda: a.leads, "a leads")
+        b = await pair.join("b")
+        await give(a, running=True, level=250, flow=100)
+        await until(lambda: a.state.scanned, "a scan")
+        monkeypatch.setattr(a._clock, "drift_ms", lambda: 20_000)
+        await until(lambda: clock(a), "the trouble")
+        a._candidate.lease, lease = None, a._candidate.lease
+        assert lease is not None
+        monkeypatch.setattr(a._candidate, "stand", no_stand)
+        pair.etcd.end(lease)
+        await until(lambda: b.leads and not a.leads, "b leads")
+        assert not clock(a)
+
+    async def no_stand() -> None:
+        """It doesn't lead again."""
+
+    trial(Pair(alarmd, tmp_path, tank), work)
+
+
 def test_what_is_too_old_goes_beside_the_work(
     alarmd: Path, tmp_path: Path, monkeypatch: pytest.MonkeyPatch
 ) -> None:
