@@ -142,7 +142,7 @@ class Core:
         """Takes a sample of an input; waits while too many wait. Raises BadSample where its name or its value doesn't fit the
         plant; the text says why."""
         variable, value = commands.fit(self.plant, sample.name, sample.value)
-        if self.sampled is not None:
+        if self.sampled is not None and sample.fresh:
             self.sampled(variable.name)
         while self._queue.full and not self._closing:
             self._taken.clear()

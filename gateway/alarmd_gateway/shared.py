@@ -136,7 +136,7 @@ class SharedCore(Core):
         self._latest.put(variable.name, value)
         if self.leads:
             await super().offer(sample)
-        elif self.sampled is not None:
+        elif self.sampled is not None and sample.fresh:
             self.sampled(variable.name)
 
     def snapshot(self) -> Snapshot:

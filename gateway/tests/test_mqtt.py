@@ -300,6 +300,27 @@ def test_the_end_does_not_wait_for_room(
     asyncio.run(body())
 
 
+def test_what_the_broker_has_kept_is_no_fresh_sample(examples: Path, broker: Broker) -> None:
+    async def body() -> None:
+        kept = Kept(tank(examples))
+        field = Field(broker.port)
+        await until(field._client.is_connected)
+        info = field._client.publish("tank/level", "1", 1, retain=True)
+        await until(info.is_published)
+        client = MqttClient(source(kept.plant, broker.port), kept.intake())
+        running = Running(client, kept)
+        try:
+            await until(lambda: kept.samples == [("level", 10)])
+            await field.publish(("tank/level", "2"))
+            await until(lambda: kept.samples[-1] == ("level", 20))
+            assert kept.kept == [("level", 10)]
+        finally:
+            await field.close()
+            await running.close()
+
+    asyncio.run(body())
+
+
 def test_a_broker_that_is_not_there_is_a_trouble(examples: Path) -> None:
     async def body() -> None:
         kept = Kept(tank(examples))

@@ -161,7 +161,7 @@ class MqttClient(Source):
             tell(f"the connection has ended: {paho.error_string(code)}")
 
         def on_message(client: paho.Client, _: Any, message: paho.MQTTMessage) -> None:
-            taking = self._take(message.topic, bytes(message.payload))
+            taking = self._take(message.topic, bytes(message.payload), not message.retain)
             try:
                 asyncio.run_coroutine_threadsafe(taking, loop).result()
             except Exception as fault:  # the core doesn't take it now
@@ -184,12 +184,13 @@ class MqttClient(Source):
                 else:
                     self.intake.good(self.name, topic.variable.name)
 
-    async def _take(self, name: str, payload: bytes) -> None:
-        """Takes a message; the next one isn't read before. A topic of an earlier map, which the broker remembers, has no input."""
+    async def _take(self, name: str, payload: bytes, fresh: bool) -> None:
+        """Takes a message; the next one isn't read before. A topic of an earlier map, which the broker remembers, has no input. One
+        that isn't fresh is what the broker had kept when it was reached."""
         for topic in self._topics.get(name, []):
             try:
                 value = value_of(topic, payload)
             except BadRaw as fault:
                 self.intake.bad(self.name, topic.variable.name, str(fault))
                 continue
-            await self.intake.give(self.name, topic.variable.name, value)
+            await self.intake.give(self.name, topic.variable.name, value, fresh)

@@ -48,14 +48,16 @@ class Intake:
         self._clock = clock
         self._bad: dict[str, float] = {}  # when the last bad sample came, by the trouble's subject
 
-    async def give(self, source: str, name: str, value: Value | str) -> str | None:
+    async def give(
+        self, source: str, name: str, value: Value | str, fresh: bool = True
+    ) -> str | None:
         """Gives a sample. Returns why it isn't taken, where it isn't."""
         variable = self.taker.plant.inputs.get(name.lower())
         known = (
             UNKNOWN if variable is None else variable.name
         )  # one trouble for all names that are none
         try:
-            await self.taker.offer(Sample(name, value, source))
+            await self.taker.offer(Sample(name, value, source, fresh))
         except BadSample as fault:
             self.bad(source, known, str(fault))
             return str(fault)
