@@ -2,6 +2,7 @@
 
 from __future__ import annotations
 
+from .commands import Command
 from .jobs import Job, reply
 from .model import ServerGone
 
@@ -17,6 +18,10 @@ class Away:
     def add(self, mark: str, job: Job) -> None:
         """This order may be in the log from now on."""
         self._jobs[mark] = job
+
+    def mark_of(self, command: Command) -> str | None:
+        """The mark of the order that is this very one; None where it is none of these."""
+        return next((mark for mark, job in self._jobs.items() if job.command is command), None)
 
     def drop(self, mark: str) -> None:
         """It is known that it isn't."""

@@ -7,6 +7,7 @@ A display begins with a snapshot, and goes on by the changes after it, whose num
 from __future__ import annotations
 
 import asyncio
+import contextlib
 from collections import deque
 from collections.abc import Awaitable, Callable, Iterable
 
@@ -141,11 +142,13 @@ class Core:
         """Takes a sample of an input; waits while too many wait. Raises BadSample where its name or its value doesn't fit the
         plant; the text says why."""
         variable, value = commands.fit(self.plant, sample.name, sample.value)
-        if self.sampled is not None:
+        if self.sampled is not None and sample.fresh:
             self.sampled(variable.name)
         while self._queue.full and not self._closing:
             self._taken.clear()
             await self._taken.wait()
+            # another plant may have been taken up meanwhile
+            variable, value = commands.fit(self.plant, sample.name, sample.value)
         if self._closing:
             return
         self._queue.put(variable.name, value)
@@ -154,8 +157,8 @@ class Core:
 
     @property
     def has_room(self) -> bool:
-        """Whether `offer` takes a sample without waiting."""
-        return not self._queue.full
+        """Whether `offer` takes a sample of each input without waiting: they want a scan of their own at most, and room is left."""
+        return self._queue.room > 1
 
     def subscribe(self, room: int = 1000) -> Subscription:
         """The changes from now on. Make it before the snapshot, and pass over changes up to the snapshot's number."""
@@ -207,6 +210,12 @@ class Core:
             self._taken.clear()
             await self._taken.wait()
         self._draining = False
+
+    async def finish(self, seconds: float) -> None:
+        """Waits until scans have taken all samples that wait, at most so long. Where no scan may be sent they are left."""
+        if self.leads and self._may_scan() and len(self._queue):
+            with contextlib.suppress(asyncio.TimeoutError):
+                await asyncio.wait_for(self.drain(), seconds)
 
     def stop(self) -> None:
         """Ends `run` in order, after the command that is under way."""

@@ -236,6 +236,12 @@ class EtcdLog:
         words = etcd.transaction([], [value])
         await self.asks.etcd.post(TXN, words, once=True)  # never twice
 
+    async def withdraw(self, mark: str) -> bool:
+        """Takes a request away that waits for the leader; says whether it did. Raises NoEtcd, EtcdRefused."""
+        key, texts = self.keys.requests + mark, self.keys.asked(mark)
+        gone = [etcd.delete(key), etcd.delete(texts, etcd.after(texts))]
+        return etcd.held(await self.asks.ask([etcd.present(key)], gone))
+
     async def drop(self, mark: str) -> None:
         """Takes a request away that is no order. Raises NoEtcd."""
         await self.asks.ask([], [etcd.delete(self.keys.requests + mark)])
@@ -260,6 +266,8 @@ class EtcdLog:
         try:
             await fresh.write(number, entries)
         except (NoEtcd, EtcdRefused) as fault:
+            if self.leads_since is None:
+                raise Deposed("", True) from None
             raise GatewayFault(f"etcd: {fault}", 1) from None
         fields = {"record": number, "log": log, "entries": len(entries)}
         compare = [*fresh.holds, etcd.modified(self.keys.last, known.revision)]

@@ -26,6 +26,7 @@ class Field:
     """The sources run from the start until `close`."""
 
     asks = False
+    brings = True
 
     def __init__(self, core: Core, map: Map) -> None:
         self._core = core

@@ -199,11 +199,13 @@ REPLIES: Final = {
 
 @dataclass(frozen=True)
 class Sample:
-    """A value of an input, as a source brings it. `source` names who brought it, for troubles."""
+    """A value of an input, as a source brings it. `source` names who brought it, for troubles. One that isn't `fresh` was kept
+    somewhere: it doesn't show that more come."""
 
     name: str
     value: Value | str
     source: str
+    fresh: bool = True
 
 
 class BadSample(ValueError):

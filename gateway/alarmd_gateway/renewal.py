@@ -9,6 +9,7 @@ from .link import Link, tell
 from .model import GatewayFault
 from .questions import Answer, Questions
 from .record import Unsure
+from .transactions import Deposed
 from .troubles import TroubleKind
 
 _SUBJECT = "record"
@@ -48,7 +49,8 @@ class Renewal:
 
     async def _begin(self, answer: Answer | None) -> None:
         """Tries the new run. It becomes the run where it loses nothing grave that wasn't announced and confirmed; else that is
-        asked. Where it can't be tried or recorded, the old run goes on, and that is a trouble. Raises Unsure.
+        asked. Where it can't be tried or recorded, the old run goes on, and that is a trouble. Raises Unsure, and Deposed where another
+        gateway may lead by now: which run goes on is seen by the log.
         """
         state, now = self._link.book.state, self._clock.now()
         try:
@@ -66,7 +68,7 @@ class Renewal:
             kept = await self._link.renew(trial.server, trial.book, entries, plant)
         except GatewayFault as fault:
             await trial.server.kill()
-            if isinstance(fault, Unsure):
+            if isinstance(fault, Unsure | Deposed):
                 raise
             self._failed(fault)
             return

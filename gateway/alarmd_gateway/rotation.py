@@ -5,8 +5,10 @@ The new run is tried on a second server before anything is lost, so what is anno
 
 from __future__ import annotations
 
+import time
 from collections.abc import Callable, Iterator
 from dataclasses import dataclass
+from typing import Final
 
 from .commands import Scan, spelled
 from .config import Config
@@ -17,6 +19,9 @@ from .questions import Answer
 from .record import Entry
 from .server import Server
 from .state import AlarmState, State
+
+AGAIN: Final = 10.0
+"""Seconds until a new record is asked for again where the history is full, and so no event comes any more."""
 
 
 @dataclass(frozen=True)
@@ -111,14 +116,17 @@ def remark(answer: Answer | None) -> Entry:
 class Due:
     """When a new record is due, and when it is asked for again after an operator has declined it."""
 
-    def __init__(self, rotate_at: int) -> None:
+    def __init__(self, rotate_at: int, clock: Callable[[], float] = time.monotonic) -> None:
+        """`clock` gives seconds."""
         self._rotate_at = rotate_at
         self._step = max(1, (MOST_EVENTS - rotate_at) // 10)
         self._next = rotate_at
+        self._clock = clock
+        self._not_before = clock()
 
     def now(self, events: int) -> bool:
         """Whether it is to be asked for."""
-        return events >= self._next
+        return events >= self._next and self._clock() >= self._not_before
 
     def words(self, events: int) -> str | None:
         """The trouble of a history that is nearly full; None where it isn't. Its text changes seldom."""
@@ -130,8 +138,11 @@ class Due:
         return f"the history has {counted:,} of {MOST_EVENTS:,} events: a new record is due"
 
     def declined(self, events: int) -> None:
-        """It is asked for again after a tenth of what was left when it became due."""
-        self._next = events + self._step
+        """It is asked for again after a tenth of what was left when it became due, and once the history is full at the latest; where
+        it is full, after a while."""
+        self._next = min(events + self._step, MOST_EVENTS)
+        if events >= MOST_EVENTS:
+            self._not_before = self._clock() + AGAIN
 
     def begun(self) -> None:
         """A new record has begun."""

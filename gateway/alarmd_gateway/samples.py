@@ -55,9 +55,14 @@ class SampleQueue:
         return len(self._scans) > 1
 
     @property
+    def room(self) -> int:
+        """For how many scans more samples may wait."""
+        return self._room - len(self._scans)
+
+    @property
     def full(self) -> bool:
         """Whether a value that wants a scan of its own has no room."""
-        return len(self._scans) >= self._room
+        return self.room <= 0
 
     def refitted(self, fit: Callable[[str, Value], tuple[str, Value] | None]) -> SampleQueue:
         """The same samples, as they fit another plant; those that don't are left out."""

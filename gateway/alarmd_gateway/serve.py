@@ -9,7 +9,7 @@ import importlib
 import os
 import signal
 from pathlib import Path
-from typing import Any, Protocol
+from typing import Any, Final, Protocol
 
 from . import config as configs
 from .config import Config
@@ -26,11 +26,15 @@ from .words import Words, called
 PARTS: tuple[str, ...] = ("field", "simulate", "web")
 """The modules of the parts. Each has `async attach(core, config) -> Part | None`, None where its table isn't there."""
 
+LAST_SECONDS: Final = 10.0
+"""For so long, at the most, sources end, and scans take what they have brought, before the end."""
+
 
 class Part(Protocol):
     """A part of the gateway that stands around the core while it serves: a web server, the sources of samples."""
 
     asks: bool  # whether an operator sees questions by it, and can answer them
+    brings: bool  # whether samples come by it that whoever sent them counts as delivered
 
     async def close(self) -> None:
         """Ends the part, in at most some seconds. Raises nothing."""
@@ -116,9 +120,12 @@ class _Serving:
             tasks.append(stopping)
             await asyncio.wait({working, stopping}, return_when=asyncio.FIRST_COMPLETED)
         finally:
+            ending = asyncio.create_task(self._end_sources())
+            await asyncio.wait({ending}, timeout=LAST_SECONDS)
             self._core.stop()
             await self._reloading.close()
             await asyncio.wait({working})
+            await ending  # a source that waited for room does so no more
             for part in self._parts:
                 await part.close()
             await asyncio.wait({showing}, timeout=2)
@@ -134,6 +141,15 @@ class _Serving:
             part: Part | None = await module.attach(self._core, self._config)
             if part is not None:
                 self._parts.append(part)
+
+    async def _end_sources(self) -> None:
+        """Nothing more is read, and scans take what was: it doesn't come a second time."""
+        sources = [part for part in self._parts if part.brings]
+        self._parts = [part for part in self._parts if not part.brings]
+        for part in sources:
+            await part.close()
+        if sources:
+            await self._core.finish(LAST_SECONDS)
 
     def _reads_input(self) -> bool:
         """Whether standard input is read: as the configuration says, else where nothing but it brings anything."""

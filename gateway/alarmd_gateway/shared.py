@@ -21,6 +21,7 @@ from .etcd_http import HttpEtcd
 from .etcd_log import EtcdLog
 from .jobs import Job
 from .joining import joined, played
+from .latest import Latest
 from .leader import Candidate
 from .link import Link, prepared, tell
 from .log_view import Last, View
@@ -33,7 +34,6 @@ from .model import (
     Reply,
     Sample,
     ServerGone,
-    Value,
 )
 from .samples import SampleQueue
 from .shared_config import SharedConfig, shared_config
@@ -46,6 +46,7 @@ from .troubles import TroubleKind
 LOOK = 0.1  # seconds between two looks at the log
 ORDER = 15.0  # seconds for which whoever gave an order is let wait
 RELOAD = 60.0  # the same of a plant: it is written in many parts, and read by all
+OLDER = 60.0  # seconds by which a sample of this gateway may be older than what the log has of its input
 
 
 class SharedCore(Core):
@@ -62,7 +63,7 @@ class SharedCore(Core):
         self._log = log
         self._candidate = candidate
         self._watching = LogWatch(log, link.troubles, config.period_ms / 1000)
-        self._latest: dict[str, Value] = {}  # of each input, the last sample
+        self._latest = Latest(max(OLDER, 3 * config.period_ms / 1000))
         self._orders = SharedOrders(link, log, self._jobs, self._tell)
         self._leader = ""
         self._end: Last | None = None  # the log's end at the last look
@@ -113,20 +114,29 @@ class SharedCore(Core):
         done, _ = await asyncio.wait({asked}, timeout=patience)
         if done:
             return asked.result()
-        waiting = next((job for job in self._jobs if job.command is command), None)
-        if waiting is not None:
-            self._jobs.remove(waiting)
+        taken_back = await self._taken_back(command)
+        if asked.done():
+            return asked.result()
         asked.cancel()
         words = f"the order wasn't taken: {self._watching.words()}"
-        raise ServerGone(UNKNOWN if waiting is None else words, 1)
+        raise ServerGone(words if taken_back else UNKNOWN, 1)
+
+    async def _taken_back(self, command: Command) -> bool:
+        """Whether an order without an answer is surely not taken, now or later: it waits here, or for the leader, and no longer does."""
+        waiting = next((job for job in self._jobs if job.command is command), None)
+        if waiting is None:
+            return await self._orders.withdraw(command)
+        self._jobs.remove(waiting)
+        return True
 
     async def offer(self, sample: Sample) -> None:
-        """See Core. While another gateway leads, the last sample of each input is kept, for when this one does."""
+        """See Core. While another gateway leads, the last sample of each input is kept, for when this one does, unless the log has a
+        newer value."""
         variable, value = commands.fit(self.plant, sample.name, sample.value)
-        self._latest[variable.name] = value
+        self._latest.put(variable.name, value)
         if self.leads:
             await super().offer(sample)
-        elif self.sampled is not None:
+        elif self.sampled is not None and sample.fresh:
             self.sampled(variable.name)
 
     def snapshot(self) -> Snapshot:
@@ -233,7 +243,7 @@ class SharedCore(Core):
         self._begin()
         self._due = 0.0
         self._queue = SampleQueue()
-        for name, value in self._latest.items():
+        for name, value in self._latest.values():
             self._queue.put(name, value)
         self._announcer.board.put(ChangeKind.ANEW, self.state.moment, {})
 
@@ -246,7 +256,8 @@ class SharedCore(Core):
         tell(f"{self._name} leads no more")
         for subject in ("clock", "record"):
             self._questions.withdraw(subject)
-        self.troubles.clear(TroubleKind.RECORD, "")
+        for kind in (TroubleKind.RECORD, TroubleKind.CLOCK):  # of these tells who leads
+            self.troubles.clear(kind, "")
         self._queue = SampleQueue()
         self._taken.set()
 
@@ -261,6 +272,8 @@ class SharedCore(Core):
             command = await prepared(self.plant.path, found)
             if isinstance(command, Reload):
                 await self._link.keep_first_or_tell()
+            if isinstance(command, Scan):
+                self._latest.overtaken(command.given, self.plant.time(command.moment).timestamp())
             await self._log.keep(one)
             if command is not None:
                 answer, happened = await self._link.take(command, entry.user, entry.reason)
@@ -282,8 +295,7 @@ class SharedCore(Core):
     def _followed(self, command: Command, answer: list[str]) -> None:
         """See Core. So are the samples that wait until this gateway leads."""
         super()._followed(command, answer)
-        pairs = [self._fitted(name, value) for name, value in self._latest.items()]
-        self._latest = dict(pair for pair in pairs if pair is not None)
+        self._latest.refit(self._fitted)
 
     def _tell(self, command: Command, answer: list[str], happened: list[Happening]) -> None:
         self._announcer.happened(happened)

@@ -12,7 +12,7 @@ from . import commands
 from .away import Away
 from .commands import Command, Reload, Scan
 from .jobs import Job, fail
-from .etcd import EtcdRefused
+from .etcd import EtcdRefused, NoEtcd
 from .etcd_log import EtcdLog
 from .link import Link, NoReload, entry_of, prepared
 from .log_view import Marked
@@ -66,7 +66,11 @@ class SharedOrders:
     async def append_request(self, request: Marked) -> bool:
         """An order that another gateway has handed on. Says whether this one may go on: else it was withdrawn, or another gateway
         leads. Raises Deposed where it isn't known whether it is in the log."""
-        request = await self._log.entries.asked(request)
+        try:
+            request = await self._log.entries.asked(request)
+        except GatewayFault:  # who gave it has gone meanwhile, and its texts went with the lease
+            await self._log.drop(request.mark)
+            return True
         plant = self._link.plant
         found = commands.read(plant, request.entry.line, request.entry.body)
         order = await prepared(plant.path, found)
@@ -93,6 +97,16 @@ class SharedOrders:
             raise
         self.away.answer(mark, answer)
         self._tell(order, answer, happened)
+
+    async def withdraw(self, command: Command) -> bool:
+        """Takes back an order that was handed on and that the leader hasn't taken yet. Says whether that is so."""
+        mark = self.away.mark_of(command)
+        if mark is None:
+            return False
+        try:
+            return await self._log.withdraw(mark)
+        except (NoEtcd, EtcdRefused):
+            return False
 
     async def hand_on(self, lease: str | None) -> None:
         """Hands the orders that were given here on to the leader. Raises NoEtcd, EtcdRefused."""

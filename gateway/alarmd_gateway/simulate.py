@@ -94,6 +94,7 @@ class Simulation:
     """The model around a core, as a part of the gateway."""
 
     asks = False
+    brings = False
 
     def __init__(self, core: Core, config: Config, model: Plant) -> None:
         self._core = core

@@ -63,6 +63,7 @@ class Web:
     """The web server as a part of the gateway."""
 
     asks = True
+    brings = False
     folder = FOLDER  # of the page
 
     def __init__(self, core: Core, config: WebConfig) -> None:

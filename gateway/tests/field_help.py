@@ -24,11 +24,14 @@ class Kept:
     plant: Plant
     troubles: Troubles = field(default_factory=Troubles)
     samples: list[tuple[str, Value]] = field(default_factory=list)
+    kept: list[tuple[str, Value]] = field(default_factory=list)  # those that weren't fresh
     outputs: dict[str, Value] = field(default_factory=dict)
 
     async def offer(self, sample: Sample) -> None:
         variable, value = fit(self.plant, sample.name, sample.value)
         self.samples.append((variable.name, value))
+        if not sample.fresh:
+            self.kept.append((variable.name, value))
 
     def intake(self, limits: dict[str, float] | None = None) -> Intake:
         return Intake(self, Ages(limits or {}, time.monotonic()))

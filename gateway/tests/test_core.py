@@ -112,6 +112,19 @@ def test_each_distinct_value_is_taken_by_a_scan_in_order(config: Config) -> None
     run(work())
 
 
+def test_what_was_kept_somewhere_does_not_show_that_more_come(config: Config) -> None:
+    async def work() -> None:
+        async with served(config) as core:
+            seen: list[str] = []
+            core.sampled = seen.append
+            await core.offer(Sample("level", 400, "test", fresh=False))
+            await core.offer(Sample("flow", 100, "test"))
+            await until(lambda: core.state.inputs["level"] == 400)
+            assert seen == ["flow"]
+
+    run(work())
+
+
 def test_the_moments_are_those_of_the_time_of_day(config: Config) -> None:
     async def work() -> None:
         async with served(config) as core:

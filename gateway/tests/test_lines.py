@@ -154,6 +154,29 @@ def test_where_it_is_not_held_the_last_writer_is_the_source(examples: Path, tmp_
     asyncio.run(body())
 
 
+def test_who_writes_while_a_last_order_is_taken_is_heard(examples: Path, tmp_path: Path) -> None:
+    async def body() -> None:
+        it = Fifo(examples, tmp_path, hold=False)
+
+        async def slow(line: str) -> None:
+            it.page.orders.append(line)
+            write(it.path, "level=7\n")
+
+        setattr(it.page, "order", slow)
+        os.mkfifo(it.path)
+        async with it:
+            await until(it.kept.standing)
+            loop = asyncio.get_running_loop()
+            file = await loop.run_in_executor(None, os.open, it.path, os.O_WRONLY)
+            os.write(file, b"ack 1 LAL-101")
+            os.close(file)
+            await until(lambda: it.page.orders)
+            await until(it.kept.standing)
+            assert it.kept.samples == [("level", 7)]
+
+    asyncio.run(body())
+
+
 def test_a_bad_sample_is_a_trouble_for_a_minute(examples: Path) -> None:
     now = 0.0
     kept = Kept(plants.read(examples / "tank" / "plant.toml"))
@@ -177,6 +200,23 @@ def test_a_bad_sample_is_a_trouble_for_a_minute(examples: Path) -> None:
         assert not kept.standing()
 
     asyncio.run(body())
+
+
+def test_an_input_that_cannot_be_had_is_a_trouble_for_longer_than_a_bad_sample(
+    examples: Path,
+) -> None:
+    now = 0.0
+    kept = Kept(plants.read(examples / "tank" / "plant.toml"))
+    intake = Intake(kept, Ages({}, 0.0), lambda: now)
+    intake.bad("broker", "level", "it is no number")
+    intake.fails("broker", "level", "the broker lets nobody read it")
+    now = 61.0
+    intake.look()
+    assert kept.standing() == [("source", "broker level")]
+    intake.bad("broker", "level", "it is no number")
+    now = 122.0
+    intake.look()
+    assert not kept.standing()
 
 
 def test_tries_come_later_and_later() -> None:

@@ -3,6 +3,8 @@
 from __future__ import annotations
 
 import asyncio
+import contextlib
+import struct
 import subprocess
 import sys
 from collections.abc import Iterator
@@ -203,3 +205,141 @@ def test_a_request_has_at_most_125_registers_and_2000_bits(examples: Path) -> No
     assert [(it.address, it.length) for it in blocks(words)] == [(0, 124), (124, 124), (248, 52)]
     bits = [point(plant.inputs["running"], Area.COIL, at) for at in range(2001)]
     assert [(it.address, it.length) for it in blocks(bits)] == [(0, 2000), (2000, 1)]
+
+
+class Late:
+    """A device behind a gateway of a serial line, which once says that it has no answer (exception 11), and has it a little later. What
+    stands in a register is its address."""
+
+    def __init__(self) -> None:
+        self.port = 0
+        self.requests = 0
+        self._server: asyncio.Server | None = None
+
+    async def start(self) -> None:
+        self._server = await asyncio.start_server(self._serve, "127.0.0.1", 0)
+        self.port = self._server.sockets[0].getsockname()[1]
+
+    async def _serve(self, reader: asyncio.StreamReader, writer: asyncio.StreamWriter) -> None:
+        with contextlib.suppress(EOFError, OSError):
+            while True:
+                number, _, size, unit = struct.unpack(">HHHB", await reader.readexactly(7))
+                function, address, count = struct.unpack(">BHH", await reader.readexactly(size - 1))
+                self.requests += 1
+                values = struct.pack(f">{count}H", *range(address, address + count))
+                answers = [bytes([function, len(values)]) + values]
+                if self.requests == 5:
+                    answers.insert(0, bytes([function | 0x80, 11]))
+                for answer in answers:
+                    head = struct.pack(">HHHB", number, 0, len(answer) + 1, unit)
+                    writer.write(head + answer)
+                    await writer.drain()
+        writer.close()
+
+    async def close(self) -> None:
+        assert self._server is not None
+        self._server.close()
+        await self._server.wait_closed()
+
+
+def test_an_answer_that_comes_late_is_taken_for_no_other(examples: Path) -> None:
+    async def body() -> None:
+        device = Late()
+        await device.start()
+        plant = plants.read(examples / "tank" / "plant.toml")
+        kept = Kept(plant)
+        level, flow = (
+            point(plant.inputs[name], Area.HOLDING, at)
+            for name, at in (("level", 10), ("flow", 50))
+        )
+        given = replace(source(plant, device.port), inputs=(level, flow), outputs=())
+        running = Running(ModbusClient(given, kept.intake()), kept)
+        try:
+            await until(lambda: device.requests > 20 and not kept.standing())
+            assert set(kept.samples) == {("level", 10), ("flow", 50)}
+        finally:
+            await running.close()
+            await device.close()
+
+    asyncio.run(body())
+
+
+class Busy:
+    """A device with one coil, which is busy (exception 6) for some of its writes."""
+
+    def __init__(self, busy: range) -> None:
+        self.port = 0
+        self.written: list[bool] = []
+        self._busy = busy
+        self._server: asyncio.Server | None = None
+
+    async def start(self) -> None:
+        self._server = await asyncio.start_server(self._serve, "127.0.0.1", 0)
+        self.port = self._server.sockets[0].getsockname()[1]
+
+    async def _serve(self, reader: asyncio.StreamReader, writer: asyncio.StreamWriter) -> None:
+        with contextlib.suppress(EOFError, OSError):
+            while True:
+                number, _, size, unit = struct.unpack(">HHHB", await reader.readexactly(7))
+                body = await reader.readexactly(size - 1)
+                self.written.append(body[3] == 0xFF)
+                answer = bytes([body[0] | 0x80, 6]) if len(self.written) in self._busy else body
+                writer.write(struct.pack(">HHHB", number, 0, len(answer) + 1, unit) + answer)
+                await writer.drain()
+        writer.close()
+
+    async def close(self) -> None:
+        assert self._server is not None
+        self._server.close()
+        await self._server.wait_closed()
+
+
+def test_an_output_that_is_refused_is_written_again(examples: Path) -> None:
+    async def body() -> None:
+        device = Busy(range(2, 5))
+        await device.start()
+        kept = Kept(plants.read(examples / "tank" / "plant.toml"), outputs={"pump": True})
+        pump = point(kept.plant.outputs["pump"], Area.COIL, 1)
+        client = ModbusClient(
+            replace(source(kept.plant, device.port), inputs=(), outputs=(pump,)), kept.intake()
+        )
+        running = Running(client, kept)
+        try:
+            await until(lambda: device.written == [True])
+            kept.outputs["pump"] = False
+            client.put_output("pump", False)
+            await until(kept.standing)
+            assert "the device answers exception 6" in kept.texts()
+            await until(lambda: not kept.standing())
+            assert device.written == [True, False, False, False, False]
+            await asyncio.sleep(0.2)
+            assert len(device.written) == 5  # it is taken
+        finally:
+            await running.close()
+            await device.close()
+
+    asyncio.run(body())
+
+
+def test_a_refused_output_that_is_not_to_be_written_any_more(examples: Path) -> None:
+    """As where another gateway leads by now, or a plant without it is served."""
+
+    async def body() -> None:
+        device = Busy(range(1, 1000))
+        await device.start()
+        kept = Kept(plants.read(examples / "tank" / "plant.toml"), outputs={"pump": True})
+        pump = point(kept.plant.outputs["pump"], Area.COIL, 1)
+        given = replace(source(kept.plant, device.port), inputs=(), outputs=(pump,))
+        running = Running(ModbusClient(given, kept.intake()), kept)
+        try:
+            await until(lambda: len(device.written) > 2)
+            kept.outputs.clear()
+            await asyncio.sleep(0.2)
+            count = len(device.written)
+            await asyncio.sleep(0.2)
+            assert len(device.written) == count
+        finally:
+            await running.close()
+            await device.close()
+
+    asyncio.run(body())

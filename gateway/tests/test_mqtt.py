@@ -3,6 +3,9 @@
 from __future__ import annotations
 
 import asyncio
+import contextlib
+import os
+import signal
 import subprocess
 from collections.abc import Iterator
 from dataclasses import replace
@@ -13,10 +16,15 @@ from typing import Any
 import paho.mqtt.client as paho
 import pytest
 
+from alarmd_gateway import config as configs
+from alarmd_gateway import core, serve
 from alarmd_gateway import plant as plants
+from alarmd_gateway.fields import mqtt
 from alarmd_gateway.fields.mqtt import MqttClient, value_of
 from alarmd_gateway.mapping import BadRaw, MqttSource, Retry, Scale, Topic
-from alarmd_gateway.model import Plant
+from alarmd_gateway.model import Plant, Value
+from alarmd_gateway.samples import SampleQueue
+from around import config_file, plant_copy
 from field_help import Kept, Running, free_port, until
 
 
@@ -200,6 +208,119 @@ def test_what_is_published_while_the_gateway_is_away_comes_later(
     asyncio.run(body())
 
 
+class Breaking:
+    """A broker that publishes one sample with as much quality as it is asked for, and breaks the connection at the first answer."""
+
+    def __init__(self) -> None:
+        self.port = 0
+        self.connections = 0
+        self._server: asyncio.Server | None = None
+
+    async def start(self) -> None:
+        self._server = await asyncio.start_server(self._serve, "127.0.0.1", 0)
+        self.port = self._server.sockets[0].getsockname()[1]
+
+    async def _serve(self, reader: asyncio.StreamReader, writer: asyncio.StreamWriter) -> None:
+        self.connections += 1
+        first = self.connections == 1
+        with contextlib.suppress(EOFError, OSError):
+            while True:
+                kind, size = await reader.readexactly(2)
+                body = await reader.readexactly(size)
+                if kind >> 4 == 1:  # CONNECT: CONNACK, and later the PUBREL that had no answer
+                    writer.write(b"\x20\x02\x00\x00" + (b"" if first else b"\x62\x02\x00\x07"))
+                elif kind >> 4 == 8:  # SUBSCRIBE: SUBACK, and a PUBLISH
+                    quality = body[-1]
+                    writer.write(b"\x90\x04" + body[:2] + bytes([quality] * 2))
+                    message = b"\x00\x0atank/level\x00\x0731"
+                    if first:
+                        writer.write(bytes([0x30 + 2 * quality, len(message)]) + message)
+                elif first and kind >> 4 in (4, 5):  # PUBACK, PUBREC
+                    break
+        writer.close()
+
+    async def close(self) -> None:
+        assert self._server is not None
+        self._server.close()
+        await self._server.wait_closed()
+
+
+def test_a_sample_with_the_highest_quality_outlasts_a_loss(examples: Path) -> None:
+    async def body() -> None:
+        broker = Breaking()
+        await broker.start()
+        kept = Kept(tank(examples))
+        client = MqttClient(replace(source(kept.plant, broker.port), quality=2), kept.intake())
+        running = Running(client, kept)
+        try:
+            await until(lambda: broker.connections == 2 and client.is_up)
+            await until(lambda: kept.samples == [("level", 310)], 10)
+        finally:
+            await running.close()
+            await broker.close()
+
+    asyncio.run(body())
+
+
+@pytest.mark.server
+def test_the_end_does_not_wait_for_room(
+    alarmd: Path, tmp_path: Path, broker: Broker, monkeypatch: pytest.MonkeyPatch
+) -> None:
+    """Where nothing is scanned, as before an answer to the question of the first moment, and samples wait for as many scans as may be."""
+    monkeypatch.setattr(core, "SampleQueue", lambda: SampleQueue(3))
+    monkeypatch.setattr(serve, "LAST_SECONDS", 0.5)
+    path = config_file(alarmd, plant_copy("tank", tmp_path, "2090-01-01T00:00:00Z"))
+    table = f'name = "broker"\nhost = "127.0.0.1"\nport = {broker.port}\n'
+    one = '[[mqtt.input]]\ninput = "level"\ntopic = "tank/level"\n'
+    (tmp_path / "map.toml").write_text(f"[[mqtt]]\n{table}{one}")
+    tables = f'[fields]\nmap = "map.toml"\n[web]\nlisten = "127.0.0.1:{free_port()}"\n'
+    path.write_text(path.read_text() + tables)
+
+    async def body() -> None:
+        taken: list[bytes] = []
+
+        def noted(topic: Topic, payload: bytes) -> Value:
+            taken.append(payload)
+            return value_of(topic, payload)
+
+        monkeypatch.setattr(mqtt, "value_of", noted)
+        serving, field = asyncio.create_task(serve.serve(configs.read(path))), Field(broker.port)
+        try:
+            for number in range(10_000):
+                await field.publish(("tank/level", str(number)))
+                if len(taken) == 4:
+                    break
+                await asyncio.sleep(0.01)
+            os.kill(os.getpid(), signal.SIGTERM)
+            done, _ = await asyncio.wait({serving}, timeout=30)
+            assert done
+        finally:
+            await field.close()
+
+    asyncio.run(body())
+
+
+def test_what_the_broker_has_kept_is_no_fresh_sample(examples: Path, broker: Broker) -> None:
+    async def body() -> None:
+        kept = Kept(tank(examples))
+        field = Field(broker.port)
+        await until(field._client.is_connected)
+        info = field._client.publish("tank/level", "1", 1, retain=True)
+        await until(info.is_published)
+        client = MqttClient(source(kept.plant, broker.port), kept.intake())
+        running = Running(client, kept)
+        try:
+            await until(lambda: kept.samples == [("level", 10)])
+            await field.publish(("tank/level", "2"))
+            await until(lambda: kept.samples[-1] == ("level", 20))
+            assert kept.kept == [("level", 10)]
+        finally:
+            await field.close()
+            await running.close()
+
+    asyncio.run(body())
+
+
 def test_a_broker_that_is_not_there_is_a_trouble(examples: Path) -> None:
     async def body() -> None:
         kept = Kept(tank(examples))
@@ -258,6 +379,9 @@ def test_a_payload_that_is_no_value_is_a_trouble_until_one_comes(
         (("a", "1"), b'{"a": [1, 2.5]}', 25),
         (("a",), b'{"a": "7"}', 70),
         (("a",), b'{"a": 1.25}', 13),
+        (("a",), b'{"a": 1.5E1}', 150),
+        (("a",), b'{"a": -5.551115123125783e-17}', 0),  # what is left of 0.1 + 0.2 - 0.3
+        (("a",), b'{"a": 2.2250738585072014e-308}', 0),
     ],
 )
 def test_payloads_are_numbers(
@@ -281,6 +405,10 @@ def test_payloads_are_numbers(
         (("a",), b'{"b": 5}'),
         (("a",), b'{"a": null}'),
         (("a",), b'{"a": 1e999}'),
+        (("a",), b'{"a": 1e999999999}'),
+        (("a",), b'{"a": 1e999999999999999999}'),
+        (("a",), b'{"a": 1e-999999999999999999}'),
+        (("a",), b'{"a": 1e99999999999999999999}'),
         (("a",), b'{"a": true}'),
         (("5",), b"[1]"),
         (("a",), b"[1]"),
@@ -291,6 +419,26 @@ def test_other_payloads_are_none(examples: Path, path: tuple[str, ...], payload:
     topic = Topic(tank(examples).inputs["level"], "t", path, Scale(), False)
     with pytest.raises(BadRaw):
         value_of(topic, payload)
+
+
+def test_a_number_beyond_all_measure_costs_no_other_input_its_samples(
+    examples: Path, broker: Broker
+) -> None:
+    async def body() -> None:
+        kept = Kept(tank(examples))
+        client = MqttClient(source(kept.plant, broker.port), kept.intake())
+        running, field = Running(client, kept), Field(broker.port)
+        try:
+            await until(lambda: client.is_up)
+            await field.publish(("tank/running", '{"value": 1e99999999999999999999}'))
+            await field.publish(("tank/level", "30"))
+            await until(lambda: kept.samples == [("level", 300)])
+            assert kept.standing() == [("source", "broker running")]
+        finally:
+            await field.close()
+            await running.close()
+
+    asyncio.run(body())
 
 
 def test_payloads_are_truths(examples: Path) -> None:

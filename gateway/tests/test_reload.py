@@ -28,6 +28,7 @@ from alarmd_gateway.link import NoReload, entry_of
 from alarmd_gateway.model import BadSample, GatewayFault, Order, Sample, ServerGone, Texts, Verb
 from alarmd_gateway.record import Entry, FileRecord, peek
 from alarmd_gateway.reports import report
+from alarmd_gateway.samples import SampleQueue
 from alarmd_gateway.server import Server
 from alarmd_gateway.view import View
 
@@ -100,6 +101,24 @@ def test_what_stays_and_what_is_told(config: Config) -> None:
             assert row.json(core.plant)["kept"] == 1 and row.json(core.plant)["user"] == "anna"
             assert (await core.order(Order(Verb.ACK, 2, "T2"))).code == "O3"
         assert by_core(core) == await by_server(config)
+
+    run(work())
+
+
+def test_a_sample_that_waits_for_room_is_judged_anew_too(config: Config) -> None:
+    async def work() -> None:
+        async with served(dataclasses.replace(config, period_ms=3_600_000)) as core:
+            await alarm(core)
+            core._queue = SampleQueue(1)
+            await give(core, a=6)
+            waiting = asyncio.create_task(give(core, a=7))
+            other = Small(variables="b AT %ID0 : DINT; c : BOOL;", body="c := 100 / b > 30;")
+            assert await reload(core, other) == "RELOADED KEPT 1 NEW 0"
+            with pytest.raises(BadSample, match="'a' is no input"):
+                await waiting
+            await give(core, b=3)
+            await core.drain()
+            assert core.state.inputs == {"b": 3} and not len(core.troubles)
 
     run(work())
 

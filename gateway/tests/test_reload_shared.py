@@ -12,9 +12,10 @@ from fake_etcd import FakeEtcd
 from reload_help import READING, WITHOUT, Small, latched, reloads
 from test_shared import Pair, give, same, trial
 
-from alarmd_gateway import etcd_log, log_texts
+from alarmd_gateway import etcd_log, log_texts, shared
 from alarmd_gateway.link import NoReload
-from alarmd_gateway.model import GatewayFault, Texts
+from alarmd_gateway.log_view import Marked
+from alarmd_gateway.model import GatewayFault, ServerGone, Texts
 from alarmd_gateway.shared import SharedCore
 from alarmd_gateway.shared_config import SharedConfig
 
@@ -78,6 +79,33 @@ def test_all_take_it_up_whoever_was_asked(pair: Pair, giver: int) -> None:
         await until(lambda: same(cores[0], late))
         row = next(row for row in late.journal.rows() if row.words[0] == "RELOAD")
         assert (row.user, row.reason) == ("anna", "a larger pump")
+
+    trial(pair, work)
+
+
+def test_one_whose_giver_is_gone_meanwhile_ends_no_leader(
+    pair: Pair, monkeypatch: pytest.MonkeyPatch
+) -> None:
+    monkeypatch.setattr(shared, "RELOAD", 1.0)
+
+    async def work(pair: Pair) -> None:
+        left, right = await two(pair)
+        read, tries = left._log.entries.asked, 0
+
+        async def late(request: Marked) -> Marked:
+            nonlocal tries
+            tries += 1
+            assert right._candidate.lease is not None
+            pair.etcd.end(right._candidate.lease)  # the request goes with it, and its texts
+            return await read(request)
+
+        monkeypatch.setattr(left._log.entries, "asked", late)
+        with pytest.raises(ServerGone, match="it isn't known"):
+            await right.reload(texts(right, Small(30)))
+        assert tries == 1
+        events = left.state.events
+        await until(lambda: left._closing or left.state.events > events + 3)
+        assert not left._closing and code(left) == "UNACK"
 
     trial(pair, work)
 

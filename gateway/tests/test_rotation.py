@@ -167,9 +167,12 @@ def test_a_history_that_is_full(config: Config, monkeypatch: pytest.MonkeyPatch)
     async def work() -> None:
         for module in (cores, rotation):
             monkeypatch.setattr(module, "MOST_EVENTS", 60)
+        monkeypatch.setattr(rotation, "AGAIN", 0.1)
         async with served(config) as core:
             await give(core, running=1, level=400, flow=100)
             await until(lambda: core.state.events == 60)
+            question = await asked(core)
+            await core.answer(question.number, False, 1)
             question = await asked(core)
             await give(core, level=500)
             await give(core, level=501)
@@ -245,3 +248,14 @@ def test_when_a_new_record_is_due() -> None:
     assert "full" in str(due.words(1_000_000))
     due.begun()
     assert due.now(900_000)
+
+
+def test_one_that_is_declined_late_is_asked_for_again_all_the_same() -> None:
+    now = 100.0
+    due = rotation.Due(900_000, lambda: now)
+    due.declined(995_000)  # a step later there would be more events than a run takes
+    assert [due.now(999_999), due.now(1_000_000)] == [False, True]
+    due.declined(1_000_000)
+    assert not due.now(1_000_000)
+    now += rotation.AGAIN
+    assert due.now(1_000_000)

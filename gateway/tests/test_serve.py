@@ -131,6 +131,22 @@ def test_a_signal_ends_in_order(config: Path, number: signal.Signals) -> None:
     assert (config.parent / "record").read_bytes().endswith(b"\n")
 
 
+def test_what_a_source_has_brought_is_scanned_before_the_end(config: Path) -> None:
+    config.write_text(config.read_text().replace("period_ms = 50", "period_ms = 3600000"))
+    config.write_text(f'{config.read_text()}[fields]\nmap = "map.toml"\n')
+    (config.parent / "map.toml").write_text('[[lines]]\nname = "fifo"\npath = "fifo"\n')
+    os.mkfifo(config.parent / "fifo")
+    gateway = Gateway(config)
+    with open(config.parent / "fifo", "wb", buffering=0) as fifo:  # waits for its reader
+        fifo.write(b"level=250\n")
+        gateway.wait_for("ALARM .* LAL-101|OUT")
+        fifo.write(b"running=TRUE level=300\nlevel=250\nbad\n")
+        gateway.wait_for("bad", after=len(gateway.out))
+    gateway.process.send_signal(signal.SIGTERM)
+    assert gateway.wait() == 0
+    assert commands(config)[1:] == ["scan running=TRUE level=300", "scan level=250"]
+
+
 def test_a_signal_while_the_record_is_played(config: Path) -> None:
     run(config, "running=1 level=250\n")
     with open(config.parent / "record", "a") as file:

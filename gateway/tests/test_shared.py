@@ -4,7 +4,7 @@ from __future__ import annotations
 
 import asyncio
 import contextlib
-from collections.abc import Awaitable, Callable
+from collections.abc import Awaitable, Callable, Sequence
 from pathlib import Path
 
 import pytest
@@ -12,11 +12,11 @@ from around import config_for, plant_copy, until, without_programs
 from core_help import Served
 from fake_etcd import FakeEtcd
 
-from alarmd_gateway import etcd_log, log_watch, shared
+from alarmd_gateway import etcd_log, log_watch, new_record, shared, transactions
 from alarmd_gateway.etcd import NoEtcd
 from alarmd_gateway.log_view import Last, Marked
 from alarmd_gateway.metrics import Metrics
-from alarmd_gateway.model import Code, Order, Sample, ServerGone, Verb
+from alarmd_gateway.model import Code, Order, Plant, Sample, ServerGone, Verb
 from alarmd_gateway.record import Entry
 from alarmd_gateway.shared import SharedCore
 from alarmd_gateway.shared_config import SharedConfig
@@ -161,6 +161,30 @@ def test_who_takes_over_goes_on_from_there(alarmd: Path, tmp_path: Path) -> None
     trial(Pair(alarmd, tmp_path, tank), work)
 
 
+def test_an_old_sample_is_none_where_the_log_has_a_newer_one(
+    alarmd: Path, tmp_path: Path, monkeypatch: pytest.MonkeyPatch
+) -> None:
+    monkeypatch.setattr(shared, "OLDER", 0.5)
+
+    async def work(pair: Pair) -> None:
+        a = await pair.join("a")
+        await until(lambda: a.leads, "a leads")
+        b = await pair.join("b")
+        for core in (a, b):
+            await give(core, running=True, level=250, flow=100)
+        await until(lambda: b.state.inputs["level"] == 250, "the sample of both")
+        await asyncio.sleep(1)
+        await give(a, level=950)  # of its own field alone
+        await until(lambda: b.state.inputs["level"] == 950, "the sample, by the log")
+        await give(b, flow=90)
+        await pair.served[0].close()
+        await until(lambda: b.leads, "b leads")
+        await until(lambda: b.state.inputs["flow"] == 90, "its own sample, which is newer")
+        assert b.state.inputs["level"] == 950
+
+    trial(Pair(alarmd, tmp_path, tank), work)
+
+
 def test_no_answer_of_etcd(alarmd: Path, tmp_path: Path, monkeypatch: pytest.MonkeyPatch) -> None:
     monkeypatch.setattr(shared, "ORDER", 1.0)
     monkeypatch.setattr(log_watch, "SILENT", 0.5)
@@ -246,6 +270,61 @@ def test_a_new_record_for_both(alarmd: Path, tmp_path: Path) -> None:
         assert first[0] == first[1]
 
     trial(Pair(alarmd, tmp_path, without_programs, rotate_at=20), work)
+
+
+def test_a_new_record_that_a_silent_etcd_has_ended_is_no_trouble_of_who_follows(
+    alarmd: Path, tmp_path: Path, monkeypatch: pytest.MonkeyPatch
+) -> None:
+    monkeypatch.setattr(log_watch, "SILENT", 0.5)
+    monkeypatch.setattr(transactions, "PATIENCE", 1.5)
+
+    async def work(pair: Pair) -> None:
+        a = await pair.join("a")
+        await until(lambda: a.leads, "a leads")
+        succeed = a._log.succeed
+
+        async def silent(entries: Sequence[Entry], plant: Plant | None = None) -> str:
+            pair.etcd.before = {len(entries) // new_record.BLOCK + 4: deafen}
+            return await succeed(entries, plant)
+
+        def deafen() -> None:
+            pair.etcd.deaf = 10**9
+
+        monkeypatch.setattr(a._log, "succeed", silent)
+        await give(a, a=5)
+        await until(lambda: pair.etcd.deaf, "silence while a new record is begun")
+        await until(lambda: not a.leads, "it leads no more")
+        await asyncio.sleep(2)
+        assert [one.kind for one in a.troubles if one.kind is TroubleKind.RECORD] == []
+
+    trial(Pair(alarmd, tmp_path, without_programs, rotate_at=20), work)
+
+
+def test_a_clock_that_differs_is_no_trouble_of_who_leads_no_more(
+    alarmd: Path, tmp_path: Path, monkeypatch: pytest.MonkeyPatch
+) -> None:
+    def clock(core: SharedCore) -> bool:
+        return any(one.kind is TroubleKind.CLOCK for one in core.troubles)
+
+    async def work(pair: Pair) -> None:
+        a = await pair.join("a")
+        await until(lambda: a.leads, "a leads")
+        b = await pair.join("b")
+        await give(a, running=True, level=250, flow=100)
+        await until(lambda: a.state.scanned, "a scan")
+        monkeypatch.setattr(a._clock, "drift_ms", lambda: 20_000)
+        await until(lambda: clock(a), "the trouble")
+        a._candidate.lease, lease = None, a._candidate.lease
+        assert lease is not None
+        monkeypatch.setattr(a._candidate, "stand", no_stand)
+        pair.etcd.end(lease)
+        await until(lambda: b.leads and not a.leads, "b leads")
+        assert not clock(a)
+
+    async def no_stand() -> None:
+        """It doesn't lead again."""
+
+    trial(Pair(alarmd, tmp_path, tank), work)
 
 
 def test_what_is_too_old_goes_beside_the_work(
@@ -371,6 +450,41 @@ def test_an_order_whose_lease_has_ended_is_handed_on_with_the_next(
         hold.set()
         assert (await asked).code == "OK"
         assert tries[0] == old != tries[-1]
+
+    trial(Pair(alarmd, tmp_path, tank), work)
+
+
+def test_an_order_without_an_answer_is_not_taken_later(
+    alarmd: Path, tmp_path: Path, monkeypatch: pytest.MonkeyPatch
+) -> None:
+    """As where the leader's server plays the record anew, for longer than somebody waits."""
+    monkeypatch.setattr(shared, "ORDER", 1.0)
+
+    async def work(pair: Pair) -> None:
+        a = await pair.join("a")
+        await until(lambda: a.leads, "a leads")
+        b = await pair.join("b")
+        await give(a, running=True, level=250, flow=100)
+        await until(lambda: b.state.by_tag["LAL-101"].code is Code.UNACK, "the alarm")
+        gate, waiting = asyncio.Event(), asyncio.Event()
+
+        async def held(moment: int) -> None:
+            waiting.set()
+            await gate.wait()
+
+        a.before_scan = held
+        await waiting.wait()
+        try:
+            with pytest.raises(ServerGone) as told:
+                await b.order(Order(Verb.ACK, 1, "LAL-101"), "bert", "seen")
+        finally:
+            a.before_scan = None
+            gate.set()
+        assert "wasn't taken" in told.value.words
+        events = b.state.events
+        await until(lambda: b.state.events > events + 3, "scans go on")
+        assert b.state.by_tag["LAL-101"].code is Code.UNACK
+        assert (await b.order(Order(Verb.ACK, 1, "LAL-101"), "bert", "seen")).code == "OK"
 
     trial(Pair(alarmd, tmp_path, tank), work)
 

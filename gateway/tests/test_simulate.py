@@ -17,7 +17,8 @@ from unittest.mock import patch
 import pytest
 
 from alarmd_gateway.core import Core
-from alarmd_gateway.model import BadSample, Code, GatewayFault
+from alarmd_gateway.model import BadSample, Code, GatewayFault, Sample
+from alarmd_gateway.samples import SampleQueue
 from alarmd_gateway.simulate import Simulation, attach
 from core_help import Served, by_core, by_record, config_of
 from field_help import until
@@ -140,6 +141,26 @@ def test_disturbances_become_alarms(alarmd: Path, examples: Path, tmp_path: Path
             for name in ("pump", "elapsed_ms", "none", "outlet"):
                 with pytest.raises(BadSample):
                     it.simulation.disturb(name, "x")
+
+    asyncio.run(body())
+
+
+@pytest.mark.server
+def test_a_model_beside_many_samples_of_another_source(
+    alarmd: Path, examples: Path, tmp_path: Path
+) -> None:
+    async def body() -> None:
+        async with Simulated(alarmd, examples, tmp_path) as it:
+            await until(lambda: it.core.state.scanned)
+            it.core._queue = SampleQueue(3)
+            for number in range(40):
+                await it.core.offer(Sample("level", number % 2, "test"))
+            events = it.core.state.events
+            try:
+                await until(lambda: it.core.state.events > events + 10, 30)
+            finally:
+                it.core.stop()
+                it.core._taken.set()  # ends it where it waits for itself
 
     asyncio.run(body())
 

@@ -50,7 +50,9 @@ class LineSource(Source):
                 if data:
                     await self._take(lines.feed(data))
                 data = await read_ready(file, self._given.path)
-            await self._take(lines.end())
+                if not data and (rest := lines.end()):
+                    await self._take(rest)
+                    data = read_now(file)  # another writer may have come meanwhile
             raise Lost("nobody writes to it")
         finally:
             os.close(file)

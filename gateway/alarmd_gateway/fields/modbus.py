@@ -107,6 +107,9 @@ class Device:
             raise Lost(f"{what}: {fault}") from None
         if isinstance(answer, Exception):
             raise Lost(f"{what}: {answer}")
+        if answer.transaction_id != self._client.transaction.tid:
+            # it came late, and so would all that follow; the library takes each for what was asked last
+            raise Lost(f"{what}: the device answers another request")
         if answer.isError():
             raise Refusal(f"{what}: the device answers exception {answer.exception_code}")
         return answer
@@ -120,6 +123,7 @@ class ModbusClient(Source):
         self._given = given
         self._blocks = list(blocks(given.inputs))
         self._thread = ThreadPoolExecutor(1, given.name)
+        self._refused: set[Point] = set()  # outputs that the device didn't take
 
     async def session(self, current: Callable[[], dict[str, Value]]) -> None:
         """Connects, and reads and writes each period until the device doesn't answer."""
@@ -135,6 +139,7 @@ class ModbusClient(Source):
             while True:
                 due = max(due + self._given.poll, loop.time())
                 await self._writes(device, due)
+                await self._write_again(device, current())
                 await self._read(device)
         finally:
             self._thread.submit(device.close)
@@ -172,6 +177,14 @@ class ModbusClient(Source):
         for name, value in self.waiting_outputs():
             await self._write(device, name, value)
 
+    async def _write_again(self, device: Device, values: dict[str, Value]) -> None:
+        """Writes what the device has refused, as it is now; what isn't to be written by now is let be."""
+        for point in tuple(self._refused):
+            if point.variable.name in values:
+                await self._write_point(device, point, values[point.variable.name])
+            else:
+                self._refused.discard(point)
+
     async def _write(self, device: Device, name: str, value: Value) -> None:
         """Writes an output wherever the map has it."""
         for point in self._given.outputs:
@@ -180,9 +193,12 @@ class ModbusClient(Source):
 
     async def _write_point(self, device: Device, point: Point, value: Value) -> None:
         loop, name = asyncio.get_running_loop(), point.variable.name
+        self._refused.discard(point)
         try:
             await loop.run_in_executor(self._thread, device.write, point, point.write(value))
         except (Refusal, BadRaw) as fault:
+            if isinstance(fault, Refusal):
+                self._refused.add(point)
             self.intake.fails(self.name, name, str(fault))
         else:
             self.intake.good(self.name, name)

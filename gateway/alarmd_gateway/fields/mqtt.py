@@ -21,10 +21,14 @@ from ..model import Kind, Value
 from .source import Intake, Lost, Source
 
 CONNECT_SECONDS: Final = 10.0
+MOST_QUALITY: Final = 1
+"""Of what is read: with 1 the library acknowledges a message once it was taken. With 2 it does before, and keeps the message in a memory
+that a loss of the connection, or the gateway's end, takes away."""
 NOT_GRANTED: Final = 128
 PAYLOAD_BYTES: Final = 4096
 TRUTHS: Final = {"true": True, "1": True, "on": True, "false": False, "0": False, "off": False}
 NUMBER: Final = re.compile(r"[+-]?[0-9]{1,30}(\.[0-9]{1,30})?")
+FARTHEST: Final = 400  # places between a JSON number's point and its first digit
 
 
 def value_of(topic: Topic, payload: bytes) -> Value:
@@ -33,29 +37,36 @@ def value_of(topic: Topic, payload: bytes) -> Value:
         raise BadRaw(f"{topic.topic}: a payload of {len(payload)} bytes")
     try:
         text = payload.decode().strip()
-        word = text if not topic.path else spelling(inside(text, topic.path))
-    except (ValueError, LookupError, TypeError, RecursionError):
+        found = text if not topic.path else inside(text, topic.path)
+    except (ValueError, LookupError, TypeError, ArithmeticError, RecursionError):
         raise BadRaw(f"{topic.topic}: {payload[:60]!r} has no such value") from None
+    word = str(found)
     if topic.variable.kind is Kind.BOOL:
         if word.lower() not in TRUTHS:
             raise BadRaw(f"{topic.topic}: {word[:60]!r} is no BOOL")
         return topic.scale.truth(TRUTHS[word.lower()])
-    if not NUMBER.fullmatch(word):
+    number = number_of(found)
+    if number is None:
         raise BadRaw(f"{topic.topic}: {word[:60]!r} is no number")
-    return topic.scale.number(Fraction(Decimal(word)))
+    return topic.scale.number(number)
 
 
 def inside(text: str, path: tuple[str, ...]) -> Any:
-    """What a JSON document has under a path of keys and of numbers in lists. Raises ValueError, LookupError or TypeError."""
+    """What a JSON document has under a path of keys and of numbers in lists. Raises ValueError, LookupError, TypeError, or
+    ArithmeticError where a number's exponent is beyond all measure."""
     found = json.loads(text, parse_float=Decimal)
     for key in path:
         found = found[int(key)] if isinstance(found, list) else found[key]
     return found
 
 
-def spelling(value: object) -> str:
-    """A value of JSON as the word of a payload."""
-    return format(value, "f") if isinstance(value, Decimal) else str(value)
+def number_of(found: object) -> Fraction | None:
+    """A number of JSON, or the one that a word spells; None where there is none. All digits of one that is far too large would take
+    more memory than there is."""
+    if isinstance(found, Decimal):
+        return Fraction(found) if abs(found.adjusted()) <= FARTHEST else None
+    word = str(found)
+    return Fraction(Decimal(word)) if NUMBER.fullmatch(word) else None
 
 
 def payload_of(scale: Scale, value: Value) -> str:
@@ -142,14 +153,15 @@ class MqttClient(Source):
                 tell(str(paho.connack_string(code)))
                 return
             if self._topics:
-                client.subscribe([(topic, self._given.quality) for topic in self._topics])
+                quality = min(self._given.quality, MOST_QUALITY)
+                client.subscribe([(topic, quality) for topic in self._topics])
             tell("")
 
         def on_disconnect(client: paho.Client, _: Any, code: int) -> None:
             tell(f"the connection has ended: {paho.error_string(code)}")
 
         def on_message(client: paho.Client, _: Any, message: paho.MQTTMessage) -> None:
-            taking = self._take(message.topic, bytes(message.payload))
+            taking = self._take(message.topic, bytes(message.payload), not message.retain)
             try:
                 asyncio.run_coroutine_threadsafe(taking, loop).result()
             except Exception as fault:  # the core doesn't take it now
@@ -172,12 +184,13 @@ class MqttClient(Source):
                 else:
                     self.intake.good(self.name, topic.variable.name)
 
-    async def _take(self, name: str, payload: bytes) -> None:
-        """Takes a message; the next one isn't read before. A topic of an earlier map, which the broker remembers, has no input."""
+    async def _take(self, name: str, payload: bytes, fresh: bool) -> None:
+        """Takes a message; the next one isn't read before. A topic of an earlier map, which the broker remembers, has no input. One
+        that isn't fresh is what the broker had kept when it was reached."""
         for topic in self._topics.get(name, []):
             try:
                 value = value_of(topic, payload)
             except BadRaw as fault:
                 self.intake.bad(self.name, topic.variable.name, str(fault))
                 continue
-            await self.intake.give(self.name, topic.variable.name, value)
+            await self.intake.give(self.name, topic.variable.name, value, fresh)

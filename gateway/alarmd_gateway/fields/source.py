@@ -48,14 +48,16 @@ class Intake:
         self._clock = clock
         self._bad: dict[str, float] = {}  # when the last bad sample came, by the trouble's subject
 
-    async def give(self, source: str, name: str, value: Value | str) -> str | None:
+    async def give(
+        self, source: str, name: str, value: Value | str, fresh: bool = True
+    ) -> str | None:
         """Gives a sample. Returns why it isn't taken, where it isn't."""
         variable = self.taker.plant.inputs.get(name.lower())
         known = (
             UNKNOWN if variable is None else variable.name
         )  # one trouble for all names that are none
         try:
-            await self.taker.offer(Sample(name, value, source))
+            await self.taker.offer(Sample(name, value, source, fresh))
         except BadSample as fault:
             self.bad(source, known, str(fault))
             return str(fault)
@@ -68,11 +70,13 @@ class Intake:
 
     def bad(self, source: str, name: str, words: str) -> None:
         """A value of an input can't be taken from this source: a trouble for a minute, unless a good one comes."""
-        self._bad[f"{source} {name}"] = self._clock()
         self.fails(source, name, words)
+        self._bad[f"{source} {name}"] = self._clock()
 
     def fails(self, source: str, name: str, words: str) -> None:
-        """An input can't be had from this source, or an output not be written there: a trouble until `good`."""
+        """An input can't be had from this source, or an output not be written there: a trouble until `good`, also where a bad value
+        came before."""
+        self._bad.pop(f"{source} {name}", None)
         self.troubles.raises(TroubleKind.SOURCE, f"{source} {name}", f"{source}: {words}")
 
     def good(self, source: str, name: str) -> None:
