@@ -15,8 +15,9 @@ from http_help import two_users
 from served import Served, served
 
 from alarmd_gateway.core import Question
-from alarmd_gateway.model import Code, Order, Reply, Verb
+from alarmd_gateway.model import Code, Json, Order, Reply, Verb
 from alarmd_gateway.troubles import TroubleKind
+from alarmd_gateway.view import View
 
 pytestmark = pytest.mark.browser
 
@@ -217,6 +218,31 @@ def test_a_plant_that_was_taken_up_is_shown(site: Served, page: Page) -> None:
     site.do(lambda: site.core.scan(70_000, {"A2": Code.UNACK}))
     page.click("#tab-alarms")
     until(lambda: page.rows() == [("A2", "UNACK")])
+
+
+def test_a_plant_that_is_taken_up_while_a_page_begins(
+    page: Page, monkeypatch: pytest.MonkeyPatch
+) -> None:
+    """The page has the plant of its snapshot, also where another one is taken up right after it was asked for the first one."""
+    core, table = FakeCore(fake_plant(3)), View.table
+    asked: list[str] = []
+
+    def once(view: View) -> dict[str, Json]:
+        found = table(view)
+        asked.append(core.plant.name)
+        if len(asked) == 1:
+            core.reload(fake_plant(6, "Another tank"))
+        return found
+
+    monkeypatch.setattr(View, "table", once)
+    with served(core) as site:
+        page.open(site.url)
+        until(lambda: asked)
+        site.do(lambda: core.scan(2000, {"A5": Code.UNACK}))
+        page.until_live()
+        until(lambda: page.rows() == [("A5", "UNACK")])
+        assert page.text("#plant-name") == "Another tank"
+    page.faults()
 
 
 def test_the_area_filter_says_what_it_hides(site: Served, page: Page) -> None:

@@ -31,6 +31,9 @@ const KEYS = [
   ["Esc", "close a dialog, back to the list"],
 ];
 
+// The table of a plant that isn't known yet.
+const NOTHING = { areas: [], consoles: [], programs: [], inputs: [], outputs: [], alarms: [] };
+
 const store = new Store();
 const banner = new Banner(store);
 const screens = {};
@@ -76,7 +79,7 @@ $("login").onsubmit = async (event) => {
   try {
     const who = await post("/api/login", { name: name.value, password: password.value });
     password.value = "";
-    await begin(who);
+    begin(who);
   } catch (fault) {
     setText($("login-message"), fault.message);
     password.value = "";
@@ -91,26 +94,19 @@ $("log-out").onclick = async () => {
   askLogin("Logged out.");
 };
 
-async function begin(who) {
-  setToken(who.token);
+function begin(who) {
+  takeWho(who);
   document.body.className = "";
   $("login").hidden = true;
   setText($("user-name"), who.user ?? "");
   $("log-out").hidden = !who.users;
-  let table;
-  try {
-    table = await get("/api/plant");
-  } catch (fault) {
-    if (fault.status === 401) return askLogin();
-    setTimeout(() => begin(who), 2000);
-    return undefined;
-  }
-  takeTable(who, table);
+  store.takeTable(NOTHING);
   if (!screens.alarms) makeScreens();
   for (const id of ["top", "tabs", "screens", "bottom"]) $(id).hidden = false;
   showScreen(shown);
   live?.stop();
   live = new Live({
+    table: takeTable,
     snapshot: (data) => store.takeSnapshot(data),
     changes: (list) => {
       store.takeChanges(list);
@@ -119,15 +115,14 @@ async function begin(who) {
     alive: () => setLost(null),
     lost: () => setLost(lostAt ?? new Date()),
     ready,
+    plant: () => get("/api/plant").catch(() => null),
   });
 }
 
-// Whether the gateway answers and the plant is known anew. A session that has ended asks for the password.
+// Whether the gateway answers. A session that has ended asks for the password.
 async function ready() {
   try {
-    const who = await get("/api/session");
-    setToken(who.token);
-    takeTable(who, await get("/api/plant"));
+    takeWho(await get("/api/session"));
     return true;
   } catch (fault) {
     if (fault.status === 401) askLogin("The session has ended.");
@@ -135,8 +130,13 @@ async function ready() {
   }
 }
 
-function takeTable(who, table) {
+function takeWho(who) {
+  setToken(who.token);
   setText($("plant-name"), who.plant);
+}
+
+function takeTable(table) {
+  setText($("plant-name"), table.name);
   store.takeTable(table);
   const kept = store.areas.includes(store.area) ? store.area : "";
   $("area").replaceChildren(el("option", { value: "" }, "All areas"), ...store.areas.map((area) => el("option", { value: area }, area)));
