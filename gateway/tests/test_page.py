@@ -9,12 +9,14 @@ from collections.abc import Iterator
 from datetime import datetime, timezone
 
 import pytest
+from aiohttp import web
 from browser_help import Keys, Page, browser, until
 from fake_core import FakeCore, fake_plant
 from http_help import two_users
 from served import Served, served
 
 from alarmd_gateway.core import Question
+from alarmd_gateway.live import Live
 from alarmd_gateway.model import Code, Json, Order, Reply, Verb
 from alarmd_gateway.troubles import TroubleKind
 from alarmd_gateway.view import View
@@ -428,6 +430,30 @@ def test_twenty_thousand_alarms_of_which_two_thousand_come_at_once(page: Page) -
         page.keys("/", "a19999")
         until(lambda: page.rows("#all") == [("A19999", "NORM")])
         assert page.faults() == []
+
+
+def test_before_all_that_stands_is_there_nothing_looks_live(
+    page: Page, monkeypatch: pytest.MonkeyPatch
+) -> None:
+    """A page without a snapshot has an empty list, which would look like a plant without alarms."""
+    handle, door = Live.handle, threading.Event()
+
+    async def late(live: Live, request: web.Request) -> web.WebSocketResponse:
+        await asyncio.to_thread(door.wait, 60)
+        return await handle(live, request)
+
+    monkeypatch.setattr(Live, "handle", late)
+    with served() as site:
+        site.do(lambda: site.core.scan(1000, {"A1": Code.UNACK}))
+        page.open(site.url)
+        until(lambda: page.text("#link"))
+        assert page.text("#link") == "✕ not live yet"
+        assert page.run("return document.body.classList.contains('lost')")
+        door.set()
+        page.until_live()
+        assert page.rows() == [("A1", "UNACK")]
+        assert not page.run("return document.body.classList.contains('lost')")
+    page.faults()
 
 
 def test_a_lost_connection_is_told_and_comes_back(page: Page) -> None:

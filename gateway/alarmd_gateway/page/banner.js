@@ -121,7 +121,7 @@ async function answer(question) {
   }
 }
 
-// Says that the connection is lost, or that it is there.
+// Says that the connection is lost, or that it is there. Before the first snapshot nothing is live either: the list is empty then.
 export function showLink(store, lostAt) {
   const lost = $("lost");
   const link = $("link");
@@ -129,8 +129,9 @@ export function showLink(store, lostAt) {
   if (lostAt !== null) {
     setText(lost, `CONNECTION LOST since ${lostAt.toISOString().slice(11, 19)} UTC. Nothing on this page is live. Trying again …`);
     setText(link, "✕ not live");
-  } else if (isDead(store)) setText(link, "✕ no scans");
+  } else if (!store.connected) setText(link, "✕ not live yet");
+  else if (isDead(store)) setText(link, "✕ no scans");
   else setText(link, "● live");
-  document.body.classList.toggle("lost", lostAt !== null || isDead(store));
+  document.body.classList.toggle("lost", !store.live);
   document.body.classList.toggle("cut", lostAt !== null);
 }
