@@ -17,7 +17,7 @@ from served import Served, served
 
 from alarmd_gateway.core import Question
 from alarmd_gateway.live import Live
-from alarmd_gateway.model import Code, Json, Order, Reply, Verb
+from alarmd_gateway.model import MOST_EVENTS, Code, Json, Order, Reply, Verb
 from alarmd_gateway.troubles import TroubleKind
 from alarmd_gateway.view import View
 
@@ -294,6 +294,28 @@ def test_troubles_stand_above_and_the_worst_first(site: Served, page: Page) -> N
     assert site.core.orders == []
     page.keys("a")  # and now it is taken
     until(lambda: ("A5", "ACKED") in page.rows())
+
+
+def test_with_a_full_history_nothing_is_live(site: Served, page: Page) -> None:
+    """No scan is taken any more, whether a scan or an order was the last event."""
+    core = site.core
+
+    def to_the_last_but_one() -> None:
+        core.state.events = MOST_EVENTS - 2
+        core.scan(62_000, {"A2": Code.RTNUN})
+
+    site.do(to_the_last_but_one)
+    until(lambda: ("A2", "RTNUN") in page.rows())
+    assert page.live()
+    page.choose("A1")
+    page.keys("a")
+    until(lambda: page.text("#link") == "✕ no scans")
+    assert page.run("return document.body.classList.contains('lost')")
+    page.choose("A5")
+    page.keys("a")
+    site.do(core.anew)
+    page.until_live()
+    assert [order.target for order, _, _ in core.orders] == ["A1"]
 
 
 def test_a_question_is_shown_and_answered(site: Served, page: Page) -> None:

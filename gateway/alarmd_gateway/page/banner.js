@@ -9,8 +9,9 @@ import { longTime, shortTime, TRAPS } from "./words.js";
 const MOST = 3; // troubles that are shown before somebody asks for all
 const DEAD = new Set(["server", "silence", "refused", "log"]); // with one of these nothing that is shown is live
 
-// Whether no scan is taken, so that nothing that is shown is live.
+// Whether no scan is taken, so that nothing that is shown is live. With a full history none is.
 export const isDead = (store) =>
+  store.eventsLeft === 0 ||
   [...store.troubles.values()].some((trouble) => DEAD.has(trouble.kind)) ||
   [...store.questions.values()].some((question) => question.subject === "clock");
 
