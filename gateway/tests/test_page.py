@@ -478,6 +478,47 @@ def test_before_all_that_stands_is_there_nothing_looks_live(
     page.faults()
 
 
+PRESS = "document.dispatchEvent(new KeyboardEvent('keydown', { key: 'v', bubbles: true }))"
+
+
+def test_what_nobody_can_have_read_isnt_acknowledged_with_the_others(page: Page) -> None:
+    with served(FakeCore(fake_plant(60))) as site:
+        core = site.core
+        site.do(lambda: core.scan(1000, {f"A{number}": Code.UNACK for number in range(60)}))
+        page.open(site.url)
+        page.until_live()
+        until(lambda: len(page.rows()) > 10)
+        time.sleep(0.5)  # until those that are seen can have been read
+        before = page.run(
+            "const box = document.querySelector('#alarms .rows'), end = box.getBoundingClientRect().bottom + 1;"
+            "const seen = [...box.querySelectorAll('.row')].filter((row) => row.getBoundingClientRect().bottom <= end);"
+            f"box.scrollTop = 80; await new Promise(requestAnimationFrame); {PRESS};"
+            "return seen.map((row) => row.dataset.tag)"
+        )
+        until(lambda: page.text("#message").endswith("acknowledged"))
+        tags = [order.target for order, _, _ in core.orders]
+        assert tags and set(tags) < set(before)  # and not those that have come into sight
+    page.faults()
+
+
+def test_an_alarm_that_comes_again_is_to_be_read_anew(site: Served, page: Page) -> None:
+    site.do(lambda: site.core.scan(62_000, {"A4": Code.LATAK}))
+    until(lambda: ("A4", "LATAK") in page.rows())
+    time.sleep(0.5)  # until its row has been there for long enough
+    page.run(
+        "const row = document.querySelector('#alarms .row[data-tag=A4]');"
+        "const watch = new MutationObserver(() => {"
+        f"if (row.dataset.code === 'UNACK') {{ watch.disconnect(); {PRESS}; }} }});"
+        "watch.observe(row, { attributes: true });"
+    )
+    site.do(lambda: site.core.scan(63_000, {"A4": Code.UNACK}))
+    until(lambda: page.text("#message") == "3 acknowledged")
+    assert ("A4", "UNACK") in page.rows()
+    time.sleep(0.5)
+    page.keys("v")
+    until(lambda: ("A4", "ACKED") in page.rows())
+
+
 def test_a_lost_connection_is_told_and_comes_back(page: Page) -> None:
     with served() as site:
         port = site.web.port

@@ -6,7 +6,7 @@ import { isAway, order, orderAll, tell } from "./orders.js";
 import { VirtualList } from "./rows.js";
 import { ASIDE, STATES, STANDING, TAKES, WAITING, duration, longTime, shortTime } from "./words.js";
 
-const READ = 400; // ms that a row has to be there before it is acknowledged with the others
+const READ = 400; // ms that a row has to be wholly seen as it is before it is acknowledged with the others
 
 const ACTIONS = {
   ack: ["A", "Acknowledge", (alarm) => order("ack", alarm.tag)],
@@ -70,6 +70,7 @@ export class AlarmScreen {
       make: make ?? makeCells,
       fill: fill?.(store) ?? fillCells(store),
       chosen: () => this.refresh(),
+      told: (alarm) => `${alarm.code} ${alarm.since}`,
     });
     this.buttons = new Map();
     const bar = el("div", { class: "bar", role: "toolbar", "aria-label": "Orders" });
