@@ -7,6 +7,7 @@ import threading
 import time
 from collections.abc import Iterator
 from datetime import datetime, timezone
+from typing import Any
 
 import pytest
 from aiohttp import web
@@ -517,6 +518,22 @@ def test_an_alarm_that_comes_again_is_to_be_read_anew(site: Served, page: Page) 
     time.sleep(0.5)
     page.keys("v")
     until(lambda: ("A4", "ACKED") in page.rows())
+
+
+def test_a_stuck_key_acknowledges_once(site: Served, page: Page) -> None:
+    time.sleep(0.5)  # until the rows have been there for long enough
+    key: dict[str, Any] = {"type": "keyDown", "key": "v", "code": "KeyV", "text": "v"}
+    page.driver.execute_cdp_cmd("Input.dispatchKeyEvent", key)
+    until(lambda: page.text("#message") == "3 acknowledged")
+    site.do(lambda: site.core.scan(62_000, {"A3": Code.UNACK}))
+    until(lambda: ("A3", "UNACK") in page.rows())
+    for _ in range(10):
+        time.sleep(0.1)
+        page.driver.execute_cdp_cmd("Input.dispatchKeyEvent", {**key, "autoRepeat": True})
+    page.driver.execute_cdp_cmd("Input.dispatchKeyEvent", {**key, "type": "keyUp"})
+    assert ("A3", "UNACK") in page.rows() and len(site.core.orders) == 3
+    page.keys("v")  # pressed anew
+    until(lambda: ("A3", "ACKED") in page.rows())
 
 
 def test_a_lost_connection_is_told_and_comes_back(page: Page) -> None:

@@ -224,7 +224,7 @@ document.addEventListener("keydown", (event) => {
     screens[shown].focus();
     return;
   }
-  if (field) return;
+  if (field || event.repeat) return; // a key that is held, or stuck, would acknowledge whatever comes
   const key = event.key.toLowerCase();
   const screen = NAMES["123456".indexOf(key)];
   if (screen && key) showScreen(screen);
