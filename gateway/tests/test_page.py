@@ -582,6 +582,31 @@ def test_a_session_that_has_ended_asks_for_the_password(page: Page) -> None:
     page.faults()
 
 
+def test_who_couldnt_log_out_is_told(page: Page) -> None:
+    """As where the cable is out: the session lasts, and whoever opens the page next would have it."""
+    cut: dict[str, Any] = {
+        "offline": True,
+        "latency": 0,
+        "downloadThroughput": -1,
+        "uploadThroughput": -1,
+    }
+    with served(users=two_users()) as site:
+        page.open(site.url)
+        page.login("anna")
+        page.until_live()
+        page.driver.execute_cdp_cmd("Network.enable", {})
+        page.driver.execute_cdp_cmd("Network.emulateNetworkConditions", cut)
+        page.click("#log-out")
+        until(lambda: page.text("#message") == "Not logged out: the gateway doesn't answer.")
+        assert page.text("#login") == "" and page.text("#user-name") == "anna"
+        page.driver.execute_cdp_cmd("Network.emulateNetworkConditions", {**cut, "offline": False})
+        page.until_live()
+        page.click("#log-out")
+        until(lambda: page.text("#login-message") == "Logged out.")
+        assert site.do(lambda: len(site.web.guard.sessions)) == 0
+    page.faults()
+
+
 def test_by_keyboard_alone(page: Page) -> None:
     with served(FakeCore(fake_plant(24)), users=two_users()) as site:
         core = site.core

@@ -90,8 +90,10 @@ $("login").onsubmit = async (event) => {
 $("log-out").onclick = async () => {
   try {
     await post("/api/logout", {});
-  } catch { /* it has ended already */ }
-  askLogin("Logged out.");
+  } catch (fault) {
+    if (fault.status !== 401) return tell(`Not logged out: ${fault.message}.`, true); // with 401 the session has ended already
+  }
+  return askLogin("Logged out.");
 };
 
 function begin(who) {
