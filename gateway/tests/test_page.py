@@ -607,6 +607,27 @@ def test_who_couldnt_log_out_is_told(page: Page) -> None:
     page.faults()
 
 
+def test_a_page_names_who_its_orders_are_of(page: Page) -> None:
+    """Pages of one browser have one session: where Bert logs in by another one, this one is his too."""
+    with served(users=two_users()) as site:
+        site.do(lambda: site.core.scan(1000, {"A0": Code.UNACK, "A1": Code.UNACK}))
+        page.open(site.url)
+        page.login("anna")
+        page.until_live()
+        until(lambda: len(page.rows()) == 2)
+        page.run(
+            "const { post } = await import('/page/http.js');"
+            "await post('/api/login', { name: 'bert', password: 'bertbert' })"
+        )
+        until(lambda: page.rows() == [("A0", "UNACK")])
+        assert page.text("#user-name") == "bert"
+        page.choose("A0")
+        page.keys("a")
+        until(lambda: page.rows() == [("A0", "ACKED")])
+        assert site.core.orders == [(Order(Verb.ACK, 2, "A0"), "bert", None)]
+    page.faults()
+
+
 def test_by_keyboard_alone(page: Page) -> None:
     with served(FakeCore(fake_plant(24)), users=two_users()) as site:
         core = site.core

@@ -100,7 +100,6 @@ function begin(who) {
   takeWho(who);
   document.body.className = "";
   $("login").hidden = true;
-  setText($("user-name"), who.user ?? "");
   $("log-out").hidden = !who.users;
   store.takeTable(NOTHING);
   if (!screens.alarms) makeScreens();
@@ -134,6 +133,7 @@ async function ready() {
 
 function takeWho(who) {
   setToken(who.token);
+  setText($("user-name"), who.user ?? ""); // another one, where somebody has logged in by another page of this browser
   setText($("plant-name"), who.plant);
 }
 
