@@ -297,6 +297,27 @@ def test_troubles_stand_above_and_the_worst_first(site: Served, page: Page) -> N
     until(lambda: ("A5", "ACKED") in page.rows())
 
 
+def test_a_dialog_that_is_open_orders_nothing_by_what_isnt_live(site: Served, page: Page) -> None:
+    core = site.core
+    site.do(lambda: core.stops("dose"))
+    page.choose("A5")
+    page.keys("o")
+    until(lambda: page.text("#remove .subject"))
+    site.do(lambda: core.troubles.raises(TroubleKind.SERVER, "", "alarmd has ended"))
+    until(lambda: page.text("#link") == "✕ no scans")
+    page.keys("broken wire", Keys.ENTER)
+    told = "A5: not out of service, nothing on this page is live"
+    until(lambda: page.text("#message") == told)
+    site.do(lambda: core.troubles.clear(TroubleKind.SERVER, ""))
+    page.until_live()
+    page.click("#troubles [data-restart=dose]")
+    site.do(lambda: core.troubles.raises(TroubleKind.SERVER, "", "alarmd has ended"))
+    until(lambda: page.text("#link") == "✕ no scans")
+    page.click("#confirm-yes")
+    until(lambda: page.text("#message") == "dose: not restarted, nothing on this page is live")
+    assert core.orders == []
+
+
 def test_with_a_full_history_nothing_is_live(site: Served, page: Page) -> None:
     """No scan is taken any more, whether a scan or an order was the last event."""
     core = site.core

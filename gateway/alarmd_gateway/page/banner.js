@@ -68,7 +68,7 @@ export class Banner {
   }
 
   stoppedLine(stopped) {
-    const button = el("button", { type: "button", "data-restart": stopped.program, disabled: !this.store.live, onclick: () => restart(stopped) }, "Restart …");
+    const button = el("button", { type: "button", "data-restart": stopped.program, disabled: !this.store.live, onclick: () => restart(this.store, stopped) }, "Restart …");
     return this.line("stopped", stopped.time, stoppedText(stopped), button);
   }
 
@@ -103,9 +103,9 @@ export function stoppedPlace(stopped) {
 
 const stoppedText = (stopped) => `${stopped.program} at ${stoppedPlace(stopped)}: its alarms stay as they are`;
 
-export async function restart(stopped) {
+export async function restart(store, stopped) {
   const lines = [stoppedText(stopped), "It runs again from the next scan on. Where the cause is still there, it stops again."];
-  if (await askYes(`Restart ${stopped.program}?`, lines, "Restart")) await order("restart", stopped.program);
+  if (await askYes(`Restart ${stopped.program}?`, lines, "Restart")) await order(store, "restart", stopped.program);
 }
 
 const NO = { clock: "No: end the gateway", record: "No: ask again later" };

@@ -38,11 +38,13 @@ export function tell(words, bad = false) {
 }
 
 // Gives an order, and says what came of it: null where it was taken, else why it wasn't. Another order for the same target goes first.
-async function give(verb, target, more) {
+// Nothing is ordered by what isn't live any more, as it may be by the time that a dialog is answered.
+async function give(store, verb, target, more) {
   while (away.has(target)) {
     if (away.get(target).verb === verb) return "this order is under way";
     await away.get(target).ended;
   }
+  if (!store.live) return "nothing on this page is live";
   const order = { verb, answered: false, changed: verb === "restart" };
   order.ended = new Promise((resolve) => { order.done = resolve; });
   away.set(target, order);
@@ -60,18 +62,18 @@ async function give(verb, target, more) {
   return why;
 }
 
-export async function order(verb, target, more = {}) {
-  const why = await give(verb, target, more);
+export async function order(store, verb, target, more = {}) {
+  const why = await give(store, verb, target, more);
   if (why === null) tell(`${target}: ${DONE[verb]}`);
   else tell(`${target}: not ${DONE[verb]}, ${why}`, true);
   return why === null;
 }
 
 // One order for several alarms, one after another.
-export async function orderAll(verb, targets) {
+export async function orderAll(store, verb, targets) {
   const faults = [];
   for (const target of targets) {
-    const why = await give(verb, target, {});
+    const why = await give(store, verb, target, {});
     if (why !== null) faults.push(`${target}: ${why}`);
   }
   const done = targets.length - faults.length;
