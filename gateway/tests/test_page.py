@@ -18,7 +18,7 @@ from served import Served, served
 
 from alarmd_gateway.core import Question
 from alarmd_gateway.live import Live
-from alarmd_gateway.model import MOST_EVENTS, Code, Json, Order, Reply, Verb
+from alarmd_gateway.model import MOST_EVENTS, Code, Json, Order, Reply, ServerGone, Verb
 from alarmd_gateway.troubles import TroubleKind
 from alarmd_gateway.view import View
 
@@ -130,6 +130,44 @@ def test_an_order_that_is_under_way_isnt_given_again(site: Served, page: Page) -
     door.set()
     until(lambda: page.text("#message").startswith("2 acknowledged, 1 not: A1"))
     assert [order.target for order, _, _ in core.orders] == ["A1", "A5", "A2"]
+
+
+def test_of_an_order_without_an_answer_it_isnt_said_that_it_wasnt_taken(
+    site: Served, page: Page
+) -> None:
+    """The connection of an order ends, as by a cable that is pulled, while the order waits for its turn."""
+    core, take, door = site.core, site.core.order, threading.Event()
+
+    async def slow(order: Order, user: str | None = None, reason: str | None = None) -> Reply:
+        await asyncio.to_thread(door.wait, 60)
+        await take(order, user, reason)
+        raise ServerGone("alarmd has ended", 1)
+
+    site.do(lambda: setattr(core, "order", slow))
+    unknown = "so it isn't known whether the order was taken: the journal tells"
+    page.run(
+        "const ask = window.fetch;"
+        "window.fetch = (path, options) => path === '/api/order' ?"
+        "  ask(path, { ...options, signal: AbortSignal.timeout(300) }) : ask(path, options)"
+    )
+    page.choose("A1")
+    page.keys("a")
+    until(lambda: page.text("#message") == f"A1: the gateway doesn't answer, {unknown}")
+    time.sleep(0.5)  # until the rows have been there for long enough
+    page.keys("v")
+    told = f"0 acknowledged, 3 perhaps not: A5: the gateway doesn't answer, {unknown}"
+    until(lambda: page.text("#message") == told)
+    door.set()
+    until(lambda: ("A1", "ACKED") in page.rows() and len(core.orders) == 4)  # all were taken
+    site.do(lambda: core.scan(62_000, {"A2": Code.RTNUN}))
+    until(lambda: ("A2", "RTNUN") in page.rows() and not page.run(AWAY))
+    page.choose("A2")
+    page.keys("a")
+    until(lambda: page.text("#message") == f"A2: alarmd has ended, {unknown}")
+    page.faults()
+
+
+AWAY = "return document.querySelectorAll('#alarms .row.away').length"
 
 
 def test_shelve_with_a_time_and_a_reason(site: Served, page: Page) -> None:

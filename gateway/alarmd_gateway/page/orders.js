@@ -8,6 +8,15 @@ import { DONE } from "./words.js";
 const away = new Map();
 const SETTLES = 1000; // ms after an answer, in which its change comes
 
+const UNKNOWN = "it isn't known whether the order was taken: the journal tells"; // as the gateway has it
+const sure = (why) => !why.includes(UNKNOWN);
+
+// Why an order wasn't taken. Where there is no answer, or the gateway has failed meanwhile, it may be taken all the same.
+function reason(fault) {
+  const refused = fault.status >= 400 && fault.status < 500;
+  return refused || !sure(fault.message) ? fault.message : `${fault.message}, so ${UNKNOWN}`;
+}
+
 export const isAway = (target) => away.has(target);
 
 function end(target) {
@@ -54,7 +63,7 @@ async function give(store, verb, target, more) {
     const reply = await post("/api/order", { order: verb, target, ...more });
     why = reply.taken ? null : reply.why;
   } catch (fault) {
-    why = fault.message;
+    why = reason(fault);
   }
   order.answered = true;
   if (order.changed || why !== null) end(target);
@@ -65,7 +74,7 @@ async function give(store, verb, target, more) {
 export async function order(store, verb, target, more = {}) {
   const why = await give(store, verb, target, more);
   if (why === null) tell(`${target}: ${DONE[verb]}`);
-  else tell(`${target}: not ${DONE[verb]}, ${why}`, true);
+  else tell(sure(why) ? `${target}: not ${DONE[verb]}, ${why}` : `${target}: ${why}`, true);
   return why === null;
 }
 
@@ -77,5 +86,6 @@ export async function orderAll(store, verb, targets) {
     if (why !== null) faults.push(`${target}: ${why}`);
   }
   const done = targets.length - faults.length;
-  tell(`${done} ${DONE[verb]}${faults.length ? `, ${faults.length} not: ${faults[0]}` : ""}`, faults.length > 0);
+  const not = faults.every(sure) ? "not" : "perhaps not";
+  tell(`${done} ${DONE[verb]}${faults.length ? `, ${faults.length} ${not}: ${faults[0]}` : ""}`, faults.length > 0);
 }
