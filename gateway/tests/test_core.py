@@ -17,6 +17,7 @@ from around import config_for, plant_copy, until
 from alarmd_gateway.changes import Change, ChangeKind, CutOff
 from alarmd_gateway.config import Config
 from alarmd_gateway.core import Core
+from alarmd_gateway.metrics import Annunciations
 from alarmd_gateway.model import BadSample, Code, GatewayFault, Order, Sample, ServerGone, Verb
 from alarmd_gateway.record import peek
 from alarmd_gateway.server import Server
@@ -239,6 +240,24 @@ def test_a_server_that_is_killed_is_started_again_with_the_same_state(config: Co
                 if change.kind is ChangeKind.ANEW:
                     break
             assert TroubleKind.SERVER not in [trouble.kind for trouble in core.troubles]
+
+    run(work())
+
+
+def test_what_was_annunciated_is_counted_once_when_the_server_is_started_again(
+    config: Config,
+) -> None:
+    async def work() -> None:
+        async with served(config) as core:
+            annunciations = Annunciations(core)
+            await busy(core)
+            annunciations.catch_up()
+            counted, old = dict(annunciations.by_priority), core.journal
+            assert sum(counted.values()) >= 2
+            os.kill(server_pid(), signal.SIGKILL)
+            await until(lambda: core.journal is not old and len(core.journal) >= len(old))
+            annunciations.catch_up()
+            assert annunciations.by_priority == counted
 
     run(work())
 
