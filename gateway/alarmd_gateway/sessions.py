@@ -122,8 +122,11 @@ class Tries:
             self._wrong.popitem(last=False)
 
     def succeeded(self, address: str, name: str) -> None:
-        """Forgets the wrong passwords of this name from this address."""
+        """Forgets the wrong passwords of this name from this address, and the try that was counted before it was known to be right."""
         self._wrong.pop((address, name), None)
+        times = self._wrong.get((address, None))
+        if times:
+            times.pop()
 
     def _until(self, key: tuple[str, str | None], most: int, now: float) -> float:
         times = self._wrong.get(key)

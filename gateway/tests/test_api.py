@@ -115,6 +115,11 @@ def test_after_five_wrong_passwords_the_right_one_waits_too(guarded_plant: Serve
     assert Client(guarded_plant.url).login("bert").status == 200
 
 
+def test_a_whole_shift_may_log_in_from_one_address(guarded_plant: Served) -> None:
+    for number in range(30):
+        assert Client(guarded_plant.url).login(("anna", "bert")[number % 2]).status == 200
+
+
 def test_an_order_wants_the_sessions_own_token(guarded_plant: Served) -> None:
     anna, bert = as_user(guarded_plant, "anna"), as_user(guarded_plant, "bert")
     right = anna.token

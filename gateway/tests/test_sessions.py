@@ -89,6 +89,19 @@ def test_a_right_password_forgets_the_wrong_ones() -> None:
     assert tries.wait("10.0.0.1", "anna") == 0
 
 
+def test_right_passwords_are_no_tries() -> None:
+    tries = Tries(Hand())
+    for _ in range(19):
+        tries.failed("10.0.0.1", "bert")
+    for _ in range(50):
+        assert tries.wait("10.0.0.1", "anna") == 0
+        tries.failed("10.0.0.1", "anna")  # each counts until it is known to be right
+        tries.succeeded("10.0.0.1", "anna")
+    tries.failed("10.0.0.1", "anna")
+    assert tries.wait("10.0.0.1", "anna") == 300  # nineteen of Bert's, and this one
+    tries.succeeded("10.0.0.2", "anna")  # of which nothing was counted
+
+
 def test_orders_that_a_session_may_give_come_back() -> None:
     clock = Hand()
     pace = Pace(clock)
