@@ -106,6 +106,15 @@ def test_logging_in_and_out(guarded_plant: Served) -> None:
         assert client.post("/api/login", wrong).status == 400
 
 
+def test_a_password_that_is_no_text_is_a_wrong_one(
+    guarded_plant: Served, caplog: pytest.LogCaptureFixture
+) -> None:
+    client = Client(guarded_plant.url)
+    for name, password in (("anna", "\ud800"), ("nobody", "\ud800"), ("\ud800", "x")):
+        assert error(client.login(name, password)) == (403, "the name or the password is wrong")
+    assert caplog.records == []  # who isn't logged in writes no log
+
+
 def test_after_five_wrong_passwords_the_right_one_waits_too(guarded_plant: Served) -> None:
     client = Client(guarded_plant.url)
     for _ in range(5):
