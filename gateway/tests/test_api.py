@@ -159,9 +159,10 @@ def test_other_sites_are_refused(open_plant: Served) -> None:
         assert client.ask("/api/live", headers={"Origin": origin}).status == 403
     for host in ("evil.example", f"evil.example:{open_plant.web.port}", "127.0.0.1.evil", ""):
         assert client.ask("/api/state", headers={"Host": host}).status == 421, host
-    assert (
-        client.ask("/api/state", headers={"Host": f"localhost:{open_plant.web.port}"}).status == 200
-    )
+    port = open_plant.web.port
+    for host in ("localhost", "127.0.0.1", "[::1]", "127.0.0.2"):  # each may stand in `listen`
+        for one in (host, f"{host}:{port}"):
+            assert client.ask("/api/state", headers={"Host": one}).status == 200, one
     assert client.ask("/api/state", headers={"Origin": own}).status == 200
     assert len(open_plant.core.orders) == 1
 
