@@ -378,6 +378,13 @@ def test_with_a_full_history_nothing_is_live(site: Served, page: Page) -> None:
     assert [order.target for order, _, _ in core.orders] == ["A1"]
 
 
+def test_a_trouble_of_another_day_has_its_date(site: Served, page: Page) -> None:
+    site.do(lambda: site.core.stops("dose"))
+    until(lambda: page.text("#troubles .since") == "06:01:01")
+    site.do(lambda: site.core.scan(86_400_000, {}))
+    until(lambda: page.text("#troubles .since") == "11-23 06:01")
+
+
 def test_a_question_is_shown_and_answered(site: Served, page: Page) -> None:
     now = datetime.now(timezone.utc)
     asked = (

@@ -36,7 +36,8 @@ export class Banner {
     const stopped = [...this.store.stopped.values()];
     const questions = [...this.store.questions.values()];
     const told = new Set(troubles.filter((one) => one.kind === "stopped").map((one) => one.subject.toLowerCase()));
-    const drawn = JSON.stringify([troubles, stopped, questions, this.whole, this.store.live, this.store.connected]);
+    const day = this.store.now?.slice(0, 10); // by which times are told
+    const drawn = JSON.stringify([troubles, stopped, questions, this.whole, this.store.live, this.store.connected, day]);
     if (drawn === this.drawn) return;
     this.drawn = drawn;
     const lines = [
