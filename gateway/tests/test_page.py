@@ -615,6 +615,7 @@ def test_a_lost_connection_is_told_and_comes_back(page: Page) -> None:
     until(lambda: "CONNECTION LOST" in page.text("#lost"))
     assert not page.run("return document.querySelector('dialog[open]')")  # it would hide that
     assert page.text("#link") == "✕ not live"
+    assert page.run("return document.title") == "✕ not live: (1) Buffer tank"
     assert "NOT LIVE" in page.run(
         "return getComputedStyle(document.querySelector('main'), '::after').content"
     )

@@ -207,7 +207,7 @@ function drawCounts() {
   const counts = store.counts();
   const drawn = JSON.stringify(counts);
   const waiting = counts.waiting.reduce((sum, one) => sum + one, 0);
-  document.title = waiting ? `(${waiting}) ${$("plant-name").textContent}` : $("plant-name").textContent;
+  document.title = `${store.live ? "" : "✕ not live: "}${waiting ? `(${waiting}) ` : ""}${$("plant-name").textContent}`;
   const box = $("counts");
   if (box.dataset.drawn === drawn) return;
   box.dataset.drawn = drawn;
