@@ -5,6 +5,7 @@ from __future__ import annotations
 import asyncio
 import os
 import signal
+import threading
 import time
 from collections.abc import AsyncIterator, Coroutine
 from contextlib import asynccontextmanager
@@ -50,6 +51,10 @@ async def give(core: Core, **values: int | bool | str) -> None:
 
 def run(work: Coroutine[Any, Any, None]) -> None:
     asyncio.run(asyncio.wait_for(work, 400))
+
+
+def kinds(core: Core) -> list[TroubleKind]:
+    return [trouble.kind for trouble in core.troubles]
 
 
 def code_of(core: Core, tag: str) -> str:
@@ -407,6 +412,32 @@ def test_a_command_is_on_the_disk_before_it_is_sent(
     assert len(seen) > 3
     for disk, sent in zip(seen[::2], seen[1::2], strict=True):
         assert (disk[:5], sent[:5], disk[5:]) == ("disk ", "sent ", sent[5:])
+
+
+def test_a_disk_that_hangs_is_told(config: Config, monkeypatch: pytest.MonkeyPatch) -> None:
+    """As one whose controller tries again for minutes: displays are served meanwhile, and what they show is old."""
+    sync, door = os.fsync, threading.Event()
+
+    def fsync(descriptor: int) -> None:
+        door.wait(400)
+        sync(descriptor)
+
+    async def work() -> None:
+        async with served(config) as core:
+            await busy(core)
+            object.__setattr__(config, "patience_ms", 300)  # alarmd itself goes on with the old one
+            monkeypatch.setattr(os, "fsync", fsync)
+            await until(lambda: TroubleKind.SILENCE in kinds(core))
+            events = core.state.events
+            object.__setattr__(config, "patience_ms", 400_000)
+            door.set()
+            await until(lambda: core.state.events > events)
+            assert TroubleKind.SILENCE not in kinds(core)
+
+    try:
+        run(work())
+    finally:
+        door.set()
 
 
 def test_a_server_is_not_started_again_with_other_files(config: Config) -> None:
