@@ -6,6 +6,7 @@ import asyncio
 import threading
 import time
 from collections.abc import Iterator
+from dataclasses import replace
 from datetime import datetime, timezone
 from typing import Any
 
@@ -201,6 +202,25 @@ def test_shelve_with_a_time_and_a_reason(site: Served, page: Page) -> None:
     page.choose("A2", "#aside")
     page.click("#aside [data-order=unshelve]")
     until(lambda: page.rows("#aside") == [])
+
+
+def test_an_alarm_that_may_be_shelved_for_seconds_alone(page: Page) -> None:
+    plant = fake_plant(4)
+    rows = tuple(replace(row, max_shelve_ms=5000) for row in plant.alarms)
+    short = replace(plant, alarms=rows, by_tag={row.tag: row for row in rows})
+    with served(FakeCore(short)) as site:
+        site.do(lambda: site.core.scan(1000, {"A2": Code.UNACK}))
+        page.open(site.url)
+        page.until_live()
+        until(page.rows)
+        page.choose("A2")
+        page.keys("s")
+        until(lambda: "at most 5 s" in page.text("#shelve .subject"))
+        page.run("document.querySelector('#shelve-reason').focus()")
+        page.keys("cleaned", Keys.ENTER)
+        until(lambda: site.core.orders)
+        assert site.core.orders == [(Order(Verb.SHELVE, 1, "A2", 5000), None, "cleaned")]
+    page.faults()
 
 
 def test_an_alarm_that_may_not_be_shelved(site: Served, page: Page) -> None:
