@@ -502,6 +502,29 @@ def test_a_journal_of_many_pages(site: Served, page: Page) -> None:
     until(lambda: page.text("#journal .where") == "rows 250 to 449 of 506")
 
 
+def test_a_journal_whose_newest_rows_are_of_others(page: Page) -> None:
+    """What Bert may not see doesn't look as if there were no rows."""
+    with served(users=two_users()) as site:
+        core = site.core
+
+        def fill() -> None:
+            core.scan(1000, {"A0": Code.UNACK})
+            for scan in range(2, 252):
+                core.scan(1000 * scan, {"A1": Code.RTNUN if scan % 2 else Code.UNACK})
+
+        site.do(fill)
+        page.open(site.url)
+        page.login("bert")
+        page.until_live()
+        page.keys("5")
+        until(
+            lambda: page.text("#journal .where") == "rows 52 to 251 of 251: none is of your areas"
+        )
+        page.click("#journal-earlier")
+        until(lambda: page.text("#journal .where") == "rows 1 to 1 of 251")
+    page.faults()
+
+
 def test_twenty_thousand_alarms_of_which_two_thousand_come_at_once(page: Page) -> None:
     with served(FakeCore(fake_plant(20_000))) as site:
         page.open(site.url)
