@@ -79,8 +79,11 @@ class Sessions:
         return session
 
     def lasts(self, session: Session) -> bool:
-        """Whether a session that somebody has is still one of these."""
-        return self._clock() < session.ends and self._sessions.get(session.key) is session
+        """Whether a session that somebody has is still one of these. To be asked so is to be used, as by a page that is live."""
+        if self._clock() >= session.ends or self._sessions.get(session.key) is not session:
+            return False
+        self._sessions.move_to_end(session.key)
+        return True
 
     def end(self, cookie: str | None) -> None:
         """Ends the session of a cookie; one that is none is fine."""

@@ -57,6 +57,17 @@ def test_there_are_so_many_sessions_and_the_oldest_goes() -> None:
     assert sessions.find(cookies[0]) is not None and sessions.find(cookies[1]) is None
 
 
+def test_the_session_of_a_live_page_isnt_the_oldest() -> None:
+    sessions = Sessions(Hand())
+    _, watched = sessions.begin("anna", (1,))
+    for _ in range(
+        3 * MOST_SESSIONS
+    ):  # as of who asks for a session again and again, without a cookie
+        sessions.begin(None, ())
+        assert sessions.lasts(watched)
+    assert len(sessions) == MOST_SESSIONS
+
+
 def test_after_five_wrong_passwords_none_is_taken_for_five_minutes() -> None:
     clock = Hand()
     tries = Tries(clock)
