@@ -342,6 +342,20 @@ def test_figures_as_csv_have_no_formulas(
     assert text(Client(open_plant.url), "report.csv") == "figure,of\r\nmost frequent,'-T1\r\n"
 
 
+def test_a_reason_in_a_table_is_no_formula_whatever_separates_its_cells(open_plant: Served) -> None:
+    """A spreadsheet goes by semicolons where numbers have a comma."""
+    client = Client(open_plant.url)
+    client.enter()
+    for reason in ("=1+1", "a;=1+1;b", "a, b;@SUM(1)", "a;-1", "a;＝1", "a; b;c"):
+        assert client.order("shelve", "A0", milliseconds=1000, reason=reason).json["taken"]
+    told = text(client, "journal.csv")
+    for delimiter in ",;":
+        cells = [cell for row in csv.reader(io.StringIO(told), delimiter=delimiter) for cell in row]
+        assert not [cell for cell in cells if cell.startswith(tuple("=+-@＝＋－＠"))], delimiter
+    rows = list(csv.DictReader(io.StringIO(told)))
+    assert [row["reason"] for row in rows if row["kind"] == "order"][-1] == "a; b;c"
+
+
 def test_what_every_answer_brings(open_plant: Served) -> None:
     client = Client(open_plant.url)
     for path in (
