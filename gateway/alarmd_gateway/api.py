@@ -214,7 +214,8 @@ class Api:
             first = journal.row(1).moment if len(journal) else end
             begin = max(first, end - hours * HOUR) if hours else first
             consoles = None if self.view(session).everything else session.consoles
-            made = await asyncio.to_thread(report, self.core.plant, rows, begin, end, consoles)
+            plant, before = self.core.plant, journal.plants[:-1]
+            made = await asyncio.to_thread(report, plant, rows, begin, end, consoles, before)
             if len(self._reports) > 50:
                 self._reports.clear()
             self._reports[key] = time.monotonic(), made

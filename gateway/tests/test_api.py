@@ -10,7 +10,7 @@ from collections.abc import Iterator
 from datetime import datetime, timezone
 
 import pytest
-from fake_core import FakeCore
+from fake_core import FakeCore, fake_plant
 from http_help import Answer, Client, two_users
 from served import Served, served
 
@@ -332,6 +332,21 @@ def test_a_long_journal_as_csv(open_plant: Served) -> None:
     assert [int(row["number"]) for row in some] == list(range(100, 1200))
     assert text(client, "report.csv?hours=0").startswith("figure,of,value,recommended\r\n")
     assert client.ask("/api/report?hours=0").json["rates"][0]["count"] == 1002
+
+
+def test_what_was_annunciated_by_an_alarm_that_is_gone_counts(open_plant: Served) -> None:
+    core, client = open_plant.core, Client(open_plant.url)
+    open_plant.do(lambda: come_and_go(core, 20))
+    open_plant.do(lambda: core.reload(fake_plant(2)))
+    found = client.ask("/api/report").json
+    assert [row["count"] for row in found["rates"]] == [12, 12, 1]
+    assert [(row["tag"], row["count"]) for row in found["frequent"]] == [
+        ("A2", 10),
+        ("A0", 1),
+        ("A1", 1),
+    ]
+    assert [row["tag"] for row in found["chattering"]] == ["A2"]
+    assert found["acknowledgements"]["waiting"] == 2  # and not A2
 
 
 def test_figures_as_csv_have_no_formulas(
