@@ -249,6 +249,22 @@ def test_an_order_has_its_user_and_reason_and_a_console_that_may(guarded_plant: 
     ]
 
 
+def test_an_order_that_comes_again_is_given_once(guarded_plant: Served) -> None:
+    anna, bert = as_user(guarded_plant, "anna"), as_user(guarded_plant, "bert")
+    for _ in range(3):
+        assert anna.order("shelve", "A0", mark="one", **SHELVE).json["taken"]
+    assert len(guarded_plant.core.orders) == 1
+    assert bert.order("shelve", "A0", mark="one", **SHELVE).json["taken"]  # another session's mark
+    assert anna.order("shelve", "A0", mark="two", **SHELVE).json["taken"]
+    assert anna.order("shelve", "A0", **SHELVE).json["taken"]
+    assert len(guarded_plant.core.orders) == 4
+    for _ in range(2):
+        assert error(bert.order("ack", "A99", mark="no")) == (404, "there is no alarm of this tag")
+    for mark in ("", "x" * 65, 1, ["x"]):
+        assert anna.order("ack", "A1", mark=mark).status == 400
+    assert len(guarded_plant.core.orders) == 4
+
+
 def test_a_user_orders_from_the_users_own_consoles_alone(guarded_plant: Served) -> None:
     bert = as_user(guarded_plant, "bert")
     assert error(bert.order("ack", "A1")) == (403, "none of your consoles is for this alarm's area")

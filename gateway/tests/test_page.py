@@ -17,6 +17,7 @@ from fake_core import FakeCore, fake_plant
 from http_help import two_users
 from served import Served, served
 
+from alarmd_gateway.api import Api
 from alarmd_gateway.core import Question
 from alarmd_gateway.live import Live
 from alarmd_gateway.model import MOST_EVENTS, Code, Json, Order, Reply, ServerGone, Verb
@@ -169,6 +170,33 @@ def test_of_an_order_without_an_answer_it_isnt_said_that_it_wasnt_taken(
 
 
 AWAY = "return document.querySelectorAll('#alarms .row.away').length"
+
+
+def test_an_order_that_the_browser_sends_again_is_given_once(
+    page: Page, monkeypatch: pytest.MonkeyPatch
+) -> None:
+    """It does so by itself where a connection that was used before ends without an answer."""
+    order, came = Api.order, []
+
+    async def cut(api: Api, request: web.Request) -> web.Response:
+        answer = await order(api, request)
+        came.append(answer.status)
+        if len(came) == 1:
+            assert request.transport is not None
+            request.transport.close()
+        return answer
+
+    monkeypatch.setattr(Api, "order", cut)
+    with served() as site:
+        site.do(lambda: site.core.scan(1000, {"A2": Code.UNACK}))
+        page.open(site.url)
+        page.until_live()
+        until(page.rows)
+        page.choose("A2")
+        page.keys("a")
+        until(lambda: page.text("#message") == "A2: acknowledged")
+        assert came == [200, 200] and len(site.core.orders) == 1
+    page.faults()
 
 
 def test_shelve_with_a_time_and_a_reason(site: Served, page: Page) -> None:

@@ -60,7 +60,8 @@ async function give(store, verb, target, more) {
   document.dispatchEvent(new Event("away"));
   let why;
   try {
-    const reply = await post("/api/order", { order: verb, target, ...more });
+    // by its mark the gateway knows an order that the browser sends again by itself, as where its connection has ended
+    const reply = await post("/api/order", { order: verb, target, mark: crypto.randomUUID(), ...more });
     why = reply.taken ? null : reply.why;
   } catch (fault) {
     why = reason(fault);
