@@ -2,10 +2,8 @@
 
 from __future__ import annotations
 
-from .jobs import Job, reply
+from .jobs import UNKNOWN, Job, reply
 from .model import ServerGone
-
-UNKNOWN = "it isn't known whether the order was taken: the journal tells"
 
 
 class Away:

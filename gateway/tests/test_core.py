@@ -349,6 +349,27 @@ def test_a_server_that_ends_again_and_again_ends_the_core(config: Config) -> Non
     run(work())
 
 
+def test_of_an_order_in_the_record_it_isnt_said_that_it_wasnt_taken(config: Config) -> None:
+    """With it the next start goes on."""
+
+    async def work() -> None:
+        slow = config_for(config.alarmd, config.plant, restarts=0, period_ms=3_600_000)
+        core = await Core.start(slow)
+        working = asyncio.create_task(core.run())
+        await give(core, level=100)
+        await core.drain()
+        os.kill(server_pid(), signal.SIGSTOP)
+        asked = asyncio.create_task(core.order(Order(Verb.ACK, 1, "LAL-101")))
+        await until(lambda: "ack 1 LAL-101" in config.record.read_text())
+        os.kill(server_pid(), signal.SIGKILL)
+        with pytest.raises(ServerGone, match="SIGKILL, so it isn't known whether the order"):
+            await asked
+        with pytest.raises(GatewayFault, match="SIGKILL$"):
+            await working
+
+    run(work())
+
+
 def test_how_often_a_server_is_started_again_is_counted_from_its_last_answer(
     config: Config,
 ) -> None:

@@ -19,6 +19,7 @@ from served import Served, served
 
 from alarmd_gateway.api import Api
 from alarmd_gateway.core import Question
+from alarmd_gateway.jobs import UNKNOWN
 from alarmd_gateway.live import Live
 from alarmd_gateway.model import MOST_EVENTS, Code, Json, Order, Reply, ServerGone, Verb
 from alarmd_gateway.troubles import TroubleKind
@@ -139,14 +140,14 @@ def test_of_an_order_without_an_answer_it_isnt_said_that_it_wasnt_taken(
 ) -> None:
     """The connection of an order ends, as by a cable that is pulled, while the order waits for its turn."""
     core, take, door = site.core, site.core.order, threading.Event()
+    gone = f"alarmd has ended, so {UNKNOWN}"
 
     async def slow(order: Order, user: str | None = None, reason: str | None = None) -> Reply:
         await asyncio.to_thread(door.wait, 60)
         await take(order, user, reason)
-        raise ServerGone("alarmd has ended", 1)
+        raise ServerGone(gone, 1)
 
     site.do(lambda: setattr(core, "order", slow))
-    unknown = "so it isn't known whether the order was taken: the journal tells"
     page.run(
         "const ask = window.fetch;"
         "window.fetch = (path, options) => path === '/api/order' ?"
@@ -154,10 +155,10 @@ def test_of_an_order_without_an_answer_it_isnt_said_that_it_wasnt_taken(
     )
     page.choose("A1")
     page.keys("a")
-    until(lambda: page.text("#message") == f"A1: the gateway doesn't answer, {unknown}")
+    until(lambda: page.text("#message") == f"A1: the gateway doesn't answer, so {UNKNOWN}")
     time.sleep(0.5)  # until the rows have been there for long enough
     page.keys("v")
-    told = f"0 acknowledged, 3 perhaps not: A5: the gateway doesn't answer, {unknown}"
+    told = f"0 acknowledged, 3 perhaps not: A5: the gateway doesn't answer, so {UNKNOWN}"
     until(lambda: page.text("#message") == told)
     door.set()
     until(lambda: ("A1", "ACKED") in page.rows() and len(core.orders) == 4)  # all were taken
@@ -165,7 +166,12 @@ def test_of_an_order_without_an_answer_it_isnt_said_that_it_wasnt_taken(
     until(lambda: ("A2", "RTNUN") in page.rows() and not page.run(AWAY))
     page.choose("A2")
     page.keys("a")
-    until(lambda: page.text("#message") == f"A2: alarmd has ended, {unknown}")
+    until(lambda: page.text("#message") == f"A2: {gone}")
+    gone = "the order wasn't taken: nobody scans"  # this is known
+    page.choose("A5")
+    page.keys("o")
+    page.keys("broken wire", Keys.ENTER)
+    until(lambda: page.text("#message") == f"A5: not out of service, {gone}")
     page.faults()
 
 

@@ -11,10 +11,10 @@ const SETTLES = 1000; // ms after an answer, in which its change comes
 const UNKNOWN = "it isn't known whether the order was taken: the journal tells"; // as the gateway has it
 const sure = (why) => !why.includes(UNKNOWN);
 
-// Why an order wasn't taken. Where there is no answer, or the gateway has failed meanwhile, it may be taken all the same.
+// Why an order wasn't taken. Where no answer can be read, or the gateway has a fault, it may be taken all the same.
 function reason(fault) {
-  const refused = fault.status >= 400 && fault.status < 500;
-  return refused || !sure(fault.message) ? fault.message : `${fault.message}, so ${UNKNOWN}`;
+  const told = fault.status >= 400 && fault.status !== 500;
+  return told ? fault.message : `${fault.message}, so ${UNKNOWN}`;
 }
 
 export const isAway = (target) => away.has(target);
