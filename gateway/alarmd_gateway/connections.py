@@ -6,6 +6,7 @@ import asyncio
 import logging
 import resource
 from collections import Counter
+from collections.abc import Mapping
 from contextlib import suppress
 from typing import cast
 
@@ -61,9 +62,16 @@ class Limit:
 class Connection(RequestHandler):
     """A connection of aiohttp's that is closed at once where there are too many, and later where it brings no request."""
 
-    __slots__ = ("_limit", "_address", "_timer", "served")
+    __slots__ = ("_limit", "_headers", "_address", "_timer", "served")
 
-    def __init__(self, server: web.Server, limit: Limit, loop: asyncio.AbstractEventLoop) -> None:
+    def __init__(
+        self,
+        server: web.Server,
+        limit: Limit,
+        loop: asyncio.AbstractEventLoop,
+        headers: Mapping[str, str],
+    ) -> None:
+        """`headers` are those of answers to what is no request."""
         super().__init__(
             server,
             loop=loop,
@@ -75,6 +83,7 @@ class Connection(RequestHandler):
             auto_decompress=False,  # a small body stays small
         )
         self._limit = limit
+        self._headers = headers
         self._address: str | None = None
         self._timer: asyncio.TimerHandle | None = None
         self.served = False  # whether it has brought a request
@@ -97,6 +106,17 @@ class Connection(RequestHandler):
         if self._timer is not None:
             self._timer.cancel()
         super().connection_lost(exc)
+
+    def handle_error(
+        self,
+        request: web.BaseRequest,
+        status: int = 500,
+        exc: BaseException | None = None,
+        message: str | None = None,
+    ) -> web.StreamResponse:
+        response = super().handle_error(request, status, exc, message)
+        response.headers.update(self._headers)
+        return response
 
     def _late(self, transport: asyncio.Transport) -> None:
         if not self.served:

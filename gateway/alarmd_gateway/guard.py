@@ -153,12 +153,15 @@ class Guard:
             log.exception("a request to %s failed", request.path)
             return answer({"error": "a fault in the gateway: its log has more"}, 500)
 
+    @property
+    def all_headers(self) -> dict[str, str]:
+        """The headers of every response."""
+        secure = {"Strict-Transport-Security": "max-age=31536000"} if self.tls else {}
+        return {**HEADERS, "Server": "alarmd", **secure}
+
     async def headers(self, request: web.Request, response: web.StreamResponse) -> None:
-        """Sets the headers of every response, before it is sent."""
-        response.headers.update(HEADERS)
-        response.headers["Server"] = "alarmd"
-        if self.tls:
-            response.headers["Strict-Transport-Security"] = "max-age=31536000"
+        """Sets them, before it is sent."""
+        response.headers.update(self.all_headers)
 
 
 def this_machine(host: str) -> bool:

@@ -402,6 +402,13 @@ def test_what_every_answer_brings(open_plant: Served) -> None:
         for name, wanted in HEADERS.items():
             assert answer.headers[name] == wanted, (path, name)
         assert "aiohttp" not in answer.headers["Server"].lower()
+    for sent in (b"nothing\r\n\r\n", b"GET / HTTP/1.1\r\nHost: a\r\nHost: b\r\n\r\n"):
+        with socket.create_connection(("127.0.0.1", open_plant.web.port), 60) as channel:
+            channel.sendall(sent)
+            told = b"".join(iter(lambda: channel.recv(65536), b""))
+        head = told.decode().partition("\r\n\r\n")[0].split("\r\n")
+        assert head[0].split()[1] == "400" and "Server: alarmd" in head
+        assert {f"{name}: {wanted}" for name, wanted in HEADERS.items()} <= set(head)
     assert "unsafe" not in HEADERS["Content-Security-Policy"]
     assert client.ask("/api/session").headers["Cache-Control"] == "no-store"
 
