@@ -16,6 +16,7 @@ from aiohttp.web_protocol import RequestHandler
 FIRST_REQUEST = 20.0  # seconds in which a connection has to bring a whole request
 IDLE = 75.0  # seconds that a connection may rest between two requests
 LONGEST_LINE = 8190  # bytes of a request's first line, or of a header
+MOST_AHEAD = 100  # requests that may wait behind one that is under way; browsers send none ahead
 
 
 QUIET = logging.getLogger("alarmd_gateway.http")  # what is no HTTP is answered, and no trouble
@@ -106,6 +107,11 @@ class Connection(RequestHandler):
         if self._timer is not None:
             self._timer.cancel()
         super().connection_lost(exc)
+
+    def data_received(self, data: bytes) -> None:
+        super().data_received(data)
+        if len(self._messages) > MOST_AHEAD and self.transport is not None:
+            self.transport.abort()  # each takes memory until it is answered
 
     def handle_error(
         self,

@@ -513,6 +513,18 @@ def test_what_is_no_http(open_plant: Served, caplog: pytest.LogCaptureFixture) -
     assert caplog.records == []
 
 
+def test_who_asks_far_ahead_and_reads_nothing_is_closed(open_plant: Served) -> None:
+    """Requests that wait for those before them would take memory without an end."""
+    asked = b"GET /page/style.css HTTP/1.1\r\nHost: localhost\r\n\r\n" * 200
+    with socket.create_connection(("127.0.0.1", open_plant.web.port), 60) as channel:
+        with pytest.raises(ConnectionError):
+            for _ in range(500):
+                channel.sendall(asked)
+    client = Client(open_plant.url)
+    client.enter()
+    assert client.order("ack", "A1").json["taken"]
+
+
 def test_who_brings_no_request_is_closed(monkeypatch: pytest.MonkeyPatch) -> None:
     monkeypatch.setattr(connections, "FIRST_REQUEST", 0.3)
     with served() as site:
