@@ -38,7 +38,8 @@ class Announcer:
         rows = len(self._link.book.journal)
         if rows != self._rows:
             self._rows = rows
-            self.board.put(ChangeKind.ROWS, self._moment, {"length": rows})
+            left = self._link.book.state.events_left  # an order may have been the last event
+            self.board.put(ChangeKind.ROWS, self._moment, {"length": rows, "events_left": left})
 
     def scanned(self, answer: str) -> None:
         """The last line of a scan's answer. A scan that is refused is a trouble until one is taken."""

@@ -15,7 +15,7 @@ from .core import Core
 from .guard import Guard, Refused, answer, body, number
 from .journal import Row
 from .model import Json
-from .ordering import read_order, with_console
+from .ordering import Marks, read_mark, read_order, with_console
 from .report_table import as_json, table
 from .reports import Report, report
 from .sessions import Pace, Session, Tries
@@ -36,6 +36,7 @@ class Api:
         self.orders: dict[tuple[str, str], int] = {}  # how many by verb and reply
         self._tries = Tries()
         self._pace = Pace()
+        self._marks = Marks()
         self._scrypts = asyncio.Semaphore(SCRYPTS)
         self._reports: dict[tuple[tuple[int, ...], int], tuple[float, Report]] = {}
         self._reporting = asyncio.Lock()
@@ -155,6 +156,12 @@ class Api:
         """Gives an order, and answers what the server replied."""
         session = self.guard.changing(request)
         given = await body(request)
+        mark = read_mark(given.pop("mark", None))
+        return answer(
+            await self._marks.once(session.token, mark, lambda: self._give(session, given))
+        )
+
+    async def _give(self, session: Session, given: dict[str, Json]) -> Json:
         order, reason = read_order(given)
         if not self._pace.take(session.token):
             raise Refused(429, "too many orders at once", 1)
@@ -169,7 +176,7 @@ class Api:
             raise Refused(400, str(bad)) from bad
         key = order.verb.value, reply.code
         self.orders[key] = self.orders.get(key, 0) + 1
-        return answer({"reply": reply.code, "taken": reply.taken, "why": reply.why})
+        return {"reply": reply.code, "taken": reply.taken, "why": reply.why}
 
     async def answer(self, request: web.Request) -> web.Response:
         """Answers a question of the gateway."""
@@ -214,7 +221,8 @@ class Api:
             first = journal.row(1).moment if len(journal) else end
             begin = max(first, end - hours * HOUR) if hours else first
             consoles = None if self.view(session).everything else session.consoles
-            made = await asyncio.to_thread(report, self.core.plant, rows, begin, end, consoles)
+            plant, before = self.core.plant, journal.plants[:-1]
+            made = await asyncio.to_thread(report, plant, rows, begin, end, consoles, before)
             if len(self._reports) > 50:
                 self._reports.clear()
             self._reports[key] = time.monotonic(), made

@@ -3,10 +3,8 @@
 from __future__ import annotations
 
 from .commands import Command
-from .jobs import Job, reply
+from .jobs import UNKNOWN, Job, reply
 from .model import ServerGone
-
-UNKNOWN = "it isn't known whether the order was taken: the journal tells"
 
 
 class Away:

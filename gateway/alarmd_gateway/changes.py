@@ -20,7 +20,7 @@ class ChangeKind(enum.Enum):
     INPUT = "input"  # `name`, `value`: an input that a scan has set to another value
     STOPPED = "stopped"  # the fields of Stopped.json
     RESTARTED = "restarted"  # `program`
-    ROWS = "rows"  # `length`: how many rows the journal has now, where there are new ones
+    ROWS = "rows"  # `length`: how many rows the journal has now, where there are new ones; `events_left`
     SCAN = "scan"  # `events_left`: the last change of each scan
     TROUBLE = "trouble"  # the fields of Trouble.json and `stands`, a truth
     QUESTION = "question"  # the fields of Question.json

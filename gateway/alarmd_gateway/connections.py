@@ -6,6 +6,7 @@ import asyncio
 import logging
 import resource
 from collections import Counter
+from collections.abc import Mapping
 from contextlib import suppress
 from typing import cast
 
@@ -15,6 +16,7 @@ from aiohttp.web_protocol import RequestHandler
 FIRST_REQUEST = 20.0  # seconds in which a connection has to bring a whole request
 IDLE = 75.0  # seconds that a connection may rest between two requests
 LONGEST_LINE = 8190  # bytes of a request's first line, or of a header
+MOST_AHEAD = 100  # requests that may wait behind one that is under way; browsers send none ahead
 
 
 QUIET = logging.getLogger("alarmd_gateway.http")  # what is no HTTP is answered, and no trouble
@@ -61,9 +63,16 @@ class Limit:
 class Connection(RequestHandler):
     """A connection of aiohttp's that is closed at once where there are too many, and later where it brings no request."""
 
-    __slots__ = ("_limit", "_address", "_timer", "served")
+    __slots__ = ("_limit", "_headers", "_address", "_timer", "served")
 
-    def __init__(self, server: web.Server, limit: Limit, loop: asyncio.AbstractEventLoop) -> None:
+    def __init__(
+        self,
+        server: web.Server,
+        limit: Limit,
+        loop: asyncio.AbstractEventLoop,
+        headers: Mapping[str, str],
+    ) -> None:
+        """`headers` are those of answers to what is no request."""
         super().__init__(
             server,
             loop=loop,
@@ -75,6 +84,7 @@ class Connection(RequestHandler):
             auto_decompress=False,  # a small body stays small
         )
         self._limit = limit
+        self._headers = headers
         self._address: str | None = None
         self._timer: asyncio.TimerHandle | None = None
         self.served = False  # whether it has brought a request
@@ -97,6 +107,22 @@ class Connection(RequestHandler):
         if self._timer is not None:
             self._timer.cancel()
         super().connection_lost(exc)
+
+    def data_received(self, data: bytes) -> None:
+        super().data_received(data)
+        if len(self._messages) > MOST_AHEAD and self.transport is not None:
+            self.transport.abort()  # each takes memory until it is answered
+
+    def handle_error(
+        self,
+        request: web.BaseRequest,
+        status: int = 500,
+        exc: BaseException | None = None,
+        message: str | None = None,
+    ) -> web.StreamResponse:
+        response = super().handle_error(request, status, exc, message)
+        response.headers.update(self._headers)
+        return response
 
     def _late(self, transport: asyncio.Transport) -> None:
         if not self.served:

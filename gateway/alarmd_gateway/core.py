@@ -18,7 +18,7 @@ from .clock import Clock, clocks
 from .commands import Command, Reload, Scan
 from .config import Config
 from .first_moment import FirstMoment
-from .jobs import Disturbances, Job, fail, reply
+from .jobs import UNKNOWN, Disturbances, Job, fail, reply
 from .journal import Journal
 from .link import Link, NoReload, read_reload
 from .model import (
@@ -285,7 +285,7 @@ class Core:
             fail(job, refused)
             return
         except GatewayFault as fault:
-            fail(job, ServerGone(fault.words, fault.status))
+            fail(job, ServerGone(f"{fault.words}, so {UNKNOWN}", fault.status))
             raise
         reply(job, answer)
         self._announcer.happened(happened)

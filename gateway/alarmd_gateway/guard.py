@@ -13,6 +13,7 @@ from .connections import Connection
 from .model import GatewayFault, Json
 from .sessions import Session, Sessions
 from .users import Users
+from .web_config import loopback
 
 Handler = Callable[[web.Request], Awaitable[web.StreamResponse]]
 
@@ -20,7 +21,6 @@ LARGEST_BODY = 16_384  # bytes
 PATIENCE = 10.0  # seconds in which a body has to come
 COMPRESSED_ASIDE = 65_536  # bytes; what is larger is compressed by a thread
 TOKEN = "X-Alarmd-Token"
-THIS_MACHINE = ("localhost", "127.0.0.1", "[::1]")
 HEADERS = {
     "Content-Security-Policy": "default-src 'none'; script-src 'self'; style-src 'self'; img-src 'self'; "
     "connect-src 'self'; base-uri 'none'; form-action 'none'; frame-ancestors 'none'",
@@ -125,11 +125,7 @@ class Guard:
         """
         host = request.headers.get("Host", "")
         origin = request.headers.get("Origin")
-        if (
-            self.users is None
-            and host.rpartition(":")[0] not in THIS_MACHINE
-            and host not in THIS_MACHINE
-        ):
+        if self.users is None and not this_machine(host):
             raise Refused(421, "without users the page is served to this machine alone")
         if origin is not None and origin.partition("://")[2] != host:
             raise Refused(403, "the request comes from another site")
@@ -157,12 +153,21 @@ class Guard:
             log.exception("a request to %s failed", request.path)
             return answer({"error": "a fault in the gateway: its log has more"}, 500)
 
+    @property
+    def all_headers(self) -> dict[str, str]:
+        """The headers of every response."""
+        secure = {"Strict-Transport-Security": "max-age=31536000"} if self.tls else {}
+        return {**HEADERS, "Server": "alarmd", **secure}
+
     async def headers(self, request: web.Request, response: web.StreamResponse) -> None:
-        """Sets the headers of every response, before it is sent."""
-        response.headers.update(HEADERS)
-        response.headers["Server"] = "alarmd"
-        if self.tls:
-            response.headers["Strict-Transport-Security"] = "max-age=31536000"
+        """Sets them, before it is sent."""
+        response.headers.update(self.all_headers)
+
+
+def this_machine(host: str) -> bool:
+    """Whether the host of a request is this machine, with a port or without one. Any loopback address is: no site has it for a name."""
+    names = host, host.rpartition(":")[0]
+    return any(loopback(name.removeprefix("[").removesuffix("]")) for name in names)
 
 
 async def body(request: web.Request) -> dict[str, Json]:

@@ -11,6 +11,9 @@ from .link import NoReload
 from .model import Order, Reply, ServerGone, Value, Variable
 
 
+UNKNOWN = "it isn't known whether the order was taken: the journal tells"
+
+
 class Disturbances(Protocol):
     """What a person may set in a simulation, beside the plant."""
 

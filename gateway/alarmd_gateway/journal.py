@@ -160,6 +160,11 @@ class Journal:
         """The plant that is served now."""
         return self._served[-1].plant
 
+    @property
+    def plants(self) -> tuple[Plant, ...]:
+        """The plants under which rows were added, in order; the last one is served now."""
+        return tuple(one.plant for one in self._served)
+
     def _at(self, number: int) -> Served:
         """The plant under which a row was added."""
         place = bisect.bisect_right(self._served, number, key=lambda one: one.first) - 1

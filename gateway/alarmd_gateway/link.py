@@ -128,8 +128,24 @@ class Link:
     ) -> tuple[list[str], list[Happening]]:
         """Records a command, sends it, and gives its answer and what has happened by it. Raises GatewayFault where the record
         can't be written, ServerGone where the server ends again and again."""
-        await self._log.append(entry_of(command, user, reason))
+        await self._append(entry_of(command, user, reason))
         return await self.take(command, user, reason)
+
+    async def _append(self, entry: Entry) -> None:
+        """Appends to the record. A disk that hangs is a trouble: displays are served meanwhile, and nothing that they show is live."""
+        patience = self._config.patience_ms / 1000
+        late = asyncio.get_running_loop().call_later(patience, self._late, patience)
+        try:
+            await self._log.append(entry)
+        finally:
+            late.cancel()
+            self.troubles.clear(TroubleKind.SILENCE, "")
+
+    def _late(self, seconds: float) -> None:
+        words = (
+            f"the record hasn't been on its disk for {seconds:g} s: nothing is scanned until it is"
+        )
+        self.troubles.raises(TroubleKind.SILENCE, "", words)
 
     async def take(
         self, command: Command, user: str | None = None, reason: str | None = None

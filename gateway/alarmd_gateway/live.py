@@ -102,7 +102,7 @@ class Live:
                 if changes is None:
                     return False
                 if any(change.kind is ChangeKind.RELOADED for change in changes):
-                    return False  # the page connects again, and asks for the plant before it does
+                    return False  # the page connects again, and asks for the plant anew
                 if any(change.kind is ChangeKind.ANEW for change in changes):
                     return True
                 if changes:

@@ -10,6 +10,7 @@ from prometheus_client.core import CounterMetricFamily, GaugeMetricFamily, Metri
 from prometheus_client.registry import Collector
 
 from .core import Core
+from .journal import Journal
 from .model import MOST_EVENTS, Code, Figure
 from .tally import WAITING
 
@@ -26,14 +27,25 @@ class Annunciations:
         self.by_priority: Counter[int] = Counter()
 
     def catch_up(self) -> None:
-        """Takes the rows that have come since the last time. With a new record the journal begins anew, and the count goes on."""
-        if self._journal is not self._core.journal:
-            self._journal, self._seen = self._core.journal, 0
+        """Takes the rows that have come since the last time. With a new record the journal begins anew, and the count goes on; where the
+        server was started again it is another object with the same rows."""
+        journal = self._core.journal
+        if not same_record(self._journal, journal):
+            self._seen = 0
+        self._journal = journal
         for row in self._journal.rows(self._seen + 1):
             self._seen = row.number
             if row.words[0] == "ALARM" and row.words[3] == Code.UNACK.value:
                 plant = row.plant or self._core.plant
                 self.by_priority[plant.by_tag[row.words[1]].priority] += 1
+
+
+def same_record(old: Journal, new: Journal) -> bool:
+    """Whether two journals are of one record: by their first row, which a later record has at a later moment."""
+    if old is new or not len(old) or not len(new):
+        return old is new
+    first, other = old.row(1), new.row(1)
+    return (first.moment, first.words) == (other.moment, other.words)
 
 
 class Gatherer(Collector):

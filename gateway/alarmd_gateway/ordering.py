@@ -1,6 +1,11 @@
-"""Orders as they come over HTTP: what a body has to have, and from which console an order comes."""
+"""Orders as they come over HTTP: what a body has to have, from which console an order comes, and that it is given once."""
 
 from __future__ import annotations
+
+import asyncio
+from collections import OrderedDict
+from collections.abc import Callable, Coroutine
+from typing import Any
 
 from .guard import Refused
 from .model import Json, Order, Verb
@@ -8,6 +13,8 @@ from .view import View
 
 LONGEST_REASON = 200  # characters
 LONGEST_SHELVING = 2_592_000_000  # ms: no alarm may be shelved for longer
+LONGEST_MARK = 64  # characters
+MOST_MARKS = 2000  # that are kept; the oldest goes first
 
 
 def read_order(given: dict[str, Json]) -> tuple[Order, str | None]:
@@ -58,3 +65,35 @@ def with_console(order: Order, view: View) -> Order:
     if console is None:
         raise Refused(403, "none of your consoles is for this alarm's area")
     return Order(order.verb, console.number, order.target, order.milliseconds)
+
+
+def read_mark(given: Json) -> str | None:
+    """The mark of an order, by which it is known again. Raises Refused (400)."""
+    if given is None:
+        return None
+    if not isinstance(given, str) or not 1 <= len(given) <= LONGEST_MARK:
+        raise Refused(400, f"mark has to be a text of 1 to {LONGEST_MARK} characters")
+    return given
+
+
+class Marks:
+    """What came of the orders that were given lately, by session and mark.
+
+    Where a connection ends before there is an answer, a browser may send its request again by itself, on another one: such an order
+    isn't given a second time, and has the answer of the first."""
+
+    def __init__(self) -> None:
+        self._given: OrderedDict[tuple[str, str], asyncio.Task[Json]] = OrderedDict()
+
+    async def once(
+        self, token: str, mark: str | None, give: Callable[[], Coroutine[Any, Any, Json]]
+    ) -> Json:
+        """What comes of an order, which is given unless there was one of this mark. Raises what `give` does."""
+        if mark is None:
+            return await give()
+        task = self._given.get((token, mark))
+        if task is None:
+            task = self._given[token, mark] = asyncio.create_task(give())
+            if len(self._given) > MOST_MARKS:
+                self._given.popitem(last=False)
+        return await asyncio.shield(task)

@@ -183,14 +183,19 @@ def report(
     begin: int,
     end: int,
     consoles: Collection[int] | None = None,
+    before: Sequence[Plant] = (),
 ) -> Report:
     """The figures of the time from `begin` until `end`, which isn't in it, of the alarms of some consoles (None: of all).
 
     `rows` are those of the journal from its beginning, in order: what stood before `begin` counts for what is stale or waits.
+    `before` are plants that were served earlier: their alarms that are gone by now were annunciated all the same.
     """
     shown = [row for row in plant.consoles if consoles is None or row.number in consoles]
-    areas = set(plant.areas) if consoles is None else {area for row in shown for area in row.areas}
-    alarms = [alarm for alarm in plant.alarms if alarm.area in areas]
+    plants = (*before, plant)
+    every = {area for one in plants for area in one.areas}
+    areas = every if consoles is None else {area for row in shown for area in row.areas}
+    known = {alarm.tag: alarm for one in plants for alarm in one.alarms}  # as the last one has it
+    alarms = [alarm for alarm in known.values() if alarm.area in areas]
     tally = Tally({alarm.tag for alarm in alarms}, begin, end)
     for event in events(rows):
         tally.take(event)

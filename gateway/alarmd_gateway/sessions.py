@@ -79,8 +79,11 @@ class Sessions:
         return session
 
     def lasts(self, session: Session) -> bool:
-        """Whether a session that somebody has is still one of these."""
-        return self._clock() < session.ends and self._sessions.get(session.key) is session
+        """Whether a session that somebody has is still one of these. To be asked so is to be used, as by a page that is live."""
+        if self._clock() >= session.ends or self._sessions.get(session.key) is not session:
+            return False
+        self._sessions.move_to_end(session.key)
+        return True
 
     def end(self, cookie: str | None) -> None:
         """Ends the session of a cookie; one that is none is fine."""
@@ -122,8 +125,11 @@ class Tries:
             self._wrong.popitem(last=False)
 
     def succeeded(self, address: str, name: str) -> None:
-        """Forgets the wrong passwords of this name from this address."""
+        """Forgets the wrong passwords of this name from this address, and the try that was counted before it was known to be right."""
         self._wrong.pop((address, name), None)
+        times = self._wrong.get((address, None))
+        if times:
+            times.pop()
 
     def _until(self, key: tuple[str, str | None], most: int, now: float) -> float:
         times = self._wrong.get(key)

@@ -11,7 +11,6 @@ import contextlib
 from collections.abc import Iterator
 
 from . import commands, log_watch
-from .away import UNKNOWN
 from .changes import ChangeKind
 from .commands import Command, Reload, Scan
 from .config import Config
@@ -19,7 +18,7 @@ from .core import Core
 from .etcd import Etcd, EtcdRefused, NoEtcd
 from .etcd_http import HttpEtcd
 from .etcd_log import EtcdLog
-from .jobs import Job
+from .jobs import UNKNOWN, Job
 from .joining import joined, played
 from .latest import Latest
 from .leader import Candidate

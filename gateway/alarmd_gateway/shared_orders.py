@@ -11,7 +11,7 @@ from collections.abc import Callable
 from . import commands
 from .away import Away
 from .commands import Command, Reload, Scan
-from .jobs import Job, fail
+from .jobs import UNKNOWN, Job, fail
 from .etcd import EtcdRefused, NoEtcd
 from .etcd_log import EtcdLog
 from .link import Link, NoReload, entry_of, prepared
@@ -93,7 +93,7 @@ class SharedOrders:
         try:
             answer, happened = await self._link.take(order, entry.user, entry.reason)
         except GatewayFault as fault:
-            self.away.fail_one(mark, fault.words)
+            self.away.fail_one(mark, f"{fault.words}, so {UNKNOWN}")
             raise
         self.away.answer(mark, answer)
         self._tell(order, answer, happened)

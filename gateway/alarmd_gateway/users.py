@@ -57,7 +57,11 @@ class Hash:
 
     def fits(self, password: str) -> bool:
         """Whether this is the hash of the password. Takes the time and memory of scrypt."""
-        if len(password.encode()) > LONGEST_PASSWORD:
+        try:
+            size = len(password.encode())
+        except UnicodeEncodeError:  # half of a pair, as JSON may have it
+            return False
+        if size > LONGEST_PASSWORD:
             return False
         return hmac.compare_digest(self.key, derive(password, self.salt, self))
 

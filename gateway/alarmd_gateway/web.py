@@ -102,7 +102,7 @@ class Web:
         assert server is not None
         try:
             self._server = await loop.create_server(
-                lambda: Connection(server, self.limit, loop),
+                lambda: Connection(server, self.limit, loop, self.guard.all_headers),
                 self.config.host,
                 self.config.port,
                 ssl=self.config.tls,

@@ -47,6 +47,8 @@ def web_config(config: Config, plant: Plant) -> WebConfig | None:
     table.end()
     if not loopback(host) and (users is None or certificate is None):
         raise fault(f"listen = {host!r} is beyond this machine: that wants users and a certificate")
+    if token == "":
+        raise fault("metrics_token is empty: who brings none would read /metrics")
     if (certificate is None) != (key is None):
         raise fault("certificate and key belong together")
     tls = None if certificate is None or key is None else tls_of(certificate, key)

@@ -128,7 +128,8 @@ class FakeCore(Core):
     def _happened(self, happened: list[Happening]) -> None:
         for happening in happened:
             self.board.happened(happening, self.state.moment)
-        self._tell(ChangeKind.ROWS, {"length": len(self.journal)})
+        left = self.state.events_left
+        self._tell(ChangeKind.ROWS, {"length": len(self.journal), "events_left": left})
 
     def scan(self, moment: int, codes: Mapping[str, Code] = {}, **outputs: bool | int) -> None:
         """A scan after which some alarms have other codes, and some outputs other values."""

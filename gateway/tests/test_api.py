@@ -10,7 +10,7 @@ from collections.abc import Iterator
 from datetime import datetime, timezone
 
 import pytest
-from fake_core import FakeCore
+from fake_core import FakeCore, fake_plant
 from http_help import Answer, Client, two_users
 from served import Served, served
 
@@ -106,6 +106,15 @@ def test_logging_in_and_out(guarded_plant: Served) -> None:
         assert client.post("/api/login", wrong).status == 400
 
 
+def test_a_password_that_is_no_text_is_a_wrong_one(
+    guarded_plant: Served, caplog: pytest.LogCaptureFixture
+) -> None:
+    client = Client(guarded_plant.url)
+    for name, password in (("anna", "\ud800"), ("nobody", "\ud800"), ("\ud800", "x")):
+        assert error(client.login(name, password)) == (403, "the name or the password is wrong")
+    assert caplog.records == []  # who isn't logged in writes no log
+
+
 def test_after_five_wrong_passwords_the_right_one_waits_too(guarded_plant: Served) -> None:
     client = Client(guarded_plant.url)
     for _ in range(5):
@@ -113,6 +122,11 @@ def test_after_five_wrong_passwords_the_right_one_waits_too(guarded_plant: Serve
     answer = client.login("anna")
     assert answer.status == 429 and 0 < int(answer.headers["Retry-After"]) <= 301
     assert Client(guarded_plant.url).login("bert").status == 200
+
+
+def test_a_whole_shift_may_log_in_from_one_address(guarded_plant: Served) -> None:
+    for number in range(30):
+        assert Client(guarded_plant.url).login(("anna", "bert")[number % 2]).status == 200
 
 
 def test_an_order_wants_the_sessions_own_token(guarded_plant: Served) -> None:
@@ -145,9 +159,10 @@ def test_other_sites_are_refused(open_plant: Served) -> None:
         assert client.ask("/api/live", headers={"Origin": origin}).status == 403
     for host in ("evil.example", f"evil.example:{open_plant.web.port}", "127.0.0.1.evil", ""):
         assert client.ask("/api/state", headers={"Host": host}).status == 421, host
-    assert (
-        client.ask("/api/state", headers={"Host": f"localhost:{open_plant.web.port}"}).status == 200
-    )
+    port = open_plant.web.port
+    for host in ("localhost", "127.0.0.1", "[::1]", "127.0.0.2"):  # each may stand in `listen`
+        for one in (host, f"{host}:{port}"):
+            assert client.ask("/api/state", headers={"Host": one}).status == 200, one
     assert client.ask("/api/state", headers={"Origin": own}).status == 200
     assert len(open_plant.core.orders) == 1
 
@@ -232,6 +247,22 @@ def test_an_order_has_its_user_and_reason_and_a_console_that_may(guarded_plant: 
         (Order(Verb.REMOVE, 1, "A1"), "anna", "out for repair"),
         (Order(Verb.ACK, 1, "A1"), "anna", None),
     ]
+
+
+def test_an_order_that_comes_again_is_given_once(guarded_plant: Served) -> None:
+    anna, bert = as_user(guarded_plant, "anna"), as_user(guarded_plant, "bert")
+    for _ in range(3):
+        assert anna.order("shelve", "A0", mark="one", **SHELVE).json["taken"]
+    assert len(guarded_plant.core.orders) == 1
+    assert bert.order("shelve", "A0", mark="one", **SHELVE).json["taken"]  # another session's mark
+    assert anna.order("shelve", "A0", mark="two", **SHELVE).json["taken"]
+    assert anna.order("shelve", "A0", **SHELVE).json["taken"]
+    assert len(guarded_plant.core.orders) == 4
+    for _ in range(2):
+        assert error(bert.order("ack", "A99", mark="no")) == (404, "there is no alarm of this tag")
+    for mark in ("", "x" * 65, 1, ["x"]):
+        assert anna.order("ack", "A1", mark=mark).status == 400
+    assert len(guarded_plant.core.orders) == 4
 
 
 def test_a_user_orders_from_the_users_own_consoles_alone(guarded_plant: Served) -> None:
@@ -319,12 +350,41 @@ def test_a_long_journal_as_csv(open_plant: Served) -> None:
     assert client.ask("/api/report?hours=0").json["rates"][0]["count"] == 1002
 
 
+def test_what_was_annunciated_by_an_alarm_that_is_gone_counts(open_plant: Served) -> None:
+    core, client = open_plant.core, Client(open_plant.url)
+    open_plant.do(lambda: come_and_go(core, 20))
+    open_plant.do(lambda: core.reload(fake_plant(2)))
+    found = client.ask("/api/report").json
+    assert [row["count"] for row in found["rates"]] == [12, 12, 1]
+    assert [(row["tag"], row["count"]) for row in found["frequent"]] == [
+        ("A2", 10),
+        ("A0", 1),
+        ("A1", 1),
+    ]
+    assert [row["tag"] for row in found["chattering"]] == ["A2"]
+    assert found["acknowledgements"]["waiting"] == 2  # and not A2
+
+
 def test_figures_as_csv_have_no_formulas(
     open_plant: Served, monkeypatch: pytest.MonkeyPatch
 ) -> None:
     lines = [["figure", "of"], ["most frequent", "-T1"]]
     monkeypatch.setattr("alarmd_gateway.api.table", lambda plant, report: lines)
     assert text(Client(open_plant.url), "report.csv") == "figure,of\r\nmost frequent,'-T1\r\n"
+
+
+def test_a_reason_in_a_table_is_no_formula_whatever_separates_its_cells(open_plant: Served) -> None:
+    """A spreadsheet goes by semicolons where numbers have a comma."""
+    client = Client(open_plant.url)
+    client.enter()
+    for reason in ("=1+1", "a;=1+1;b", "a, b;@SUM(1)", "a;-1", "a;＝1", "a; b;c"):
+        assert client.order("shelve", "A0", milliseconds=1000, reason=reason).json["taken"]
+    told = text(client, "journal.csv")
+    for delimiter in ",;":
+        cells = [cell for row in csv.reader(io.StringIO(told), delimiter=delimiter) for cell in row]
+        assert not [cell for cell in cells if cell.startswith(tuple("=+-@＝＋－＠"))], delimiter
+    rows = list(csv.DictReader(io.StringIO(told)))
+    assert [row["reason"] for row in rows if row["kind"] == "order"][-1] == "a; b;c"
 
 
 def test_what_every_answer_brings(open_plant: Served) -> None:
@@ -342,6 +402,13 @@ def test_what_every_answer_brings(open_plant: Served) -> None:
         for name, wanted in HEADERS.items():
             assert answer.headers[name] == wanted, (path, name)
         assert "aiohttp" not in answer.headers["Server"].lower()
+    for sent in (b"nothing\r\n\r\n", b"GET / HTTP/1.1\r\nHost: a\r\nHost: b\r\n\r\n"):
+        with socket.create_connection(("127.0.0.1", open_plant.web.port), 60) as channel:
+            channel.sendall(sent)
+            told = b"".join(iter(lambda: channel.recv(65536), b""))
+        head = told.decode().partition("\r\n\r\n")[0].split("\r\n")
+        assert head[0].split()[1] == "400" and "Server: alarmd" in head
+        assert {f"{name}: {wanted}" for name, wanted in HEADERS.items()} <= set(head)
     assert "unsafe" not in HEADERS["Content-Security-Policy"]
     assert client.ask("/api/session").headers["Cache-Control"] == "no-store"
 
@@ -444,6 +511,18 @@ def test_what_is_no_http(open_plant: Served, caplog: pytest.LogCaptureFixture) -
     client.enter()
     assert client.order("ack", "A1").json["taken"]
     assert caplog.records == []
+
+
+def test_who_asks_far_ahead_and_reads_nothing_is_closed(open_plant: Served) -> None:
+    """Requests that wait for those before them would take memory without an end."""
+    asked = b"GET /page/style.css HTTP/1.1\r\nHost: localhost\r\n\r\n" * 200
+    with socket.create_connection(("127.0.0.1", open_plant.web.port), 60) as channel:
+        with pytest.raises(ConnectionError):
+            for _ in range(500):
+                channel.sendall(asked)
+    client = Client(open_plant.url)
+    client.enter()
+    assert client.order("ack", "A1").json["taken"]
 
 
 def test_who_brings_no_request_is_closed(monkeypatch: pytest.MonkeyPatch) -> None:

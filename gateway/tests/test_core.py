@@ -5,6 +5,7 @@ from __future__ import annotations
 import asyncio
 import os
 import signal
+import threading
 import time
 from collections.abc import AsyncIterator, Coroutine
 from contextlib import asynccontextmanager
@@ -17,6 +18,7 @@ from around import config_for, plant_copy, until
 from alarmd_gateway.changes import Change, ChangeKind, CutOff
 from alarmd_gateway.config import Config
 from alarmd_gateway.core import Core
+from alarmd_gateway.metrics import Annunciations
 from alarmd_gateway.model import BadSample, Code, GatewayFault, Order, Sample, ServerGone, Verb
 from alarmd_gateway.record import peek
 from alarmd_gateway.server import Server
@@ -49,6 +51,10 @@ async def give(core: Core, **values: int | bool | str) -> None:
 
 def run(work: Coroutine[Any, Any, None]) -> None:
     asyncio.run(asyncio.wait_for(work, 400))
+
+
+def kinds(core: Core) -> list[TroubleKind]:
+    return [trouble.kind for trouble in core.troubles]
 
 
 def code_of(core: Core, tag: str) -> str:
@@ -256,6 +262,24 @@ def test_a_server_that_is_killed_is_started_again_with_the_same_state(config: Co
     run(work())
 
 
+def test_what_was_annunciated_is_counted_once_when_the_server_is_started_again(
+    config: Config,
+) -> None:
+    async def work() -> None:
+        async with served(config) as core:
+            annunciations = Annunciations(core)
+            await busy(core)
+            annunciations.catch_up()
+            counted, old = dict(annunciations.by_priority), core.journal
+            assert sum(counted.values()) >= 2
+            os.kill(server_pid(), signal.SIGKILL)
+            await until(lambda: core.journal is not old and len(core.journal) >= len(old))
+            annunciations.catch_up()
+            assert annunciations.by_priority == counted
+
+    run(work())
+
+
 def test_a_server_that_is_killed_while_nothing_is_asked_of_it(config: Config) -> None:
     async def work() -> None:
         async with served(config_for(config.alarmd, config.plant, period_ms=3_600_000)) as core:
@@ -338,6 +362,27 @@ def test_a_server_that_ends_again_and_again_ends_the_core(config: Config) -> Non
     run(work())
 
 
+def test_of_an_order_in_the_record_it_isnt_said_that_it_wasnt_taken(config: Config) -> None:
+    """With it the next start goes on."""
+
+    async def work() -> None:
+        slow = config_for(config.alarmd, config.plant, restarts=0, period_ms=3_600_000)
+        core = await Core.start(slow)
+        working = asyncio.create_task(core.run())
+        await give(core, level=100)
+        await core.drain()
+        os.kill(server_pid(), signal.SIGSTOP)
+        asked = asyncio.create_task(core.order(Order(Verb.ACK, 1, "LAL-101")))
+        await until(lambda: "ack 1 LAL-101" in config.record.read_text())
+        os.kill(server_pid(), signal.SIGKILL)
+        with pytest.raises(ServerGone, match="SIGKILL, so it isn't known whether the order"):
+            await asked
+        with pytest.raises(GatewayFault, match="SIGKILL$"):
+            await working
+
+    run(work())
+
+
 def test_how_often_a_server_is_started_again_is_counted_from_its_last_answer(
     config: Config,
 ) -> None:
@@ -401,6 +446,32 @@ def test_a_command_is_on_the_disk_before_it_is_sent(
     assert len(seen) > 3
     for disk, sent in zip(seen[::2], seen[1::2], strict=True):
         assert (disk[:5], sent[:5], disk[5:]) == ("disk ", "sent ", sent[5:])
+
+
+def test_a_disk_that_hangs_is_told(config: Config, monkeypatch: pytest.MonkeyPatch) -> None:
+    """As one whose controller tries again for minutes: displays are served meanwhile, and what they show is old."""
+    sync, door = os.fsync, threading.Event()
+
+    def fsync(descriptor: int) -> None:
+        door.wait(400)
+        sync(descriptor)
+
+    async def work() -> None:
+        async with served(config) as core:
+            await busy(core)
+            object.__setattr__(config, "patience_ms", 300)  # alarmd itself goes on with the old one
+            monkeypatch.setattr(os, "fsync", fsync)
+            await until(lambda: TroubleKind.SILENCE in kinds(core))
+            events = core.state.events
+            object.__setattr__(config, "patience_ms", 400_000)
+            door.set()
+            await until(lambda: core.state.events > events)
+            assert TroubleKind.SILENCE not in kinds(core)
+
+    try:
+        run(work())
+    finally:
+        door.set()
 
 
 def test_a_server_is_not_started_again_with_other_files(config: Config) -> None:

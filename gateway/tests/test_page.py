@@ -6,17 +6,24 @@ import asyncio
 import threading
 import time
 from collections.abc import Iterator
+from dataclasses import replace
 from datetime import datetime, timezone
+from typing import Any
 
 import pytest
+from aiohttp import web
 from browser_help import Keys, Page, browser, until
 from fake_core import FakeCore, fake_plant
 from http_help import two_users
 from served import Served, served
 
+from alarmd_gateway.api import Api
 from alarmd_gateway.core import Question
-from alarmd_gateway.model import Code, Order, Reply, Verb
+from alarmd_gateway.jobs import UNKNOWN
+from alarmd_gateway.live import Live
+from alarmd_gateway.model import MOST_EVENTS, Code, Json, Order, Reply, ServerGone, Verb
 from alarmd_gateway.troubles import TroubleKind
+from alarmd_gateway.view import View
 
 pytestmark = pytest.mark.browser
 
@@ -128,6 +135,76 @@ def test_an_order_that_is_under_way_isnt_given_again(site: Served, page: Page) -
     assert [order.target for order, _, _ in core.orders] == ["A1", "A5", "A2"]
 
 
+def test_of_an_order_without_an_answer_it_isnt_said_that_it_wasnt_taken(
+    site: Served, page: Page
+) -> None:
+    """The connection of an order ends, as by a cable that is pulled, while the order waits for its turn."""
+    core, take, door = site.core, site.core.order, threading.Event()
+    gone = f"alarmd has ended, so {UNKNOWN}"
+
+    async def slow(order: Order, user: str | None = None, reason: str | None = None) -> Reply:
+        await asyncio.to_thread(door.wait, 60)
+        await take(order, user, reason)
+        raise ServerGone(gone, 1)
+
+    site.do(lambda: setattr(core, "order", slow))
+    page.run(
+        "const ask = window.fetch;"
+        "window.fetch = (path, options) => path === '/api/order' ?"
+        "  ask(path, { ...options, signal: AbortSignal.timeout(300) }) : ask(path, options)"
+    )
+    page.choose("A1")
+    page.keys("a")
+    until(lambda: page.text("#message") == f"A1: the gateway doesn't answer, so {UNKNOWN}")
+    time.sleep(0.5)  # until the rows have been there for long enough
+    page.keys("v")
+    told = f"0 acknowledged, 3 perhaps not: A5: the gateway doesn't answer, so {UNKNOWN}"
+    until(lambda: page.text("#message") == told)
+    door.set()
+    until(lambda: ("A1", "ACKED") in page.rows() and len(core.orders) == 4)  # all were taken
+    site.do(lambda: core.scan(62_000, {"A2": Code.RTNUN}))
+    until(lambda: ("A2", "RTNUN") in page.rows() and not page.run(AWAY))
+    page.choose("A2")
+    page.keys("a")
+    until(lambda: page.text("#message") == f"A2: {gone}")
+    gone = "the order wasn't taken: nobody scans"  # this is known
+    page.choose("A5")
+    page.keys("o")
+    page.keys("broken wire", Keys.ENTER)
+    until(lambda: page.text("#message") == f"A5: not out of service, {gone}")
+    page.faults()
+
+
+AWAY = "return document.querySelectorAll('#alarms .row.away').length"
+
+
+def test_an_order_that_the_browser_sends_again_is_given_once(
+    page: Page, monkeypatch: pytest.MonkeyPatch
+) -> None:
+    """It does so by itself where a connection that was used before ends without an answer."""
+    order, came = Api.order, []
+
+    async def cut(api: Api, request: web.Request) -> web.Response:
+        answer = await order(api, request)
+        came.append(answer.status)
+        if len(came) == 1:
+            assert request.transport is not None
+            request.transport.close()
+        return answer
+
+    monkeypatch.setattr(Api, "order", cut)
+    with served() as site:
+        site.do(lambda: site.core.scan(1000, {"A2": Code.UNACK}))
+        page.open(site.url)
+        page.until_live()
+        until(page.rows)
+        page.choose("A2")
+        page.keys("a")
+        until(lambda: page.text("#message") == "A2: acknowledged")
+        assert came == [200, 200] and len(site.core.orders) == 1
+    page.faults()
+
+
 def test_shelve_with_a_time_and_a_reason(site: Served, page: Page) -> None:
     page.choose("A2")
     page.click("#alarms [data-order=shelve]")
@@ -159,6 +236,25 @@ def test_shelve_with_a_time_and_a_reason(site: Served, page: Page) -> None:
     page.choose("A2", "#aside")
     page.click("#aside [data-order=unshelve]")
     until(lambda: page.rows("#aside") == [])
+
+
+def test_an_alarm_that_may_be_shelved_for_seconds_alone(page: Page) -> None:
+    plant = fake_plant(4)
+    rows = tuple(replace(row, max_shelve_ms=5000) for row in plant.alarms)
+    short = replace(plant, alarms=rows, by_tag={row.tag: row for row in rows})
+    with served(FakeCore(short)) as site:
+        site.do(lambda: site.core.scan(1000, {"A2": Code.UNACK}))
+        page.open(site.url)
+        page.until_live()
+        until(page.rows)
+        page.choose("A2")
+        page.keys("s")
+        until(lambda: "at most 5 s" in page.text("#shelve .subject"))
+        page.run("document.querySelector('#shelve-reason').focus()")
+        page.keys("cleaned", Keys.ENTER)
+        until(lambda: site.core.orders)
+        assert site.core.orders == [(Order(Verb.SHELVE, 1, "A2", 5000), None, "cleaned")]
+    page.faults()
 
 
 def test_an_alarm_that_may_not_be_shelved(site: Served, page: Page) -> None:
@@ -219,6 +315,31 @@ def test_a_plant_that_was_taken_up_is_shown(site: Served, page: Page) -> None:
     until(lambda: page.rows() == [("A2", "UNACK")])
 
 
+def test_a_plant_that_is_taken_up_while_a_page_begins(
+    page: Page, monkeypatch: pytest.MonkeyPatch
+) -> None:
+    """The page has the plant of its snapshot, also where another one is taken up right after it was asked for the first one."""
+    core, table = FakeCore(fake_plant(3)), View.table
+    asked: list[str] = []
+
+    def once(view: View) -> dict[str, Json]:
+        found = table(view)
+        asked.append(core.plant.name)
+        if len(asked) == 1:
+            core.reload(fake_plant(6, "Another tank"))
+        return found
+
+    monkeypatch.setattr(View, "table", once)
+    with served(core) as site:
+        page.open(site.url)
+        until(lambda: asked)
+        site.do(lambda: core.scan(2000, {"A5": Code.UNACK}))
+        page.until_live()
+        until(lambda: page.rows() == [("A5", "UNACK")])
+        assert page.text("#plant-name") == "Another tank"
+    page.faults()
+
+
 def test_the_area_filter_says_what_it_hides(site: Served, page: Page) -> None:
     page.keys("f")
     page.keys("d", Keys.ENTER)  # dosing
@@ -266,6 +387,56 @@ def test_troubles_stand_above_and_the_worst_first(site: Served, page: Page) -> N
     assert site.core.orders == []
     page.keys("a")  # and now it is taken
     until(lambda: ("A5", "ACKED") in page.rows())
+
+
+def test_a_dialog_that_is_open_orders_nothing_by_what_isnt_live(site: Served, page: Page) -> None:
+    core = site.core
+    site.do(lambda: core.stops("dose"))
+    page.choose("A5")
+    page.keys("o")
+    until(lambda: page.text("#remove .subject"))
+    site.do(lambda: core.troubles.raises(TroubleKind.SERVER, "", "alarmd has ended"))
+    until(lambda: page.text("#link") == "✕ no scans")
+    page.keys("broken wire", Keys.ENTER)
+    told = "A5: not out of service, nothing on this page is live"
+    until(lambda: page.text("#message") == told)
+    site.do(lambda: core.troubles.clear(TroubleKind.SERVER, ""))
+    page.until_live()
+    page.click("#troubles [data-restart=dose]")
+    site.do(lambda: core.troubles.raises(TroubleKind.SERVER, "", "alarmd has ended"))
+    until(lambda: page.text("#link") == "✕ no scans")
+    page.click("#confirm-yes")
+    until(lambda: page.text("#message") == "dose: not restarted, nothing on this page is live")
+    assert core.orders == []
+
+
+def test_with_a_full_history_nothing_is_live(site: Served, page: Page) -> None:
+    """No scan is taken any more, whether a scan or an order was the last event."""
+    core = site.core
+
+    def to_the_last_but_one() -> None:
+        core.state.events = MOST_EVENTS - 2
+        core.scan(62_000, {"A2": Code.RTNUN})
+
+    site.do(to_the_last_but_one)
+    until(lambda: ("A2", "RTNUN") in page.rows())
+    assert page.live()
+    page.choose("A1")
+    page.keys("a")
+    until(lambda: page.text("#link") == "✕ no scans")
+    assert page.run("return document.body.classList.contains('lost')")
+    page.choose("A5")
+    page.keys("a")
+    site.do(core.anew)
+    page.until_live()
+    assert [order.target for order, _, _ in core.orders] == ["A1"]
+
+
+def test_a_trouble_of_another_day_has_its_date(site: Served, page: Page) -> None:
+    site.do(lambda: site.core.stops("dose"))
+    until(lambda: page.text("#troubles .since") == "06:01:01")
+    site.do(lambda: site.core.scan(86_400_000, {}))
+    until(lambda: page.text("#troubles .since") == "11-23 06:01")
 
 
 def test_a_question_is_shown_and_answered(site: Served, page: Page) -> None:
@@ -365,6 +536,29 @@ def test_a_journal_of_many_pages(site: Served, page: Page) -> None:
     until(lambda: page.text("#journal .where") == "rows 250 to 449 of 506")
 
 
+def test_a_journal_whose_newest_rows_are_of_others(page: Page) -> None:
+    """What Bert may not see doesn't look as if there were no rows."""
+    with served(users=two_users()) as site:
+        core = site.core
+
+        def fill() -> None:
+            core.scan(1000, {"A0": Code.UNACK})
+            for scan in range(2, 252):
+                core.scan(1000 * scan, {"A1": Code.RTNUN if scan % 2 else Code.UNACK})
+
+        site.do(fill)
+        page.open(site.url)
+        page.login("bert")
+        page.until_live()
+        page.keys("5")
+        until(
+            lambda: page.text("#journal .where") == "rows 52 to 251 of 251: none is of your areas"
+        )
+        page.click("#journal-earlier")
+        until(lambda: page.text("#journal .where") == "rows 1 to 1 of 251")
+    page.faults()
+
+
 def test_twenty_thousand_alarms_of_which_two_thousand_come_at_once(page: Page) -> None:
     with served(FakeCore(fake_plant(20_000))) as site:
         page.open(site.url)
@@ -404,6 +598,87 @@ def test_twenty_thousand_alarms_of_which_two_thousand_come_at_once(page: Page) -
         assert page.faults() == []
 
 
+def test_before_all_that_stands_is_there_nothing_looks_live(
+    page: Page, monkeypatch: pytest.MonkeyPatch
+) -> None:
+    """A page without a snapshot has an empty list, which would look like a plant without alarms."""
+    handle, door = Live.handle, threading.Event()
+
+    async def late(live: Live, request: web.Request) -> web.WebSocketResponse:
+        await asyncio.to_thread(door.wait, 60)
+        return await handle(live, request)
+
+    monkeypatch.setattr(Live, "handle", late)
+    with served() as site:
+        site.do(lambda: site.core.scan(1000, {"A1": Code.UNACK}))
+        page.open(site.url)
+        until(lambda: page.text("#link"))
+        assert page.text("#link") == "✕ not live yet"
+        assert page.run("return document.body.classList.contains('lost')")
+        door.set()
+        page.until_live()
+        assert page.rows() == [("A1", "UNACK")]
+        assert not page.run("return document.body.classList.contains('lost')")
+    page.faults()
+
+
+PRESS = "document.dispatchEvent(new KeyboardEvent('keydown', { key: 'v', bubbles: true }))"
+
+
+def test_what_nobody_can_have_read_isnt_acknowledged_with_the_others(page: Page) -> None:
+    with served(FakeCore(fake_plant(60))) as site:
+        core = site.core
+        site.do(lambda: core.scan(1000, {f"A{number}": Code.UNACK for number in range(60)}))
+        page.open(site.url)
+        page.until_live()
+        until(lambda: len(page.rows()) > 10)
+        time.sleep(0.5)  # until those that are seen can have been read
+        before = page.run(
+            "const box = document.querySelector('#alarms .rows'), end = box.getBoundingClientRect().bottom + 1;"
+            "const seen = [...box.querySelectorAll('.row')].filter((row) => row.getBoundingClientRect().bottom <= end);"
+            f"box.scrollTop = 80; await new Promise(requestAnimationFrame); {PRESS};"
+            "return seen.map((row) => row.dataset.tag)"
+        )
+        until(lambda: page.text("#message").endswith("acknowledged"))
+        tags = [order.target for order, _, _ in core.orders]
+        assert tags and set(tags) < set(before)  # and not those that have come into sight
+    page.faults()
+
+
+def test_an_alarm_that_comes_again_is_to_be_read_anew(site: Served, page: Page) -> None:
+    site.do(lambda: site.core.scan(62_000, {"A4": Code.LATAK}))
+    until(lambda: ("A4", "LATAK") in page.rows())
+    time.sleep(0.5)  # until its row has been there for long enough
+    page.run(
+        "const row = document.querySelector('#alarms .row[data-tag=A4]');"
+        "const watch = new MutationObserver(() => {"
+        f"if (row.dataset.code === 'UNACK') {{ watch.disconnect(); {PRESS}; }} }});"
+        "watch.observe(row, { attributes: true });"
+    )
+    site.do(lambda: site.core.scan(63_000, {"A4": Code.UNACK}))
+    until(lambda: page.text("#message") == "3 acknowledged")
+    assert ("A4", "UNACK") in page.rows()
+    time.sleep(0.5)
+    page.keys("v")
+    until(lambda: ("A4", "ACKED") in page.rows())
+
+
+def test_a_stuck_key_acknowledges_once(site: Served, page: Page) -> None:
+    time.sleep(0.5)  # until the rows have been there for long enough
+    key: dict[str, Any] = {"type": "keyDown", "key": "v", "code": "KeyV", "text": "v"}
+    page.driver.execute_cdp_cmd("Input.dispatchKeyEvent", key)
+    until(lambda: page.text("#message") == "3 acknowledged")
+    site.do(lambda: site.core.scan(62_000, {"A3": Code.UNACK}))
+    until(lambda: ("A3", "UNACK") in page.rows())
+    for _ in range(10):
+        time.sleep(0.1)
+        page.driver.execute_cdp_cmd("Input.dispatchKeyEvent", {**key, "autoRepeat": True})
+    page.driver.execute_cdp_cmd("Input.dispatchKeyEvent", {**key, "type": "keyUp"})
+    assert ("A3", "UNACK") in page.rows() and len(site.core.orders) == 3
+    page.keys("v")  # pressed anew
+    until(lambda: ("A3", "ACKED") in page.rows())
+
+
 def test_a_lost_connection_is_told_and_comes_back(page: Page) -> None:
     with served() as site:
         port = site.web.port
@@ -417,6 +692,7 @@ def test_a_lost_connection_is_told_and_comes_back(page: Page) -> None:
     until(lambda: "CONNECTION LOST" in page.text("#lost"))
     assert not page.run("return document.querySelector('dialog[open]')")  # it would hide that
     assert page.text("#link") == "✕ not live"
+    assert page.run("return document.title") == "✕ not live: (1) Buffer tank"
     assert "NOT LIVE" in page.run(
         "return getComputedStyle(document.querySelector('main'), '::after').content"
     )
@@ -447,6 +723,52 @@ def test_a_session_that_has_ended_asks_for_the_password(page: Page) -> None:
         page.login("bert")
         page.until_live()
         assert page.text("#user-name") == "bert"
+    page.faults()
+
+
+def test_who_couldnt_log_out_is_told(page: Page) -> None:
+    """As where the cable is out: the session lasts, and whoever opens the page next would have it."""
+    cut: dict[str, Any] = {
+        "offline": True,
+        "latency": 0,
+        "downloadThroughput": -1,
+        "uploadThroughput": -1,
+    }
+    with served(users=two_users()) as site:
+        page.open(site.url)
+        page.login("anna")
+        page.until_live()
+        page.driver.execute_cdp_cmd("Network.enable", {})
+        page.driver.execute_cdp_cmd("Network.emulateNetworkConditions", cut)
+        page.click("#log-out")
+        until(lambda: page.text("#message") == "Not logged out: the gateway doesn't answer.")
+        assert page.text("#login") == "" and page.text("#user-name") == "anna"
+        page.driver.execute_cdp_cmd("Network.emulateNetworkConditions", {**cut, "offline": False})
+        page.until_live()
+        page.click("#log-out")
+        until(lambda: page.text("#login-message") == "Logged out.")
+        assert site.do(lambda: len(site.web.guard.sessions)) == 0
+    page.faults()
+
+
+def test_a_page_names_who_its_orders_are_of(page: Page) -> None:
+    """Pages of one browser have one session: where Bert logs in by another one, this one is his too."""
+    with served(users=two_users()) as site:
+        site.do(lambda: site.core.scan(1000, {"A0": Code.UNACK, "A1": Code.UNACK}))
+        page.open(site.url)
+        page.login("anna")
+        page.until_live()
+        until(lambda: len(page.rows()) == 2)
+        page.run(
+            "const { post } = await import('/page/http.js');"
+            "await post('/api/login', { name: 'bert', password: 'bertbert' })"
+        )
+        until(lambda: page.rows() == [("A0", "UNACK")])
+        assert page.text("#user-name") == "bert"
+        page.choose("A0")
+        page.keys("a")
+        until(lambda: page.rows() == [("A0", "ACKED")])
+        assert site.core.orders == [(Order(Verb.ACK, 2, "A0"), "bert", None)]
     page.faults()
 
 

@@ -57,6 +57,17 @@ def test_there_are_so_many_sessions_and_the_oldest_goes() -> None:
     assert sessions.find(cookies[0]) is not None and sessions.find(cookies[1]) is None
 
 
+def test_the_session_of_a_live_page_isnt_the_oldest() -> None:
+    sessions = Sessions(Hand())
+    _, watched = sessions.begin("anna", (1,))
+    for _ in range(
+        3 * MOST_SESSIONS
+    ):  # as of who asks for a session again and again, without a cookie
+        sessions.begin(None, ())
+        assert sessions.lasts(watched)
+    assert len(sessions) == MOST_SESSIONS
+
+
 def test_after_five_wrong_passwords_none_is_taken_for_five_minutes() -> None:
     clock = Hand()
     tries = Tries(clock)
@@ -87,6 +98,19 @@ def test_a_right_password_forgets_the_wrong_ones() -> None:
         tries.failed("10.0.0.1", "anna")
     tries.succeeded("10.0.0.1", "anna")
     assert tries.wait("10.0.0.1", "anna") == 0
+
+
+def test_right_passwords_are_no_tries() -> None:
+    tries = Tries(Hand())
+    for _ in range(19):
+        tries.failed("10.0.0.1", "bert")
+    for _ in range(50):
+        assert tries.wait("10.0.0.1", "anna") == 0
+        tries.failed("10.0.0.1", "anna")  # each counts until it is known to be right
+        tries.succeeded("10.0.0.1", "anna")
+    tries.failed("10.0.0.1", "anna")
+    assert tries.wait("10.0.0.1", "anna") == 300  # nineteen of Bert's, and this one
+    tries.succeeded("10.0.0.2", "anna")  # of which nothing was counted
 
 
 def test_orders_that_a_session_may_give_come_back() -> None:

@@ -81,6 +81,7 @@ def test_what_is_taken(certificate: Path) -> None:
         ({"certificate": "none.pem", "key": "page.key"}, "No such file"),
         ({"certificate": "users.toml", "key": "page.key"}, "certificate"),
         ({"certificate": "page.pem", "key": "page.pem"}, "certificate"),
+        ({"metrics_token": ""}, "metrics_token is empty"),
         ({"connections": 1}, "'connections' of [web]"),
         ({"colour": 1}, "'colour' of [web]"),
     ],

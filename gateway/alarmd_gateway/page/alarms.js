@@ -6,21 +6,16 @@ import { isAway, order, orderAll, tell } from "./orders.js";
 import { VirtualList } from "./rows.js";
 import { ASIDE, STATES, STANDING, TAKES, WAITING, duration, longTime, shortTime } from "./words.js";
 
-const READ = 400; // ms that a row has to be there before it is acknowledged with the others
+const READ = 400; // ms that a row has to be wholly seen as it is before it is acknowledged with the others
 
+// Of each order its key, its name, and the dialog that asks for what it has beside its alarm; that gives null where it is cancelled.
 const ACTIONS = {
-  ack: ["A", "Acknowledge", (alarm) => order("ack", alarm.tag)],
-  shelve: ["S", "Shelve …", async (alarm) => {
-    const given = await askShelving(alarm);
-    if (given) await order("shelve", alarm.tag, given);
-  }],
-  unshelve: ["U", "Unshelve", (alarm) => order("unshelve", alarm.tag)],
-  reset: ["R", "Reset", (alarm) => order("reset", alarm.tag)],
-  remove: ["O", "Out of service …", async (alarm) => {
-    const given = await askRemoval(alarm);
-    if (given) await order("remove", alarm.tag, given);
-  }],
-  return: ["T", "Return", (alarm) => order("return", alarm.tag)],
+  ack: ["A", "Acknowledge"],
+  shelve: ["S", "Shelve …", askShelving],
+  unshelve: ["U", "Unshelve"],
+  reset: ["R", "Reset"],
+  remove: ["O", "Out of service …", askRemoval],
+  return: ["T", "Return"],
 };
 
 function takes(verb, alarm) {
@@ -70,6 +65,7 @@ export class AlarmScreen {
       make: make ?? makeCells,
       fill: fill?.(store) ?? fillCells(store),
       chosen: () => this.refresh(),
+      told: (alarm) => `${alarm.code} ${alarm.since}`,
     });
     this.buttons = new Map();
     const bar = el("div", { class: "bar", role: "toolbar", "aria-label": "Orders" });
@@ -134,14 +130,20 @@ export class AlarmScreen {
     if (!this.store.live || !this.verbs.includes(verb)) return;
     if (!alarm) tell("No alarm is selected.", true);
     else if (!takes(verb, alarm)) tell(`${alarm.tag} is ${STATES[alarm.code].toLowerCase()}: ${verb === "shelve" && !alarm.longest ? "it may not be shelved" : "the order isn't for that"}.`, true);
-    else await ACTIONS[verb][2](alarm);
+    else await this.give(verb, alarm);
     if (document.activeElement === document.body || document.activeElement?.disabled) this.list.focus();
+  }
+
+  async give(verb, alarm) {
+    const asks = ACTIONS[verb][2];
+    const given = asks ? await asks(alarm) : {};
+    if (given) await order(this.store, verb, alarm.tag, given);
   }
 
   async ackSeen() {
     if (!this.store.live || !this.all) return;
     const tags = this.list.seen(READ).filter((alarm) => WAITING.has(alarm.code)).map((alarm) => alarm.tag);
-    if (tags.length) await orderAll("ack", tags);
+    if (tags.length) await orderAll(this.store, "ack", tags);
     if (document.activeElement === document.body || document.activeElement?.disabled) this.list.focus();
   }
 

@@ -9,8 +9,9 @@ import { longTime, shortTime, TRAPS } from "./words.js";
 const MOST = 3; // troubles that are shown before somebody asks for all
 const DEAD = new Set(["server", "silence", "refused", "log"]); // with one of these nothing that is shown is live
 
-// Whether no scan is taken, so that nothing that is shown is live.
+// Whether no scan is taken, so that nothing that is shown is live. With a full history none is.
 export const isDead = (store) =>
+  store.eventsLeft === 0 ||
   [...store.troubles.values()].some((trouble) => DEAD.has(trouble.kind)) ||
   [...store.questions.values()].some((question) => question.subject === "clock");
 
@@ -35,7 +36,8 @@ export class Banner {
     const stopped = [...this.store.stopped.values()];
     const questions = [...this.store.questions.values()];
     const told = new Set(troubles.filter((one) => one.kind === "stopped").map((one) => one.subject.toLowerCase()));
-    const drawn = JSON.stringify([troubles, stopped, questions, this.whole, this.store.live, this.store.connected]);
+    const day = this.store.now?.slice(0, 10); // by which times are told
+    const drawn = JSON.stringify([troubles, stopped, questions, this.whole, this.store.live, this.store.connected, day]);
     if (drawn === this.drawn) return;
     this.drawn = drawn;
     const lines = [
@@ -67,7 +69,7 @@ export class Banner {
   }
 
   stoppedLine(stopped) {
-    const button = el("button", { type: "button", "data-restart": stopped.program, disabled: !this.store.live, onclick: () => restart(stopped) }, "Restart …");
+    const button = el("button", { type: "button", "data-restart": stopped.program, disabled: !this.store.live, onclick: () => restart(this.store, stopped) }, "Restart …");
     return this.line("stopped", stopped.time, stoppedText(stopped), button);
   }
 
@@ -102,9 +104,9 @@ export function stoppedPlace(stopped) {
 
 const stoppedText = (stopped) => `${stopped.program} at ${stoppedPlace(stopped)}: its alarms stay as they are`;
 
-export async function restart(stopped) {
+export async function restart(store, stopped) {
   const lines = [stoppedText(stopped), "It runs again from the next scan on. Where the cause is still there, it stops again."];
-  if (await askYes(`Restart ${stopped.program}?`, lines, "Restart")) await order("restart", stopped.program);
+  if (await askYes(`Restart ${stopped.program}?`, lines, "Restart")) await order(store, "restart", stopped.program);
 }
 
 const NO = { clock: "No: end the gateway", record: "No: ask again later" };
@@ -121,7 +123,7 @@ async function answer(question) {
   }
 }
 
-// Says that the connection is lost, or that it is there.
+// Says that the connection is lost, or that it is there. Before the first snapshot nothing is live either: the list is empty then.
 export function showLink(store, lostAt) {
   const lost = $("lost");
   const link = $("link");
@@ -129,8 +131,9 @@ export function showLink(store, lostAt) {
   if (lostAt !== null) {
     setText(lost, `CONNECTION LOST since ${lostAt.toISOString().slice(11, 19)} UTC. Nothing on this page is live. Trying again …`);
     setText(link, "✕ not live");
-  } else if (isDead(store)) setText(link, "✕ no scans");
+  } else if (!store.connected) setText(link, "✕ not live yet");
+  else if (isDead(store)) setText(link, "✕ no scans");
   else setText(link, "● live");
-  document.body.classList.toggle("lost", lostAt !== null || isDead(store));
+  document.body.classList.toggle("lost", !store.live);
   document.body.classList.toggle("cut", lostAt !== null);
 }

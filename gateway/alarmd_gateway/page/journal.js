@@ -96,7 +96,8 @@ export class JournalScreen {
       this.earlier.disabled = begin <= 1;
       const numbers = found.rows.map((row) => row.number);
       const range = numbers.length ? `rows ${Math.min(...numbers)} to ${Math.max(...numbers)} of ${found.length}` : `no rows of ${found.length}`;
-      setText(this.where, newest ? `${range}, the newest first` : range);
+      if (newest && found.length && !numbers.length) setText(this.where, `rows ${begin} to ${found.length} of ${found.length}: none is of your areas`);
+      else setText(this.where, newest ? `${range}, the newest first` : range);
     } catch (fault) {
       setText(this.where, fault.message);
     }

@@ -5,7 +5,8 @@ const OPENING = 30000; // ms in which a new connection has to bring its first me
 const WAITS = [300, 600, 1000, 2000, 3000]; // ms before the next try
 
 export class Live {
-  // `told` has the functions snapshot(data), changes(list), alive(), lost(), and ready(), which promises whether to connect
+  // `told` has the functions table(data), snapshot(data), changes(list), alive(), lost(), and two that promise: ready(), whether to connect,
+  // and plant(), the plant's table, or null
   constructor(told) {
     this.told = told;
     this.socket = null;
@@ -13,6 +14,7 @@ export class Live {
     this.alive = false;
     this.tries = 0;
     this.number = null; // of the last change
+    this.held = null; // messages that wait until the plant is known
     this.stopped = false;
     this.watch = setInterval(() => this.look(), 100);
     this.connect();
@@ -28,13 +30,35 @@ export class Live {
     if (this.stopped) return;
     const socket = new WebSocket(`${location.protocol === "https:" ? "wss" : "ws"}://${location.host}/api/live`);
     this.socket = socket;
+    this.held = [];
     this.opened = performance.now();
-    socket.onmessage = (event) => this.socket === socket && this.take(JSON.parse(event.data));
+    socket.onmessage = (event) => this.socket === socket && this.hear(socket, JSON.parse(event.data));
     socket.onclose = () => this.socket === socket && this.again();
   }
 
-  take(message) {
+  // The plant is asked for once the first message is there: another one that is taken up after that ends the connection. Asked for before,
+  // it might not be the one of the snapshot, and an alarm that is new in that one would never be shown.
+  async hear(socket, message) {
     this.heard = performance.now();
+    if (this.held === null) {
+      this.take(message);
+      return;
+    }
+    this.held.push(message);
+    if (this.held.length > 1) return;
+    const table = await this.told.plant();
+    if (this.socket !== socket) return;
+    if (table === null) {
+      this.drop();
+      return;
+    }
+    this.told.table(table);
+    const held = this.held;
+    this.held = null;
+    for (const one of held) this.take(one);
+  }
+
+  take(message) {
     if (message.type === "snapshot") {
       this.number = message.snapshot.number;
       this.tries = 0;
@@ -70,7 +94,7 @@ export class Live {
     this.later();
   }
 
-  // Tries again in a while, once the gateway answers and the plant is known anew: it may be another one.
+  // Tries again in a while, once the gateway answers.
   later() {
     const wait = WAITS[Math.min(this.tries, WAITS.length - 1)];
     this.tries += 1;

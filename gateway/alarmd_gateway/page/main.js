@@ -31,6 +31,9 @@ const KEYS = [
   ["Esc", "close a dialog, back to the list"],
 ];
 
+// The table of a plant that isn't known yet.
+const NOTHING = { areas: [], consoles: [], programs: [], inputs: [], outputs: [], alarms: [] };
+
 const store = new Store();
 const banner = new Banner(store);
 const screens = {};
@@ -76,7 +79,7 @@ $("login").onsubmit = async (event) => {
   try {
     const who = await post("/api/login", { name: name.value, password: password.value });
     password.value = "";
-    await begin(who);
+    begin(who);
   } catch (fault) {
     setText($("login-message"), fault.message);
     password.value = "";
@@ -87,30 +90,24 @@ $("login").onsubmit = async (event) => {
 $("log-out").onclick = async () => {
   try {
     await post("/api/logout", {});
-  } catch { /* it has ended already */ }
-  askLogin("Logged out.");
+  } catch (fault) {
+    if (fault.status !== 401) return tell(`Not logged out: ${fault.message}.`, true); // with 401 the session has ended already
+  }
+  return askLogin("Logged out.");
 };
 
-async function begin(who) {
-  setToken(who.token);
+function begin(who) {
+  takeWho(who);
   document.body.className = "";
   $("login").hidden = true;
-  setText($("user-name"), who.user ?? "");
   $("log-out").hidden = !who.users;
-  let table;
-  try {
-    table = await get("/api/plant");
-  } catch (fault) {
-    if (fault.status === 401) return askLogin();
-    setTimeout(() => begin(who), 2000);
-    return undefined;
-  }
-  takeTable(who, table);
+  store.takeTable(NOTHING);
   if (!screens.alarms) makeScreens();
   for (const id of ["top", "tabs", "screens", "bottom"]) $(id).hidden = false;
   showScreen(shown);
   live?.stop();
   live = new Live({
+    table: takeTable,
     snapshot: (data) => store.takeSnapshot(data),
     changes: (list) => {
       store.takeChanges(list);
@@ -119,15 +116,14 @@ async function begin(who) {
     alive: () => setLost(null),
     lost: () => setLost(lostAt ?? new Date()),
     ready,
+    plant: () => get("/api/plant").catch(() => null),
   });
 }
 
-// Whether the gateway answers and the plant is known anew. A session that has ended asks for the password.
+// Whether the gateway answers. A session that has ended asks for the password.
 async function ready() {
   try {
-    const who = await get("/api/session");
-    setToken(who.token);
-    takeTable(who, await get("/api/plant"));
+    takeWho(await get("/api/session"));
     return true;
   } catch (fault) {
     if (fault.status === 401) askLogin("The session has ended.");
@@ -135,8 +131,14 @@ async function ready() {
   }
 }
 
-function takeTable(who, table) {
+function takeWho(who) {
+  setToken(who.token);
+  setText($("user-name"), who.user ?? ""); // another one, where somebody has logged in by another page of this browser
   setText($("plant-name"), who.plant);
+}
+
+function takeTable(table) {
+  setText($("plant-name"), table.name);
   store.takeTable(table);
   const kept = store.areas.includes(store.area) ? store.area : "";
   $("area").replaceChildren(el("option", { value: "" }, "All areas"), ...store.areas.map((area) => el("option", { value: area }, area)));
@@ -205,7 +207,7 @@ function drawCounts() {
   const counts = store.counts();
   const drawn = JSON.stringify(counts);
   const waiting = counts.waiting.reduce((sum, one) => sum + one, 0);
-  document.title = waiting ? `(${waiting}) ${$("plant-name").textContent}` : $("plant-name").textContent;
+  document.title = `${store.live ? "" : "✕ not live: "}${waiting ? `(${waiting}) ` : ""}${$("plant-name").textContent}`;
   const box = $("counts");
   if (box.dataset.drawn === drawn) return;
   box.dataset.drawn = drawn;
@@ -224,7 +226,7 @@ document.addEventListener("keydown", (event) => {
     screens[shown].focus();
     return;
   }
-  if (field) return;
+  if (field || event.repeat) return; // a key that is held, or stuck, would acknowledge whatever comes
   const key = event.key.toLowerCase();
   const screen = NAMES["123456".indexOf(key)];
   if (screen && key) showScreen(screen);

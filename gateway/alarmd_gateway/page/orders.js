@@ -8,6 +8,15 @@ import { DONE } from "./words.js";
 const away = new Map();
 const SETTLES = 1000; // ms after an answer, in which its change comes
 
+const UNKNOWN = "it isn't known whether the order was taken: the journal tells"; // as the gateway has it
+const sure = (why) => !why.includes(UNKNOWN);
+
+// Why an order wasn't taken. Where no answer can be read, or the gateway has a fault, it may be taken all the same.
+function reason(fault) {
+  const told = fault.status >= 400 && fault.status !== 500;
+  return told ? fault.message : `${fault.message}, so ${UNKNOWN}`;
+}
+
 export const isAway = (target) => away.has(target);
 
 function end(target) {
@@ -38,21 +47,24 @@ export function tell(words, bad = false) {
 }
 
 // Gives an order, and says what came of it: null where it was taken, else why it wasn't. Another order for the same target goes first.
-async function give(verb, target, more) {
+// Nothing is ordered by what isn't live any more, as it may be by the time that a dialog is answered.
+async function give(store, verb, target, more) {
   while (away.has(target)) {
     if (away.get(target).verb === verb) return "this order is under way";
     await away.get(target).ended;
   }
+  if (!store.live) return "nothing on this page is live";
   const order = { verb, answered: false, changed: verb === "restart" };
   order.ended = new Promise((resolve) => { order.done = resolve; });
   away.set(target, order);
   document.dispatchEvent(new Event("away"));
   let why;
   try {
-    const reply = await post("/api/order", { order: verb, target, ...more });
+    // by its mark the gateway knows an order that the browser sends again by itself, as where its connection has ended
+    const reply = await post("/api/order", { order: verb, target, mark: crypto.randomUUID(), ...more });
     why = reply.taken ? null : reply.why;
   } catch (fault) {
-    why = fault.message;
+    why = reason(fault);
   }
   order.answered = true;
   if (order.changed || why !== null) end(target);
@@ -60,20 +72,21 @@ async function give(verb, target, more) {
   return why;
 }
 
-export async function order(verb, target, more = {}) {
-  const why = await give(verb, target, more);
+export async function order(store, verb, target, more = {}) {
+  const why = await give(store, verb, target, more);
   if (why === null) tell(`${target}: ${DONE[verb]}`);
-  else tell(`${target}: not ${DONE[verb]}, ${why}`, true);
+  else tell(sure(why) ? `${target}: not ${DONE[verb]}, ${why}` : `${target}: ${why}`, true);
   return why === null;
 }
 
 // One order for several alarms, one after another.
-export async function orderAll(verb, targets) {
+export async function orderAll(store, verb, targets) {
   const faults = [];
   for (const target of targets) {
-    const why = await give(verb, target, {});
+    const why = await give(store, verb, target, {});
     if (why !== null) faults.push(`${target}: ${why}`);
   }
   const done = targets.length - faults.length;
-  tell(`${done} ${DONE[verb]}${faults.length ? `, ${faults.length} not: ${faults[0]}` : ""}`, faults.length > 0);
+  const not = faults.every(sure) ? "not" : "perhaps not";
+  tell(`${done} ${DONE[verb]}${faults.length ? `, ${faults.length} ${not}: ${faults[0]}` : ""}`, faults.length > 0);
 }

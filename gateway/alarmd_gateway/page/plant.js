@@ -46,7 +46,7 @@ export class PlantScreen {
         const button = action.firstChild;
         button.hidden = !one.stopped;
         button.disabled = !store.live;
-        button.onclick = () => restart(one.stopped);
+        button.onclick = () => restart(store, one.stopped);
       },
     });
     const part = (title, list, name) => el("div", { class: `part ${name}` }, el("h2", {}, title), list.grid);

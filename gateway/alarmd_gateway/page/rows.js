@@ -7,13 +7,15 @@ const MORE = 3; // rows that are drawn above and below those that are seen
 let lists = 0;
 
 export class VirtualList {
-  // `columns`: texts of the head, with a class each; `key(item)`; `make()` gives the cells of a new row; `fill(cells, item, row)` fills them
-  constructor({ label, columns, key, make, fill, chosen, empty }) {
+  // `columns`: texts of the head, with a class each; `key(item)`; `make()` gives the cells of a new row; `fill(cells, item, row)` fills them;
+  // `told(item)`: a text of it that is to be read anew when it is another one
+  constructor({ label, columns, key, make, fill, chosen, empty, told }) {
     this.name = `list${++lists}`;
     this.key = key;
     this.make = make;
     this.fill = fill;
     this.chosen = chosen ?? (() => {});
+    this.told = told ?? (() => "");
     this.items = [];
     this.drawn = new Map(); // row elements by key
     this.selected = null; // a key
@@ -62,7 +64,10 @@ export class VirtualList {
 
   draw() {
     const seen = this.body.clientHeight;
-    if (!seen) return;
+    if (!seen) {
+      for (const row of this.drawn.values()) row.since = null;
+      return;
+    }
     const bar = this.body.offsetWidth - this.body.clientWidth;
     this.head.style.paddingRight = `${bar + 12}px`; // beside the rows' scroll bar
     const first = Math.max(0, Math.floor(this.body.scrollTop / this.height) - MORE);
@@ -76,6 +81,7 @@ export class VirtualList {
       row.element.style.transform = `translateY(${place * this.height}px)`;
       row.element.setAttribute("aria-rowindex", place + 2);
       row.place = place;
+      this.look(row, this.told(item));
       this.fill(row.cells, item, row.element);
       this.mark(row, key);
     }
@@ -93,10 +99,23 @@ export class VirtualList {
     const cells = this.make();
     const element = el("div", { class: "row", role: "row", id: `${this.name}-${++this.numbers}`, onclick: () => this.select(key) }, ...cells);
     for (const cell of cells) cell.setAttribute("role", "gridcell");
-    const row = { element, cells, since: performance.now() };
+    const row = { element, cells, since: null, told: null };
     this.drawn.set(key, row);
     this.body.append(element);
     return row;
+  }
+
+  // Whether a row is wholly seen.
+  whole(row) {
+    const top = this.body.scrollTop;
+    return row.place * this.height >= top - 1 && (row.place + 1) * this.height <= top + this.body.clientHeight + 1;
+  }
+
+  // Since when a row tells what it does, wholly seen: `since`, null where it isn't.
+  look(row, told) {
+    if (!this.whole(row)) row.since = null;
+    else if (row.since === null || row.told !== told) row.since = performance.now();
+    row.told = told;
   }
 
   mark(row, key) {
@@ -116,13 +135,11 @@ export class VirtualList {
     return this.selected === null ? undefined : this.item(this.selected);
   }
 
-  // The items whose rows are wholly seen, and were drawn for at least so many ms.
+  // The items whose rows are wholly seen, and have been so for at least so many ms, with what they tell.
   seen(age = 0) {
     const now = performance.now();
-    const top = this.body.scrollTop;
-    const bottom = top + this.body.clientHeight;
     return [...this.drawn.values()]
-      .filter((row) => row.place * this.height >= top - 1 && (row.place + 1) * this.height <= bottom + 1 && now - row.since >= age)
+      .filter((row) => this.whole(row) && row.since !== null && now - row.since >= age)
       .sort((a, b) => a.place - b.place)
       .map((row) => this.items[row.place])
       .filter((item) => item !== undefined);

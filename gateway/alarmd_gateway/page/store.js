@@ -94,7 +94,7 @@ export class Store {
       case "input": this.values.inputs[data.name] = data.value; break;
       case "stopped": this.stopped.set(data.program, data); break;
       case "restarted": this.stopped.delete(data.program); break;
-      case "rows": this.rows = data.length; break;
+      case "rows": this.rows = data.length; this.eventsLeft = data.events_left; break;
       case "scan": this.now = time; this.eventsLeft = data.events_left; break;
       case "trouble": this.takeTrouble(data); break;
       case "question": this.questions.set(data.number, data); break;
