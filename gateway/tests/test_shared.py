@@ -6,13 +6,14 @@ import asyncio
 import contextlib
 from collections.abc import Awaitable, Callable, Sequence
 from pathlib import Path
+from typing import Any
 
 import pytest
 from around import config_for, plant_copy, until, without_programs
 from core_help import Served
 from fake_etcd import FakeEtcd
 
-from alarmd_gateway import etcd_log, log_watch, new_record, shared, transactions
+from alarmd_gateway import etcd_log, log_watch, new_record, rotation, shared, transactions
 from alarmd_gateway.etcd import NoEtcd
 from alarmd_gateway.log_view import Last, Marked
 from alarmd_gateway.metrics import Metrics
@@ -298,6 +299,33 @@ def test_a_new_record_that_a_silent_etcd_has_ended_is_no_trouble_of_who_follows(
         assert [one.kind for one in a.troubles if one.kind is TroubleKind.RECORD] == []
 
     trial(Pair(alarmd, tmp_path, without_programs, rotate_at=20), work)
+
+
+def test_a_new_record_that_was_tried_for_too_long_is_no_question_of_who_follows(
+    alarmd: Path, tmp_path: Path, monkeypatch: pytest.MonkeyPatch
+) -> None:
+    monkeypatch.setattr(log_watch, "SILENT", 0.5)
+    attempt, tried = rotation.attempt, asyncio.Event()
+
+    async def work(pair: Pair) -> None:
+        a = await pair.join("a")
+        await until(lambda: a.leads, "a leads")
+
+        async def long(*words: Any) -> rotation.Trial:
+            found = await attempt(*words)
+            assert found.lost
+            pair.etcd.deaf = 10**9
+            await until(lambda: not a.leads, "it leads no more")
+            tried.set()
+            return found
+
+        monkeypatch.setattr(rotation, "attempt", long)
+        await give(a, running=True, level=250, flow=100)
+        await tried.wait()
+        await asyncio.sleep(0.5)
+        assert not a.questions
+
+    trial(Pair(alarmd, tmp_path, tank, rotate_at=5), work)
 
 
 def test_a_clock_that_differs_is_no_trouble_of_who_leads_no_more(
