@@ -15,6 +15,7 @@ from fake_etcd import FakeEtcd
 
 from alarmd_gateway import etcd_log, log_watch, new_record, rotation, shared, transactions
 from alarmd_gateway.etcd import NoEtcd
+from alarmd_gateway.jobs import Job
 from alarmd_gateway.log_view import Last, Marked
 from alarmd_gateway.metrics import Metrics
 from alarmd_gateway.model import Code, Order, Plant, Sample, ServerGone, Verb
@@ -513,6 +514,73 @@ def test_an_order_without_an_answer_is_not_taken_later(
         await until(lambda: b.state.events > events + 3, "scans go on")
         assert b.state.by_tag["LAL-101"].code is Code.UNACK
         assert (await b.order(Order(Verb.ACK, 1, "LAL-101"), "bert", "seen")).code == "OK"
+
+    trial(Pair(alarmd, tmp_path, tank), work)
+
+
+def test_an_order_that_was_told_of_while_it_was_handed_on_is_not_taken_later(
+    alarmd: Path, tmp_path: Path, monkeypatch: pytest.MonkeyPatch
+) -> None:
+    """As where etcd takes its time, and then the leader doesn't look."""
+    monkeypatch.setattr(shared, "ORDER", 0.5)
+
+    async def work(pair: Pair) -> None:
+        a = await pair.join("a")
+        await until(lambda: a.leads, "a leads")
+        b = await pair.join("b")
+        await give(a, running=True, level=250, flow=100)
+        await until(lambda: b.state.by_tag["LAL-101"].code is Code.UNACK, "the alarm")
+        request, told = b._log.request, asyncio.Event()
+        waiting, gate = asyncio.Event(), asyncio.Event()
+
+        async def held(moment: int) -> None:
+            waiting.set()
+            await gate.wait()
+
+        async def slow(mark: str, entry: Entry, lease: str) -> None:
+            await told.wait()
+            await request(mark, entry, lease)
+
+        monkeypatch.setattr(b._log, "request", slow)
+        a.before_scan = held
+        await waiting.wait()
+        with pytest.raises(ServerGone):
+            await b.order(Order(Verb.ACK, 1, "LAL-101"), "bert", "seen")
+        told.set()
+        await asyncio.sleep(0.5)
+        a.before_scan = None
+        gate.set()
+        events = b.state.events
+        await until(lambda: b.state.events > events + 3, "scans go on")
+        assert b.state.by_tag["LAL-101"].code is Code.UNACK
+
+    trial(Pair(alarmd, tmp_path, tank), work)
+
+
+def test_a_reload_that_was_told_of_while_it_was_looked_at_is_not_taken_later(
+    alarmd: Path, tmp_path: Path, monkeypatch: pytest.MonkeyPatch
+) -> None:
+    """As where the server behind this gateway plays a long record anew. An order stands for it here: both go one way."""
+    monkeypatch.setattr(shared, "ORDER", 0.5)
+
+    async def work(pair: Pair) -> None:
+        a = await pair.join("a")
+        await until(lambda: a.leads, "a leads")
+        await give(a, running=True, level=250, flow=100)
+        await until(lambda: a.state.by_tag["LAL-101"].code is Code.UNACK, "the alarm")
+        told = asyncio.Event()
+
+        async def slow(job: Job) -> bool:
+            await told.wait()
+            return True
+
+        monkeypatch.setattr(a._orders, "_ready", slow)
+        with pytest.raises(ServerGone):
+            await a.order(Order(Verb.ACK, 1, "LAL-101"), "anna", "seen")
+        told.set()
+        events = a.state.events
+        await until(lambda: a.state.events > events + 3, "scans go on")
+        assert a.state.by_tag["LAL-101"].code is Code.UNACK
 
     trial(Pair(alarmd, tmp_path, tank), work)
 
