@@ -16,7 +16,7 @@ from fake_etcd import FakeEtcd
 from alarmd_gateway import etcd_log, log_watch, new_record, rotation, shared, transactions
 from alarmd_gateway.etcd import NoEtcd
 from alarmd_gateway.jobs import Job
-from alarmd_gateway.log_view import Last, Marked
+from alarmd_gateway.log_view import Last, Marked, View
 from alarmd_gateway.metrics import Metrics
 from alarmd_gateway.model import Code, Order, Plant, Sample, ServerGone, Verb
 from alarmd_gateway.record import Entry
@@ -185,6 +185,41 @@ def test_an_old_sample_is_none_where_the_log_has_a_newer_one(
         assert b.state.inputs["level"] == 950
 
     trial(Pair(alarmd, tmp_path, tank), work)
+
+
+def test_an_old_sample_is_none_where_the_next_record_has_a_newer_one(
+    alarmd: Path, tmp_path: Path, monkeypatch: pytest.MonkeyPatch
+) -> None:
+    """Which a gateway that was cut off meanwhile goes over to at once."""
+    monkeypatch.setattr(shared, "OLDER", 0.5)
+
+    async def work(pair: Pair) -> None:
+        a = await pair.join("a")
+        await until(lambda: a.leads, "a leads")
+        b = await pair.join("b")
+        for core in (a, b):
+            await give(core, a=5, c=False)
+        await until(lambda: b.state.inputs["a"] == 5, "the sample of both")
+        look, known = b._log.look, a._log.known.record
+
+        async def cut_off() -> View:
+            raise NoEtcd("cut off")
+
+        monkeypatch.setattr(b._log, "look", cut_off)
+        a._renewal._due._next = 1
+        await until(lambda: a._log.known.record > known, "a new record")
+        await asyncio.sleep(1)
+        await give(a, a=7)  # of its own field alone
+        await until(lambda: a.state.inputs["a"] == 7, "the sample")
+        await give(b, c=True)
+        monkeypatch.setattr(b._log, "look", look)
+        await until(lambda: b.state.inputs["a"] == 7, "the sample, by the log")
+        await pair.served[0].close()
+        await until(lambda: b.leads, "b leads")
+        await until(lambda: b.state.inputs["c"] is True, "its own sample, which is newer")
+        assert b.state.inputs["a"] == 7
+
+    trial(Pair(alarmd, tmp_path, without_programs), work)
 
 
 def test_no_answer_of_etcd(alarmd: Path, tmp_path: Path, monkeypatch: pytest.MonkeyPatch) -> None:
