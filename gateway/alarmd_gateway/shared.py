@@ -298,6 +298,7 @@ class SharedCore(Core):
         server, book = await played(self.config, plant, self._log)
         await self._link.replace(server, book, plant)
         self.plant = self._link.plant
+        self._latest.refit(self._fitted)
         for name, moment in book.came.items():
             self._latest.overtaken([name], self.plant.time(moment).timestamp())
         self._renewal.look_at_history()
