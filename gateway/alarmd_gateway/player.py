@@ -27,12 +27,15 @@ class Taken:
 
 
 class Book:
-    """The state and the journal of one run, kept by its answers. `plant` is the one that is served now."""
+    """The state and the journal of one run, kept by its answers. `plant` is the one that is served now. `came` are the moments at
+    which inputs had their last samples; those of the first scan may be carried there, as old as they are.
+    """
 
     def __init__(self, plant: Plant) -> None:
         self.plant = plant
         self.state = State(plant)
         self.journal = Journal(plant)
+        self.came: dict[str, int] = {}
 
     def take(self, taken: Taken) -> list[Happening]:
         """A command with its answer, and what has happened by it."""
@@ -41,6 +44,8 @@ class Book:
             self._reload(command, taken)
             return []
         if isinstance(command, Scan):
+            if self.state.scanned:
+                self.came.update(dict.fromkeys(command.given, command.moment))
             self.journal.scan(taken.answer)
             return self.state.scan(command.moment, command.given, taken.answer)
         moment, by = self.state.moment, (taken.user, taken.reason)

@@ -190,6 +190,10 @@ class SharedCore(Core):
                 if not await self._may_lead(view):
                     return
             await super()._step()
+            if (
+                not self.leads
+            ):  # since then: what it tried for that long may have ended in a question
+                self._ask_no_more()
         except Deposed:
             self._step_down()
         except (NoCopy, NoEtcd, EtcdRefused):
@@ -253,12 +257,16 @@ class SharedCore(Core):
             return
         self.leads = False
         tell(f"{self._name} leads no more")
-        for subject in ("clock", "record"):
-            self._questions.withdraw(subject)
-        for kind in (TroubleKind.RECORD, TroubleKind.CLOCK):  # of these tells who leads
-            self.troubles.clear(kind, "")
+        self._ask_no_more()
         self._queue = SampleQueue()
         self._taken.set()
+
+    def _ask_no_more(self) -> None:
+        """Who leads asks, and tells of the clock and of a new record."""
+        for subject in ("clock", "record"):
+            self._questions.withdraw(subject)
+        for kind in (TroubleKind.RECORD, TroubleKind.CLOCK):
+            self.troubles.clear(kind, "")
 
     # what is in the log
 
@@ -289,6 +297,9 @@ class SharedCore(Core):
         server, book = await played(self.config, plant, self._log)
         await self._link.replace(server, book, plant)
         self.plant = self._link.plant
+        self._latest.refit(self._fitted)
+        for name, moment in book.came.items():
+            self._latest.overtaken([name], self.plant.time(moment).timestamp())
         self._renewal.look_at_history()
 
     def _followed(self, command: Command, answer: list[str]) -> None:

@@ -37,7 +37,7 @@ class SharedOrders:
 
     async def append(self, job: Job) -> None:
         """An order that was given here, where this gateway leads. Raises Deposed."""
-        if not await self._ready(job):
+        if not await self._ready(job) or job.reply.done():  # who gave it was told meanwhile
             return
         mark = uuid.uuid4().hex
         entry = entry_of(job.command, job.user, job.reason)
@@ -114,7 +114,7 @@ class SharedOrders:
             job, mark = self._jobs.popleft(), uuid.uuid4().hex
             if job.reply.done():
                 continue
-            if not await self._ready(job):
+            if not await self._ready(job) or job.reply.done():
                 continue
             self.away.add(mark, job)
             entry = entry_of(job.command, job.user, job.reason)
@@ -124,4 +124,6 @@ class SharedOrders:
                 self.away.drop(mark)
                 self._jobs.appendleft(job)
                 raise
+            if job.reply.done():  # who gave it was told meanwhile, and couldn't take it back yet
+                await self.withdraw(job.command)
         self.away.tidy()

@@ -10,6 +10,7 @@ from pathlib import Path
 import pytest
 
 from alarmd_gateway import plant as plants
+from alarmd_gateway.fields import lines
 from alarmd_gateway.fields.lines import LineSource
 from alarmd_gateway.fields.source import Backoff, Intake, Lost, Source
 from alarmd_gateway.mapping import LinesSource, Retry
@@ -48,8 +49,8 @@ class Fifo:
         self.path = folder / "commands"
         self.kept = Kept(plants.read(examples / "tank" / "plant.toml"))
         self.page = Page()
-        given = LinesSource("fifo", self.path, orders, hold, SOON)
-        self.source = LineSource(given, self.kept.intake(), self.page)
+        self.given = LinesSource("fifo", self.path, orders, hold, SOON)
+        self.source = LineSource(self.given, self.kept.intake(), self.page)
 
     async def __aenter__(self) -> Fifo:
         self.running = Running(self.source, self.kept)
@@ -76,14 +77,14 @@ def test_samples_and_orders(examples: Path, tmp_path: Path) -> None:
 
 
 def test_mistakes_are_answered(examples: Path, tmp_path: Path) -> None:
-    lines = ["akc 1 LAL-101", "hepl", "ack LAL-101", "ack 1 LAL-101 now", "level = 5"]
+    mistaken = ["akc 1 LAL-101", "hepl", "ack LAL-101", "ack 1 LAL-101 now", "level = 5"]
     wrong = ["levl=5", "level=high", "pump=TRUE", "level=2147483648"]
 
     async def body() -> None:
         async with Fifo(examples, tmp_path) as it:
             os.mkfifo(it.path)
             await until(lambda: it.source.is_up)
-            write(it.path, "\n".join([*lines, *wrong, "running=TRUE"]) + "\n")
+            write(it.path, "\n".join([*mistaken, *wrong, "running=TRUE"]) + "\n")
             await until(lambda: it.kept.samples)
             assert it.kept.samples == [("running", True)] and not it.page.orders
             assert len(it.page.lines) == 9
@@ -173,6 +174,53 @@ def test_who_writes_while_a_last_order_is_taken_is_heard(examples: Path, tmp_pat
             await until(lambda: it.page.orders)
             await until(it.kept.standing)
             assert it.kept.samples == [("level", 7)]
+
+    asyncio.run(body())
+
+
+class Slow(Page):
+    """Answers an order only once it may."""
+
+    def __init__(self) -> None:
+        super().__init__()
+        self.begun, self.gate = asyncio.Event(), asyncio.Event()
+
+    async def order(self, line: str) -> None:
+        self.begun.set()
+        await self.gate.wait()
+        self.orders.append(line)
+
+
+async def ends(it: Fifo, page: Slow) -> None:
+    """The source is closed while an order is taken, and a sample waits behind it."""
+    it.page = page
+    os.mkfifo(it.path)
+    it.source = LineSource(it.given, it.kept.intake(), page)
+    async with it:
+        await until(lambda: it.source.is_up)
+        write(it.path, "ack 1 LAL-101\nlevel=7\n")
+        await page.begun.wait()
+        asyncio.get_running_loop().call_later(0.2, page.gate.set)
+
+
+def test_lines_that_were_read_are_taken_before_the_end(examples: Path, tmp_path: Path) -> None:
+    async def body() -> None:
+        it = Fifo(examples, tmp_path)
+        await ends(it, Slow())
+        assert it.page.orders == ["ack 1 LAL-101"] and it.kept.samples == [("level", 7)]
+
+    asyncio.run(body())
+
+
+def test_the_end_does_not_wait_for_a_line_for_ever(
+    examples: Path, tmp_path: Path, monkeypatch: pytest.MonkeyPatch
+) -> None:
+    monkeypatch.setattr(lines, "CLOSE_SECONDS", 0.05)
+
+    async def body() -> None:
+        it = Fifo(examples, tmp_path)
+        await ends(it, Slow())
+        assert not it.page.orders and not it.kept.samples
 
     asyncio.run(body())
 

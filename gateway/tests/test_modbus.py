@@ -334,10 +334,11 @@ def test_a_refused_output_that_is_not_to_be_written_any_more(examples: Path) -> 
         try:
             await until(lambda: len(device.written) > 2)
             kept.outputs.clear()
+            await until(lambda: not kept.standing())
             await asyncio.sleep(0.2)
             count = len(device.written)
             await asyncio.sleep(0.2)
-            assert len(device.written) == count
+            assert len(device.written) == count and not kept.standing()
         finally:
             await running.close()
             await device.close()

@@ -13,11 +13,13 @@ from reload_help import READING, WITHOUT, Small, latched, reloads
 from test_shared import Pair, give, same, trial
 
 from alarmd_gateway import etcd_log, log_texts, shared
+from alarmd_gateway.etcd import NoEtcd
 from alarmd_gateway.link import NoReload
-from alarmd_gateway.log_view import Marked
+from alarmd_gateway.log_view import Marked, View
 from alarmd_gateway.model import GatewayFault, ServerGone, Texts
 from alarmd_gateway.shared import SharedCore
 from alarmd_gateway.shared_config import SharedConfig
+from alarmd_gateway.troubles import TroubleKind
 
 __all__ = ["reloads"]
 
@@ -106,6 +108,40 @@ def test_one_whose_giver_is_gone_meanwhile_ends_no_leader(
         events = left.state.events
         await until(lambda: left._closing or left.state.events > events + 3)
         assert not left._closing and code(left) == "UNACK"
+
+    trial(pair, work)
+
+
+def test_old_samples_fit_a_plant_that_the_next_record_has_taken_up(
+    pair: Pair, monkeypatch: pytest.MonkeyPatch
+) -> None:
+    """Where a gateway that was cut off meanwhile goes over to that record at once, and leads then."""
+
+    async def work(pair: Pair) -> None:
+        left, right = await two(pair)
+        await give(right, a=5)
+        look, known = right._log.look, left._log.known.record
+
+        async def cut_off() -> View:
+            raise NoEtcd("cut off")
+
+        monkeypatch.setattr(right._log, "look", cut_off)
+        left._renewal._due._next = 1
+        await until(lambda: left.questions)
+        left._renewal._due._next = 1000
+        await left.answer(left.questions[0].number, True)
+        await until(lambda: left._log.known.record > known)
+        other = Small(
+            10, "b AT %ID0 : DINT; y AT %QD0 : DINT := 7; c : BOOL;", "c := 100 / b > 10;"
+        )
+        assert (await left.reload(texts(left, other))).lines[0].startswith("RELOADED")
+        monkeypatch.setattr(right._log, "look", look)
+        await until(lambda: "b" in right.plant.inputs)
+        await give(right, b=20)
+        await pair.served[0].close()
+        await until(lambda: right.leads)
+        await until(lambda: right.state.inputs["b"] == 20)
+        assert not any(one.kind is TroubleKind.REFUSED for one in right.troubles)
 
     trial(pair, work)
 

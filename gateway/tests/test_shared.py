@@ -6,15 +6,17 @@ import asyncio
 import contextlib
 from collections.abc import Awaitable, Callable, Sequence
 from pathlib import Path
+from typing import Any
 
 import pytest
 from around import config_for, plant_copy, until, without_programs
 from core_help import Served
 from fake_etcd import FakeEtcd
 
-from alarmd_gateway import etcd_log, log_watch, new_record, shared, transactions
+from alarmd_gateway import etcd_log, log_watch, new_record, rotation, shared, transactions
 from alarmd_gateway.etcd import NoEtcd
-from alarmd_gateway.log_view import Last, Marked
+from alarmd_gateway.jobs import Job
+from alarmd_gateway.log_view import Last, Marked, View
 from alarmd_gateway.metrics import Metrics
 from alarmd_gateway.model import Code, Order, Plant, Sample, ServerGone, Verb
 from alarmd_gateway.record import Entry
@@ -185,6 +187,41 @@ def test_an_old_sample_is_none_where_the_log_has_a_newer_one(
     trial(Pair(alarmd, tmp_path, tank), work)
 
 
+def test_an_old_sample_is_none_where_the_next_record_has_a_newer_one(
+    alarmd: Path, tmp_path: Path, monkeypatch: pytest.MonkeyPatch
+) -> None:
+    """Which a gateway that was cut off meanwhile goes over to at once."""
+    monkeypatch.setattr(shared, "OLDER", 0.5)
+
+    async def work(pair: Pair) -> None:
+        a = await pair.join("a")
+        await until(lambda: a.leads, "a leads")
+        b = await pair.join("b")
+        for core in (a, b):
+            await give(core, a=5, c=False)
+        await until(lambda: b.state.inputs["a"] == 5, "the sample of both")
+        look, known = b._log.look, a._log.known.record
+
+        async def cut_off() -> View:
+            raise NoEtcd("cut off")
+
+        monkeypatch.setattr(b._log, "look", cut_off)
+        a._renewal._due._next = 1
+        await until(lambda: a._log.known.record > known, "a new record")
+        await asyncio.sleep(1)
+        await give(a, a=7)  # of its own field alone
+        await until(lambda: a.state.inputs["a"] == 7, "the sample")
+        await give(b, c=True)
+        monkeypatch.setattr(b._log, "look", look)
+        await until(lambda: b.state.inputs["a"] == 7, "the sample, by the log")
+        await pair.served[0].close()
+        await until(lambda: b.leads, "b leads")
+        await until(lambda: b.state.inputs["c"] is True, "its own sample, which is newer")
+        assert b.state.inputs["a"] == 7
+
+    trial(Pair(alarmd, tmp_path, without_programs), work)
+
+
 def test_no_answer_of_etcd(alarmd: Path, tmp_path: Path, monkeypatch: pytest.MonkeyPatch) -> None:
     monkeypatch.setattr(shared, "ORDER", 1.0)
     monkeypatch.setattr(log_watch, "SILENT", 0.5)
@@ -298,6 +335,33 @@ def test_a_new_record_that_a_silent_etcd_has_ended_is_no_trouble_of_who_follows(
         assert [one.kind for one in a.troubles if one.kind is TroubleKind.RECORD] == []
 
     trial(Pair(alarmd, tmp_path, without_programs, rotate_at=20), work)
+
+
+def test_a_new_record_that_was_tried_for_too_long_is_no_question_of_who_follows(
+    alarmd: Path, tmp_path: Path, monkeypatch: pytest.MonkeyPatch
+) -> None:
+    monkeypatch.setattr(log_watch, "SILENT", 0.5)
+    attempt, tried = rotation.attempt, asyncio.Event()
+
+    async def work(pair: Pair) -> None:
+        a = await pair.join("a")
+        await until(lambda: a.leads, "a leads")
+
+        async def long(*words: Any) -> rotation.Trial:
+            found = await attempt(*words)
+            assert found.lost
+            pair.etcd.deaf = 10**9
+            await until(lambda: not a.leads, "it leads no more")
+            tried.set()
+            return found
+
+        monkeypatch.setattr(rotation, "attempt", long)
+        await give(a, running=True, level=250, flow=100)
+        await tried.wait()
+        await asyncio.sleep(0.5)
+        assert not a.questions
+
+    trial(Pair(alarmd, tmp_path, tank, rotate_at=5), work)
 
 
 def test_a_clock_that_differs_is_no_trouble_of_who_leads_no_more(
@@ -485,6 +549,73 @@ def test_an_order_without_an_answer_is_not_taken_later(
         await until(lambda: b.state.events > events + 3, "scans go on")
         assert b.state.by_tag["LAL-101"].code is Code.UNACK
         assert (await b.order(Order(Verb.ACK, 1, "LAL-101"), "bert", "seen")).code == "OK"
+
+    trial(Pair(alarmd, tmp_path, tank), work)
+
+
+def test_an_order_that_was_told_of_while_it_was_handed_on_is_not_taken_later(
+    alarmd: Path, tmp_path: Path, monkeypatch: pytest.MonkeyPatch
+) -> None:
+    """As where etcd takes its time, and then the leader doesn't look."""
+    monkeypatch.setattr(shared, "ORDER", 0.5)
+
+    async def work(pair: Pair) -> None:
+        a = await pair.join("a")
+        await until(lambda: a.leads, "a leads")
+        b = await pair.join("b")
+        await give(a, running=True, level=250, flow=100)
+        await until(lambda: b.state.by_tag["LAL-101"].code is Code.UNACK, "the alarm")
+        request, told = b._log.request, asyncio.Event()
+        waiting, gate = asyncio.Event(), asyncio.Event()
+
+        async def held(moment: int) -> None:
+            waiting.set()
+            await gate.wait()
+
+        async def slow(mark: str, entry: Entry, lease: str) -> None:
+            await told.wait()
+            await request(mark, entry, lease)
+
+        monkeypatch.setattr(b._log, "request", slow)
+        a.before_scan = held
+        await waiting.wait()
+        with pytest.raises(ServerGone):
+            await b.order(Order(Verb.ACK, 1, "LAL-101"), "bert", "seen")
+        told.set()
+        await asyncio.sleep(0.5)
+        a.before_scan = None
+        gate.set()
+        events = b.state.events
+        await until(lambda: b.state.events > events + 3, "scans go on")
+        assert b.state.by_tag["LAL-101"].code is Code.UNACK
+
+    trial(Pair(alarmd, tmp_path, tank), work)
+
+
+def test_a_reload_that_was_told_of_while_it_was_looked_at_is_not_taken_later(
+    alarmd: Path, tmp_path: Path, monkeypatch: pytest.MonkeyPatch
+) -> None:
+    """As where the server behind this gateway plays a long record anew. An order stands for it here: both go one way."""
+    monkeypatch.setattr(shared, "ORDER", 0.5)
+
+    async def work(pair: Pair) -> None:
+        a = await pair.join("a")
+        await until(lambda: a.leads, "a leads")
+        await give(a, running=True, level=250, flow=100)
+        await until(lambda: a.state.by_tag["LAL-101"].code is Code.UNACK, "the alarm")
+        told = asyncio.Event()
+
+        async def slow(job: Job) -> bool:
+            await told.wait()
+            return True
+
+        monkeypatch.setattr(a._orders, "_ready", slow)
+        with pytest.raises(ServerGone):
+            await a.order(Order(Verb.ACK, 1, "LAL-101"), "anna", "seen")
+        told.set()
+        events = a.state.events
+        await until(lambda: a.state.events > events + 3, "scans go on")
+        assert a.state.by_tag["LAL-101"].code is Code.UNACK
 
     trial(Pair(alarmd, tmp_path, tank), work)
 

@@ -19,6 +19,9 @@ from .source import Intake, Lost, Source
 
 CHUNK: Final = 65_536
 LOOK_SECONDS: Final = 1.0  # between two looks whether the FIFO is still there
+CLOSE_SECONDS: Final = (
+    5.0  # for so long, at the most, lines that were read are taken before the end
+)
 
 
 class Answers(Protocol):
@@ -48,14 +51,24 @@ class LineSource(Source):
                 if not self.is_up:
                     self.up()
                 if data:
-                    await self._take(lines.feed(data))
+                    await self._take_all(lines.feed(data))
                 data = await read_ready(file, self._given.path)
                 if not data and (rest := lines.end()):
-                    await self._take(rest)
+                    await self._take_all(rest)
                     data = read_now(file)  # another writer may have come meanwhile
             raise Lost("nobody writes to it")
         finally:
             os.close(file)
+
+    async def _take_all(self, lines: list[str | None]) -> None:
+        """Takes lines that were read, also where the source is closed meanwhile: nobody writes them again."""
+        taking = asyncio.create_task(self._take(lines))
+        try:
+            await asyncio.shield(taking)
+        except asyncio.CancelledError:
+            await asyncio.wait({taking}, timeout=CLOSE_SECONDS)
+            taking.cancel()
+            raise
 
     async def _take(self, lines: list[str | None]) -> None:
         for line in lines:

@@ -123,7 +123,7 @@ class ModbusClient(Source):
         self._given = given
         self._blocks = list(blocks(given.inputs))
         self._thread = ThreadPoolExecutor(1, given.name)
-        self._refused: set[Point] = set()  # outputs that the device didn't take
+        self._refused: set[Point] = set()  # outputs that couldn't be written: each is a trouble
 
     async def session(self, current: Callable[[], dict[str, Value]]) -> None:
         """Connects, and reads and writes each period until the device doesn't answer."""
@@ -178,12 +178,13 @@ class ModbusClient(Source):
             await self._write(device, name, value)
 
     async def _write_again(self, device: Device, values: dict[str, Value]) -> None:
-        """Writes what the device has refused, as it is now; what isn't to be written by now is let be."""
+        """Writes what couldn't be written before, as it is now; what isn't to be written by now is no trouble any more."""
         for point in tuple(self._refused):
             if point.variable.name in values:
                 await self._write_point(device, point, values[point.variable.name])
             else:
                 self._refused.discard(point)
+                self.intake.good(self.name, point.variable.name)
 
     async def _write(self, device: Device, name: str, value: Value) -> None:
         """Writes an output wherever the map has it."""
@@ -193,14 +194,13 @@ class ModbusClient(Source):
 
     async def _write_point(self, device: Device, point: Point, value: Value) -> None:
         loop, name = asyncio.get_running_loop(), point.variable.name
-        self._refused.discard(point)
         try:
             await loop.run_in_executor(self._thread, device.write, point, point.write(value))
         except (Refusal, BadRaw) as fault:
-            if isinstance(fault, Refusal):
-                self._refused.add(point)
+            self._refused.add(point)
             self.intake.fails(self.name, name, str(fault))
         else:
+            self._refused.discard(point)
             self.intake.good(self.name, name)
 
     def close(self) -> None:
