@@ -18,6 +18,7 @@ from alarmd_gateway import connections, sessions
 from alarmd_gateway.core import Question
 from alarmd_gateway.guard import HEADERS
 from alarmd_gateway.model import Code, Order, Verb
+from alarmd_gateway.sessions import Pace
 
 SHELVE = {"milliseconds": 60_000, "reason": "the sensor is cleaned"}
 
@@ -263,6 +264,28 @@ def test_an_order_that_comes_again_is_given_once(guarded_plant: Served) -> None:
     for mark in ("", "x" * 65, 1, ["x"]):
         assert anna.order("ack", "A1", mark=mark).status == 400
     assert len(guarded_plant.core.orders) == 4
+
+
+def test_a_mark_is_of_one_order(guarded_plant: Served) -> None:
+    """As by a script that has one mark for all: it isn't told that an order was taken which wasn't given."""
+    anna = as_user(guarded_plant, "anna")
+    assert anna.order("shelve", "A0", mark="one", **SHELVE).json["taken"]
+    wrong = (400, "the mark is that of another order")
+    assert error(anna.order("ack", "A1", mark="one")) == wrong
+    assert error(anna.order("unshelve", "A0", mark="one")) == wrong
+    assert len(guarded_plant.core.orders) == 1
+
+
+def test_an_order_that_was_refused_may_come_again_with_its_mark(
+    guarded_plant: Served, monkeypatch: pytest.MonkeyPatch
+) -> None:
+    """It wasn't given, and whoever was told to wait has to be heard then."""
+    anna, takes = as_user(guarded_plant, "anna"), iter((False, True))
+    monkeypatch.setattr(Pace, "take", lambda pace, token: next(takes))
+    assert error(anna.order("shelve", "A0", mark="one", **SHELVE))[0] == 429
+    for _ in range(2):
+        assert anna.order("shelve", "A0", mark="one", **SHELVE).json["taken"]
+    assert len(guarded_plant.core.orders) == 1
 
 
 def test_a_user_orders_from_the_users_own_consoles_alone(guarded_plant: Served) -> None:
