@@ -175,6 +175,20 @@ def test_of_an_order_without_an_answer_it_isnt_said_that_it_wasnt_taken(
     page.faults()
 
 
+def test_what_a_proxy_answers_tells_nothing_of_an_order(site: Served, page: Page) -> None:
+    """As where it has waited long enough, or the gateway ended behind an order."""
+    page.run(
+        "const ask = window.fetch;"
+        "window.fetch = async (path, options) => { const answer = await ask(path, options);"
+        "  return path === '/api/order' ? new Response('<html>', { status: 504 }) : answer }"
+    )
+    page.choose("A1")
+    page.keys("a")
+    told = f"A1: the answer couldn't be read (504), so {UNKNOWN}"
+    until(lambda: page.text("#message") == told)
+    assert [order.target for order, _, _ in site.core.orders] == ["A1"]
+
+
 AWAY = "return document.querySelectorAll('#alarms .row.away').length"
 
 

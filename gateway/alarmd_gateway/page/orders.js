@@ -11,9 +11,9 @@ const SETTLES = 1000; // ms after an answer, in which its change comes
 const UNKNOWN = "it isn't known whether the order was taken: the journal tells"; // as the gateway has it
 const sure = (why) => !why.includes(UNKNOWN);
 
-// Why an order wasn't taken. Where no answer can be read, or the gateway has a fault, it may be taken all the same.
+// Why an order wasn't taken. Where the gateway itself hasn't told, but a proxy perhaps, or has a fault, it may be taken all the same.
 function reason(fault) {
-  const told = fault.status >= 400 && fault.status !== 500;
+  const told = fault.data?.error && fault.status !== 500;
   return told ? fault.message : `${fault.message}, so ${UNKNOWN}`;
 }
 
