@@ -189,6 +189,14 @@ def test_what_a_proxy_answers_tells_nothing_of_an_order(site: Served, page: Page
     assert [order.target for order, _, _ in site.core.orders] == ["A1"]
 
 
+def test_a_page_that_comes_by_plain_http_orders(site: Served, page: Page) -> None:
+    """As behind a proxy in the plant's own network: there a browser has less of `crypto`."""
+    page.run("delete Crypto.prototype.randomUUID")
+    page.choose("A1")
+    page.keys("a")
+    until(lambda: page.text("#message") == "A1: acknowledged")
+
+
 AWAY = "return document.querySelectorAll('#alarms .row.away').length"
 
 

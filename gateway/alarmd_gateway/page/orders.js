@@ -17,6 +17,9 @@ function reason(fault) {
   return told ? fault.message : `${fault.message}, so ${UNKNOWN}`;
 }
 
+// A text that no other order has. Where the page comes by plain HTTP, as behind a proxy, a browser has no randomUUID.
+const newMark = () => crypto.getRandomValues(new Uint32Array(4)).join("-");
+
 export const isAway = (target) => away.has(target);
 
 function end(target) {
@@ -61,7 +64,7 @@ async function give(store, verb, target, more) {
   let why;
   try {
     // by its mark the gateway knows an order that the browser sends again by itself, as where its connection has ended
-    const reply = await post("/api/order", { order: verb, target, mark: crypto.randomUUID(), ...more });
+    const reply = await post("/api/order", { order: verb, target, mark: newMark(), ...more });
     why = reply.taken ? null : reply.why;
   } catch (fault) {
     why = reason(fault);
