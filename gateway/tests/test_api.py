@@ -400,7 +400,17 @@ def test_a_reason_in_a_table_is_no_formula_whatever_separates_its_cells(open_pla
     """A spreadsheet goes by semicolons where numbers have a comma."""
     client = Client(open_plant.url)
     client.enter()
-    for reason in ("=1+1", "a;=1+1;b", "a, b;@SUM(1)", "a;-1", "a;＝1", "a; b;c"):
+    reasons = (
+        "=1+1",
+        "a;=1+1;b",
+        'a;"=1+1;b',
+        'a;""=1+1',
+        "a, b;@SUM(1)",
+        "a;-1",
+        "a;＝1",
+        "a; b;c",
+    )
+    for reason in reasons:
         assert client.order("shelve", "A0", milliseconds=1000, reason=reason).json["taken"]
     told = text(client, "journal.csv")
     for delimiter in ",;":
