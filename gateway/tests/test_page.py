@@ -794,6 +794,33 @@ def test_a_page_names_who_its_orders_are_of(page: Page) -> None:
     page.faults()
 
 
+def test_what_was_asked_for_somebody_before_isnt_shown(page: Page) -> None:
+    """Anna's table comes once she is logged out and Bert is there: her snapshot would be shown for his."""
+    with served(users=two_users()) as site:
+        site.do(lambda: site.core.scan(1000, {"A0": Code.UNACK, "A1": Code.UNACK}))
+        page.open(site.url)
+        until(lambda: page.run("return document.activeElement.id === 'login-name'"))
+        page.run(
+            "const ask = window.fetch, door = new Promise((resolve) => { window.release = resolve });"
+            "window.fetch = async (path, options) => { const answer = await ask(path, options);"
+            "  if (path === '/api/plant' && !window.held) { window.held = true; await door }"
+            "  return answer }"
+        )
+        page.login("anna")
+        until(lambda: page.run("return window.held"))
+        page.click("#log-out")
+        until(lambda: page.text("#login-message") == "Logged out.")
+        page.run("document.querySelector('#login-name').value = ''")
+        page.login("bert")
+        page.until_live()
+        until(lambda: page.rows() == [("A0", "UNACK")])
+        page.run("window.release()")
+        site.do(lambda: site.core.scan(2000, {"A0": Code.RTNUN}))
+        until(lambda: ("A0", "RTNUN") in page.rows())
+        assert page.rows() == [("A0", "RTNUN")]
+    page.faults()
+
+
 def test_by_keyboard_alone(page: Page) -> None:
     with served(FakeCore(fake_plant(24)), users=two_users()) as site:
         core = site.core
