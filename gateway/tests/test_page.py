@@ -701,6 +701,22 @@ def test_a_stuck_key_acknowledges_once(site: Served, page: Page) -> None:
     until(lambda: ("A3", "ACKED") in page.rows())
 
 
+def test_a_stuck_enter_presses_a_button_once(site: Served, page: Page) -> None:
+    time.sleep(0.5)  # until the rows have been there for long enough
+    page.run(
+        "const button = document.querySelector('#alarms [data-order=ack-seen]');"
+        "window.presses = 0; button.addEventListener('click', () => { window.presses += 1 }); button.focus()"
+    )
+    key: dict[str, Any] = {"type": "keyDown", "key": "Enter", "code": "Enter", "text": "\r"}
+    key["windowsVirtualKeyCode"] = 13
+    page.driver.execute_cdp_cmd("Input.dispatchKeyEvent", key)
+    for _ in range(10):
+        page.driver.execute_cdp_cmd("Input.dispatchKeyEvent", {**key, "autoRepeat": True})
+    page.driver.execute_cdp_cmd("Input.dispatchKeyEvent", {**key, "type": "keyUp"})
+    until(lambda: page.text("#message") == "3 acknowledged")
+    assert page.run("return window.presses") == 1 and len(site.core.orders) == 3
+
+
 def test_a_lost_connection_is_told_and_comes_back(page: Page) -> None:
     with served() as site:
         port = site.web.port
