@@ -685,6 +685,20 @@ def test_an_alarm_that_comes_again_is_to_be_read_anew(site: Served, page: Page) 
     until(lambda: ("A4", "ACKED") in page.rows())
 
 
+def test_what_came_while_the_tab_wasnt_shown_is_to_be_read_first(site: Served, page: Page) -> None:
+    show = "Object.defineProperty(document, 'hidden', { value: arguments[0], configurable: true });"
+    show += "document.dispatchEvent(new Event('visibilitychange'));"
+    page.run(show, True)
+    site.do(lambda: site.core.scan(62_000, {"A3": Code.UNACK}))
+    until(lambda: ("A3", "UNACK") in page.rows())
+    time.sleep(0.8)
+    page.run(f"{show} {PRESS}", False)
+    time.sleep(0.8)
+    assert site.core.orders == []
+    page.keys("v")
+    until(lambda: page.text("#message") == "4 acknowledged")
+
+
 def test_a_stuck_key_acknowledges_once(site: Served, page: Page) -> None:
     time.sleep(0.5)  # until the rows have been there for long enough
     key: dict[str, Any] = {"type": "keyDown", "key": "v", "code": "KeyV", "text": "v"}

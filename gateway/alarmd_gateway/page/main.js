@@ -175,6 +175,7 @@ function makeScreens() {
   $("help-button").onclick = () => showKeys(KEYS);
   store.listen(draw);
   document.addEventListener("away", () => store.changed());
+  document.addEventListener("visibilitychange", () => store.changed());
 }
 
 function showScreen(name) {
