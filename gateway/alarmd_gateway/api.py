@@ -157,9 +157,10 @@ class Api:
         session = self.guard.changing(request)
         given = await body(request)
         mark = read_mark(given.pop("mark", None))
-        return answer(
-            await self._marks.once(session.token, mark, lambda: self._give(session, given))
-        )
+        if mark is None:
+            return answer(await self._give(session, given))
+        key = session.token, mark
+        return answer(await self._marks.once(key, given, lambda: self._give(session, given)))
 
     async def _give(self, session: Session, given: dict[str, Json]) -> Json:
         order, reason = read_order(given)

@@ -6,7 +6,7 @@ import re
 from typing import Final
 
 _FORMULA: Final = (*"=+-@", *"＝＋－＠", "\t", "\r", "\n")  # the second four are of full width
-_BEHIND: Final = re.compile(f";(?=[{re.escape(''.join(_FORMULA))}])")
+_BEHIND: Final = re.compile(f';(?="*[{re.escape("".join(_FORMULA))}])')  # quotes may be left out
 
 
 def guarded(cell: object) -> object:

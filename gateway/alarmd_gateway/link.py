@@ -6,7 +6,7 @@ import asyncio
 import contextlib
 import logging
 import sys
-from collections.abc import Callable
+from collections.abc import Callable, Iterator
 from pathlib import Path
 
 from . import kept
@@ -128,15 +128,17 @@ class Link:
     ) -> tuple[list[str], list[Happening]]:
         """Records a command, sends it, and gives its answer and what has happened by it. Raises GatewayFault where the record
         can't be written, ServerGone where the server ends again and again."""
-        await self._append(entry_of(command, user, reason))
+        with self._writing():
+            await self._log.append(entry_of(command, user, reason))
         return await self.take(command, user, reason)
 
-    async def _append(self, entry: Entry) -> None:
-        """Appends to the record. A disk that hangs is a trouble: displays are served meanwhile, and nothing that they show is live."""
+    @contextlib.contextmanager
+    def _writing(self) -> Iterator[None]:
+        """While the record is written. A disk that hangs is a trouble: displays are served meanwhile, and nothing that they show is live."""
         patience = self._config.patience_ms / 1000
         late = asyncio.get_running_loop().call_later(patience, self._late, patience)
         try:
-            await self._log.append(entry)
+            yield
         finally:
             late.cancel()
             self.troubles.clear(TroubleKind.SILENCE, "")
@@ -261,13 +263,15 @@ class Link:
 
     async def note(self, remark: str) -> None:
         """A remark in the record, which no server sees."""
-        await self._log.append(Entry(f"# {remark}"))
+        with self._writing():
+            await self._log.append(Entry(f"# {remark}"))
 
     async def renew(self, server: Server, book: Book, entries: list[Entry], plant: Plant) -> str:
         """A new record with these commands, which begins with this plant, takes the old one's place, and the server and the book that
         have them already those of the old one. Gives the name under which the old record is kept. Raises GatewayFault.
         """
-        name = await self._log.succeed(entries, plant)
+        with self._writing():
+            name = await self._log.succeed(entries, plant)
         await self.replace(server, book, plant)
         return name
 

@@ -16,6 +16,9 @@ LONGEST_SHELVING = 2_592_000_000  # ms: no alarm may be shelved for longer
 LONGEST_MARK = 64  # characters
 MOST_MARKS = 2000  # that are kept; the oldest goes first
 
+Giving = Coroutine[Any, Any, Json]
+Given = tuple[dict[str, Json], asyncio.Task[Json]]  # an order's body, and what comes of it
+
 
 def read_order(given: dict[str, Json]) -> tuple[Order, str | None]:
     """The order and the reason of a body; console 0 where none is given. Raises Refused (400)."""
@@ -80,20 +83,30 @@ class Marks:
     """What came of the orders that were given lately, by session and mark.
 
     Where a connection ends before there is an answer, a browser may send its request again by itself, on another one: such an order
-    isn't given a second time, and has the answer of the first."""
+    isn't given a second time, and has the answer of the first. One that was refused wasn't given: its mark is forgotten.
+    """
 
     def __init__(self) -> None:
-        self._given: OrderedDict[tuple[str, str], asyncio.Task[Json]] = OrderedDict()
+        self._given: OrderedDict[tuple[str, str], Given] = OrderedDict()
 
     async def once(
-        self, token: str, mark: str | None, give: Callable[[], Coroutine[Any, Any, Json]]
+        self, key: tuple[str, str], given: dict[str, Json], give: Callable[[], Giving]
     ) -> Json:
-        """What comes of an order, which is given unless there was one of this mark. Raises what `give` does."""
-        if mark is None:
-            return await give()
-        task = self._given.get((token, mark))
-        if task is None:
-            task = self._given[token, mark] = asyncio.create_task(give())
+        """What comes of an order with this session and mark, which is given unless it was before. Raises what `give` does, and
+        Refused (400) where the mark is another order's."""
+        known = self._given.get(key)
+        if known is None:
+            known = self._given[key] = given, asyncio.create_task(self._first(key, give))
             if len(self._given) > MOST_MARKS:
                 self._given.popitem(last=False)
+        first, task = known
+        if first != given:
+            raise Refused(400, "the mark is that of another order")
         return await asyncio.shield(task)
+
+    async def _first(self, key: tuple[str, str], give: Callable[[], Giving]) -> Json:
+        try:
+            return await give()
+        except Refused:
+            self._given.pop(key, None)
+            raise

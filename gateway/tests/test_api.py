@@ -18,6 +18,7 @@ from alarmd_gateway import connections, sessions
 from alarmd_gateway.core import Question
 from alarmd_gateway.guard import HEADERS
 from alarmd_gateway.model import Code, Order, Verb
+from alarmd_gateway.sessions import Pace
 
 SHELVE = {"milliseconds": 60_000, "reason": "the sensor is cleaned"}
 
@@ -265,6 +266,28 @@ def test_an_order_that_comes_again_is_given_once(guarded_plant: Served) -> None:
     assert len(guarded_plant.core.orders) == 4
 
 
+def test_a_mark_is_of_one_order(guarded_plant: Served) -> None:
+    """As by a script that has one mark for all: it isn't told that an order was taken which wasn't given."""
+    anna = as_user(guarded_plant, "anna")
+    assert anna.order("shelve", "A0", mark="one", **SHELVE).json["taken"]
+    wrong = (400, "the mark is that of another order")
+    assert error(anna.order("ack", "A1", mark="one")) == wrong
+    assert error(anna.order("unshelve", "A0", mark="one")) == wrong
+    assert len(guarded_plant.core.orders) == 1
+
+
+def test_an_order_that_was_refused_may_come_again_with_its_mark(
+    guarded_plant: Served, monkeypatch: pytest.MonkeyPatch
+) -> None:
+    """It wasn't given, and whoever was told to wait has to be heard then."""
+    anna, takes = as_user(guarded_plant, "anna"), iter((False, True))
+    monkeypatch.setattr(Pace, "take", lambda pace, token: next(takes))
+    assert error(anna.order("shelve", "A0", mark="one", **SHELVE))[0] == 429
+    for _ in range(2):
+        assert anna.order("shelve", "A0", mark="one", **SHELVE).json["taken"]
+    assert len(guarded_plant.core.orders) == 1
+
+
 def test_a_user_orders_from_the_users_own_consoles_alone(guarded_plant: Served) -> None:
     bert = as_user(guarded_plant, "bert")
     assert error(bert.order("ack", "A1")) == (403, "none of your consoles is for this alarm's area")
@@ -377,7 +400,17 @@ def test_a_reason_in_a_table_is_no_formula_whatever_separates_its_cells(open_pla
     """A spreadsheet goes by semicolons where numbers have a comma."""
     client = Client(open_plant.url)
     client.enter()
-    for reason in ("=1+1", "a;=1+1;b", "a, b;@SUM(1)", "a;-1", "a;＝1", "a; b;c"):
+    reasons = (
+        "=1+1",
+        "a;=1+1;b",
+        'a;"=1+1;b',
+        'a;""=1+1',
+        "a, b;@SUM(1)",
+        "a;-1",
+        "a;＝1",
+        "a; b;c",
+    )
+    for reason in reasons:
         assert client.order("shelve", "A0", milliseconds=1000, reason=reason).json["taken"]
     told = text(client, "journal.csv")
     for delimiter in ",;":

@@ -474,6 +474,34 @@ def test_a_disk_that_hangs_is_told(config: Config, monkeypatch: pytest.MonkeyPat
         door.set()
 
 
+def test_a_disk_that_hangs_under_a_remark_is_told(
+    alarmd: Path, tmp_path: Path, monkeypatch: pytest.MonkeyPatch
+) -> None:
+    """Nothing is scanned meanwhile either. So it is where a new record is written."""
+    sync, door = os.fsync, threading.Event()
+
+    def fsync(descriptor: int) -> None:
+        door.wait(400)
+        sync(descriptor)
+
+    async def work() -> None:
+        config = config_for(alarmd, plant_copy("tank", tmp_path), period_ms=3_600_000)
+        async with served(config) as core:
+            monkeypatch.setattr(os, "fsync", fsync)
+            object.__setattr__(config, "patience_ms", 300)
+            noting = asyncio.create_task(core._link.note("a remark"))
+            await until(lambda: TroubleKind.SILENCE in kinds(core))
+            door.set()
+            await noting
+            assert TroubleKind.SILENCE not in kinds(core)
+            monkeypatch.undo()
+
+    try:
+        run(work())
+    finally:
+        door.set()
+
+
 def test_a_server_is_not_started_again_with_other_files(config: Config) -> None:
     async def work() -> None:
         core = await Core.start(config)

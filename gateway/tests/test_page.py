@@ -175,6 +175,28 @@ def test_of_an_order_without_an_answer_it_isnt_said_that_it_wasnt_taken(
     page.faults()
 
 
+def test_what_a_proxy_answers_tells_nothing_of_an_order(site: Served, page: Page) -> None:
+    """As where it has waited long enough, or the gateway ended behind an order."""
+    page.run(
+        "const ask = window.fetch;"
+        "window.fetch = async (path, options) => { const answer = await ask(path, options);"
+        "  return path === '/api/order' ? new Response('<html>', { status: 504 }) : answer }"
+    )
+    page.choose("A1")
+    page.keys("a")
+    told = f"A1: the answer couldn't be read (504), so {UNKNOWN}"
+    until(lambda: page.text("#message") == told)
+    assert [order.target for order, _, _ in site.core.orders] == ["A1"]
+
+
+def test_a_page_that_comes_by_plain_http_orders(site: Served, page: Page) -> None:
+    """As behind a proxy in the plant's own network: there a browser has less of `crypto`."""
+    page.run("delete Crypto.prototype.randomUUID")
+    page.choose("A1")
+    page.keys("a")
+    until(lambda: page.text("#message") == "A1: acknowledged")
+
+
 AWAY = "return document.querySelectorAll('#alarms .row.away').length"
 
 
@@ -663,6 +685,20 @@ def test_an_alarm_that_comes_again_is_to_be_read_anew(site: Served, page: Page) 
     until(lambda: ("A4", "ACKED") in page.rows())
 
 
+def test_what_came_while_the_tab_wasnt_shown_is_to_be_read_first(site: Served, page: Page) -> None:
+    show = "Object.defineProperty(document, 'hidden', { value: arguments[0], configurable: true });"
+    show += "document.dispatchEvent(new Event('visibilitychange'));"
+    page.run(show, True)
+    site.do(lambda: site.core.scan(62_000, {"A3": Code.UNACK}))
+    until(lambda: ("A3", "UNACK") in page.rows())
+    time.sleep(0.8)
+    page.run(f"{show} {PRESS}", False)
+    time.sleep(0.8)
+    assert site.core.orders == []
+    page.keys("v")
+    until(lambda: page.text("#message") == "4 acknowledged")
+
+
 def test_a_stuck_key_acknowledges_once(site: Served, page: Page) -> None:
     time.sleep(0.5)  # until the rows have been there for long enough
     key: dict[str, Any] = {"type": "keyDown", "key": "v", "code": "KeyV", "text": "v"}
@@ -677,6 +713,22 @@ def test_a_stuck_key_acknowledges_once(site: Served, page: Page) -> None:
     assert ("A3", "UNACK") in page.rows() and len(site.core.orders) == 3
     page.keys("v")  # pressed anew
     until(lambda: ("A3", "ACKED") in page.rows())
+
+
+def test_a_stuck_enter_presses_a_button_once(site: Served, page: Page) -> None:
+    time.sleep(0.5)  # until the rows have been there for long enough
+    page.run(
+        "const button = document.querySelector('#alarms [data-order=ack-seen]');"
+        "window.presses = 0; button.addEventListener('click', () => { window.presses += 1 }); button.focus()"
+    )
+    key: dict[str, Any] = {"type": "keyDown", "key": "Enter", "code": "Enter", "text": "\r"}
+    key["windowsVirtualKeyCode"] = 13
+    page.driver.execute_cdp_cmd("Input.dispatchKeyEvent", key)
+    for _ in range(10):
+        page.driver.execute_cdp_cmd("Input.dispatchKeyEvent", {**key, "autoRepeat": True})
+    page.driver.execute_cdp_cmd("Input.dispatchKeyEvent", {**key, "type": "keyUp"})
+    until(lambda: page.text("#message") == "3 acknowledged")
+    assert page.run("return window.presses") == 1 and len(site.core.orders) == 3
 
 
 def test_a_lost_connection_is_told_and_comes_back(page: Page) -> None:
@@ -769,6 +821,33 @@ def test_a_page_names_who_its_orders_are_of(page: Page) -> None:
         page.keys("a")
         until(lambda: page.rows() == [("A0", "ACKED")])
         assert site.core.orders == [(Order(Verb.ACK, 2, "A0"), "bert", None)]
+    page.faults()
+
+
+def test_what_was_asked_for_somebody_before_isnt_shown(page: Page) -> None:
+    """Anna's table comes once she is logged out and Bert is there: her snapshot would be shown for his."""
+    with served(users=two_users()) as site:
+        site.do(lambda: site.core.scan(1000, {"A0": Code.UNACK, "A1": Code.UNACK}))
+        page.open(site.url)
+        until(lambda: page.run("return document.activeElement.id === 'login-name'"))
+        page.run(
+            "const ask = window.fetch, door = new Promise((resolve) => { window.release = resolve });"
+            "window.fetch = async (path, options) => { const answer = await ask(path, options);"
+            "  if (path === '/api/plant' && !window.held) { window.held = true; await door }"
+            "  return answer }"
+        )
+        page.login("anna")
+        until(lambda: page.run("return window.held"))
+        page.click("#log-out")
+        until(lambda: page.text("#login-message") == "Logged out.")
+        page.run("document.querySelector('#login-name').value = ''")
+        page.login("bert")
+        page.until_live()
+        until(lambda: page.rows() == [("A0", "UNACK")])
+        page.run("window.release()")
+        site.do(lambda: site.core.scan(2000, {"A0": Code.RTNUN}))
+        until(lambda: ("A0", "RTNUN") in page.rows())
+        assert page.rows() == [("A0", "RTNUN")]
     page.faults()
 
 

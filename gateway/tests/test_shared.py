@@ -4,6 +4,8 @@ from __future__ import annotations
 
 import asyncio
 import contextlib
+import os
+import signal
 from collections.abc import Awaitable, Callable, Sequence
 from pathlib import Path
 from typing import Any
@@ -640,6 +642,27 @@ def test_who_waits_for_an_order_is_told_where_the_gateway_ends(
         await until(lambda: any(key.startswith(requests) for key in pair.etcd.keys), "a request")
         await pair.served[0 if follower is a else 1].close()
         with pytest.raises(ServerGone, match="it isn't known"):
+            await asked
+
+    trial(Pair(alarmd, tmp_path, tank), work)
+
+
+def test_of_an_order_in_the_log_it_isnt_said_that_it_wasnt_taken(
+    alarmd: Path, tmp_path: Path
+) -> None:
+    """The leader's server ends for good behind it: the next leader takes it."""
+
+    async def work(pair: Pair) -> None:
+        a = await pair.join("a", restarts=0, period_ms=3_600_000)
+        await until(lambda: a.leads, "a leads")
+        await give(a, running=True, level=250, flow=100)
+        await until(lambda: a.state.scanned, "a scan")
+        entries, server = a._log.known.entries, a._link._server.pid
+        os.kill(server, signal.SIGSTOP)
+        asked = asyncio.create_task(a.order(Order(Verb.ACK, 1, "LAL-101")))
+        await until(lambda: a._log.known.entries > entries, "the order is in the log")
+        os.kill(server, signal.SIGKILL)
+        with pytest.raises(ServerGone, match="SIGKILL, so it isn't known whether the order"):
             await asked
 
     trial(Pair(alarmd, tmp_path, tank), work)

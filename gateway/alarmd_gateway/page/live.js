@@ -24,6 +24,7 @@ export class Live {
     this.stopped = true;
     clearInterval(this.watch);
     this.socket?.close();
+    this.socket = null; // a table that is still on its way isn't taken
   }
 
   connect() {

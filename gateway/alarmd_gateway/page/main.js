@@ -175,6 +175,7 @@ function makeScreens() {
   $("help-button").onclick = () => showKeys(KEYS);
   store.listen(draw);
   document.addEventListener("away", () => store.changed());
+  document.addEventListener("visibilitychange", () => store.changed());
 }
 
 function showScreen(name) {
@@ -220,6 +221,7 @@ function drawCounts() {
 }
 
 document.addEventListener("keydown", (event) => {
+  if (event.repeat && event.key === "Enter" && event.target.matches?.("button")) event.preventDefault(); // else it is pressed each time
   if (event.ctrlKey || event.altKey || event.metaKey || anyOpen() || $("screens").hidden) return;
   const field = event.target.matches?.("input, select, textarea");
   if (event.key === "Escape") {

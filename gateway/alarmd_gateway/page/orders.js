@@ -11,11 +11,14 @@ const SETTLES = 1000; // ms after an answer, in which its change comes
 const UNKNOWN = "it isn't known whether the order was taken: the journal tells"; // as the gateway has it
 const sure = (why) => !why.includes(UNKNOWN);
 
-// Why an order wasn't taken. Where no answer can be read, or the gateway has a fault, it may be taken all the same.
+// Why an order wasn't taken. Where the gateway itself hasn't told, but a proxy perhaps, or has a fault, it may be taken all the same.
 function reason(fault) {
-  const told = fault.status >= 400 && fault.status !== 500;
+  const told = fault.data?.error && fault.status !== 500;
   return told ? fault.message : `${fault.message}, so ${UNKNOWN}`;
 }
+
+// A text that no other order has. Where the page comes by plain HTTP, as behind a proxy, a browser has no randomUUID.
+const newMark = () => crypto.getRandomValues(new Uint32Array(4)).join("-");
 
 export const isAway = (target) => away.has(target);
 
@@ -61,7 +64,7 @@ async function give(store, verb, target, more) {
   let why;
   try {
     // by its mark the gateway knows an order that the browser sends again by itself, as where its connection has ended
-    const reply = await post("/api/order", { order: verb, target, mark: crypto.randomUUID(), ...more });
+    const reply = await post("/api/order", { order: verb, target, mark: newMark(), ...more });
     why = reply.taken ? null : reply.why;
   } catch (fault) {
     why = reason(fault);

@@ -105,8 +105,9 @@ export class VirtualList {
     return row;
   }
 
-  // Whether a row is wholly seen.
+  // Whether a row is wholly seen; in a tab that isn't shown none is.
   whole(row) {
+    if (document.hidden) return false;
     const top = this.body.scrollTop;
     return row.place * this.height >= top - 1 && (row.place + 1) * this.height <= top + this.body.clientHeight + 1;
   }
