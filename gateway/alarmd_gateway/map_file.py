@@ -23,6 +23,7 @@ from .mapping import (
 from .model import GatewayFault, Kind, Plant, Variable
 
 LARGEST_SCALE = 10**12
+FARTHEST = 100  # places between a number's point and its first digit: all digits of 1e999999999 would take minutes and gigabytes
 
 
 class Reader:
@@ -175,7 +176,8 @@ def fraction(table: Table, key: str, default: Fraction) -> Fraction:
     if not table.has(key):
         return default
     number = table.anything(key)
-    if isinstance(number, Decimal) and number.is_finite() or type(number) is int:
+    near = isinstance(number, Decimal) and number.is_finite() and abs(number.adjusted()) <= FARTHEST
+    if near or type(number) is int:
         found = Fraction(number)
         if abs(found) <= LARGEST_SCALE and found.denominator <= LARGEST_SCALE:
             return found
