@@ -136,6 +136,12 @@ def head_sums(path: Path) -> dict[str, str]:
     return kept if isinstance(kept, dict) else {}
 
 
+def unbegun(line: bytes) -> bool:
+    """Whether the first line of a file is that of a record which is still to be begun: there is none, or it wasn't written wholly."""
+    known = _HEAD.encode()
+    return not line.endswith(b"\n") and (known.startswith(line) or line.startswith(known))
+
+
 def judge_head(line: str, plant: Plant, path: Path) -> None:
     """Raises GatewayFault (status 2) where the first line of a record isn't that of this plant, with what differs."""
     if line.startswith(_OLD_HEAD):
@@ -185,16 +191,19 @@ class FileRecord:
             raise self._fault(fault, 2 if fault.errno in _NO_HELP else 1) from None
 
     def _begin(self) -> None:
-        cut(self.path, self._file)
+        """Begins the record, or judges the one that is there; what is none stays as it is."""
         self._file.seek(0)
-        first = self._file.readline().decode("utf-8", "replace").rstrip("\n")
-        if first:
-            judge_head(first, self._plant, self.path)
-            if _fields(first.removeprefix(_HEAD)).get("log") != self._log:
-                raise GatewayFault(f"{self.path} is no copy of this log: keep it elsewhere", 2)
-        else:
+        line = self._file.readline()
+        if unbegun(line):
+            self._file.truncate(0)
             write(self._file, f"{head(self._sums, log=self._log)}\n".encode())
             sync_folder(self.path)
+            return
+        first = line.decode("utf-8", "replace").rstrip("\n")
+        judge_head(first, self._plant, self.path)
+        if _fields(first.removeprefix(_HEAD)).get("log") != self._log:
+            raise GatewayFault(f"{self.path} is no copy of this log: keep it elsewhere", 2)
+        cut(self.path, self._file)
 
     def _fault(self, fault: OSError, status: int = 1) -> GatewayFault:
         return GatewayFault(f"the record {self.path}: {fault.strerror}", status)

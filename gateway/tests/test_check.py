@@ -100,8 +100,11 @@ def test_a_record_has_to_be_of_this_plant(config: Path, plant: Path) -> None:
     assert (config.parent / "record").read_bytes() == before
 
 
-def test_an_empty_record_is_begun(config: Path) -> None:
-    (config.parent / "record").touch()
+@pytest.mark.parametrize("torn", ["", "# gat", '# gateway record {"files": {"pla'])
+def test_a_record_whose_first_line_is_not_whole_is_begun(config: Path, torn: str) -> None:
+    (config.parent / "record").write_text(torn)
+    assert check(config)[0] == 0
+    assert run(config, "running=TRUE level=250\n", "--check")[0] == 0
     assert check(config)[0] == 0
 
 
