@@ -79,7 +79,9 @@ def judge_record(config: Config, plant: Plant) -> None:
     try:
         with open(path, "rb") as file:
             line = file.readline()
-    except FileNotFoundError:
+    except FileNotFoundError as fault:
+        if not path.parent.is_dir():
+            raise GatewayFault(f"the record {path}: {fault.strerror}", WORDS_STATUS) from None
         line = b""
     except OSError as fault:
         raise GatewayFault(f"the record {path}: {fault.strerror}", WORDS_STATUS) from None

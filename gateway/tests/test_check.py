@@ -108,6 +108,17 @@ def test_a_record_whose_first_line_is_not_whole_is_begun(config: Path, torn: str
     assert check(config)[0] == 0
 
 
+@pytest.mark.parametrize(
+    "etcd", ["", "[etcd]\nendpoints = ['http://127.0.0.1:1']\nlog = 'l'\ngateway = 'g'\n"]
+)
+def test_a_record_wants_its_folder(config: Path, etcd: str) -> None:
+    config.write_text(config.read_text().replace('"record"', '"nowhere/record"') + etcd)
+    status, _, err = check(config)
+    assert status == 2 and "nowhere/record" in err and "No such file" in err
+    if not etcd:
+        assert run(config, "")[0] == 2
+
+
 def test_serve_checks_first_where_it_is_told(config: Path, plant: Path) -> None:
     points = plant.parent / "points.st"
     points.write_text(points.read_text().replace("VAR_GLOBAL", "VAR_GLOBAL\n  idle : BOOL;", 1))
