@@ -232,12 +232,12 @@ def main(words: list[str]) -> int:
     if not 1 <= given.speed <= 1000:
         parser.error("--speed is 1 to 1000")
     with tempfile.TemporaryDirectory(prefix="simulate-") as folder:
-        tables: dict[str, dict[str, str]] = {"simulate": {"model": str(given.model.resolve())}}
+        tables: dict[str, dict[str, str]] = {"simulate": {"model": str(given.model.absolute())}}
         if given.page is not None:
             tables["web"] = {"listen": given.page}
         config = Config(
             alarmd=find_alarmd(given.alarmd),
-            plant=given.plant.resolve(),
+            plant=given.plant.absolute(),  # of a link the folder counts in which it lies
             record=given.record.resolve() if given.record else Path(folder) / "record",
             folder=Path.cwd(),
             period_ms=max(1, given.period_ms // given.speed),

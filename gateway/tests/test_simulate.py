@@ -16,10 +16,11 @@ from unittest.mock import patch
 
 import pytest
 
+from alarmd_gateway.config import Config
 from alarmd_gateway.core import Core
 from alarmd_gateway.model import BadSample, Code, GatewayFault, Sample
 from alarmd_gateway.samples import SampleQueue
-from alarmd_gateway.simulate import Simulation, attach
+from alarmd_gateway.simulate import Simulation, attach, main, model_path
 from core_help import Served, by_core, by_record, config_of
 from field_help import until
 
@@ -252,6 +253,28 @@ def test_the_command_takes_disturbances_and_ends_in_order(alarmd: Path, examples
         process.communicate()
         os.close(ours)
         os.close(theirs)
+
+
+def test_of_a_link_the_folder_counts_in_which_it_lies(
+    alarmd: Path, examples: Path, tmp_path: Path, monkeypatch: pytest.MonkeyPatch
+) -> None:
+    for name in ("tank", "tank/model"):
+        folder = tmp_path / name
+        shutil.copytree(examples / name, folder, dirs_exist_ok=True)
+        (folder / "plant.toml").unlink()
+        (folder / "plant.toml").symlink_to(examples / name / "plant.toml")
+    served: list[Config] = []
+
+    async def serve(config: Config) -> None:
+        served.append(config)
+
+    monkeypatch.setattr("alarmd_gateway.serve.serve", serve)
+    monkeypatch.chdir(tmp_path)
+    words = ["tank/plant.toml", "tank/model/plant.toml", "--alarmd", str(alarmd)]
+    assert main(["simulate", *words]) == 0
+    (config,) = served
+    assert config.plant == tmp_path / "tank" / "plant.toml"
+    assert model_path(config) == tmp_path / "tank" / "model" / "plant.toml"
 
 
 @pytest.mark.parametrize("more", [["--speed", "0"], ["--period-ms", "0"], ["--what"], []])
