@@ -21,7 +21,7 @@ from .config import WORDS_STATUS, Config
 from .core import Core
 from .fields.source import Backoff
 from .mapping import Retry
-from .model import GatewayFault, Plant, Sample, Value, Variable
+from .model import GatewayFault, Kind, Plant, Sample, Value, Variable
 from .programs import find_alarmd
 from .server import Server
 from .state import State
@@ -197,6 +197,12 @@ def read_model(path: Path, plant: Plant) -> Plant:
         words = f"no output of the model {path} bears the name of an input of the plant"
         raise GatewayFault(words, WORDS_STATUS)
     shared(model.inputs, plant.outputs)
+    elapsed = model.inputs.get(ELAPSED)
+    if elapsed is not None and elapsed.kind is Kind.BOOL:
+        words = (
+            f"{elapsed.name} of the model {path} is a BOOL: it has to be a DINT, for milliseconds"
+        )
+        raise GatewayFault(words, WORDS_STATUS)
     return model
 
 

@@ -16,11 +16,12 @@ from unittest.mock import patch
 
 import pytest
 
+from alarmd_gateway import plant as plants
 from alarmd_gateway.config import Config
 from alarmd_gateway.core import Core
 from alarmd_gateway.model import BadSample, Code, GatewayFault, Sample
 from alarmd_gateway.samples import SampleQueue
-from alarmd_gateway.simulate import Simulation, attach, main, model_path
+from alarmd_gateway.simulate import Simulation, attach, main, model_path, read_model
 from core_help import Served, by_core, by_record, config_of
 from field_help import until
 
@@ -223,6 +224,21 @@ def test_a_model_that_does_not_fit(
         assert found.value.status == status and words in found.value.words
 
     asyncio.run(body())
+
+
+@pytest.mark.parametrize(("kind", "fits"), [("DINT", True), ("TIME", True), ("BOOL", False)])
+def test_the_time_since_the_scan_before_is_no_truth(
+    examples: Path, tmp_path: Path, kind: str, fits: bool
+) -> None:
+    place = "X9.0" if kind == "BOOL" else "D0"
+    model = changed(examples, tmp_path, "%ID0   : DINT", f"%I{place}   : {kind}")
+    plant = plants.read(examples / "tank" / "plant.toml")
+    if fits:
+        assert read_model(model, plant).inputs["elapsed_ms"].kind.value == kind
+        return
+    with pytest.raises(GatewayFault) as found:
+        read_model(model, plant)
+    assert found.value.status == 2 and "elapsed_ms" in found.value.words
 
 
 @pytest.mark.server
