@@ -47,7 +47,7 @@ class Reader:
 
     def _name(self, table: Table) -> str:
         name = table.text("name")
-        if not name or " " in name or name in self._names:
+        if name.split() != [name] or not name.isprintable() or name in self._names:
             raise table.wrong("name", "a word that no other source is called")
         self._names.add(name)
         return name
@@ -154,13 +154,15 @@ class Reader:
         return Point(variable, area, address, form, low, bit, scale)
 
     def _limits(self, table: Table) -> tuple[tuple[str, float], ...]:
-        limits = []
+        limits: dict[str, float] = {}
         for key in table.keys():
             found = self._plant.inputs.get(key.lower())
             if found is None:
                 raise table.wrong(key, "left out: no input of the plant has this name")
-            limits.append((found.name, table.number(key, None, 1, 10**9) / 1000))
-        return tuple(limits)
+            if found.name in limits:
+                raise table.wrong(key, "left out: this input stands there already")
+            limits[found.name] = table.number(key, None, 1, 10**9) / 1000
+        return tuple(limits.items())
 
 
 def word(table: Table, key: str, words: list[str], default: str | None = None) -> str:
