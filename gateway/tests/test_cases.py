@@ -152,6 +152,9 @@ def test_a_changed_logic_differs(alarmd: Path, examples: Path, tmp_path: Path) -
     [
         ("", ":0: there is no case"),
         ("# nothing\n", "there is no case"),
+        ("case a\n", ":1: there is nothing in this case"),
+        ("\ncase a\n# scan 0\n\ncase b\nscan 0\n", ":2: there is nothing in this case"),
+        ("scan 0\ncase b\n", ":2: there is nothing in this case"),
         ("case a\nexepct LAL-101 UNACK", ":2: no line begins with 'exepct'"),
         ("scan level=250", ":1: a scan has a moment"),
         ("scan +", ":1: a scan has a moment"),
