@@ -65,10 +65,6 @@ class Model:
         self._moment = moment
         return self._state.outputs
 
-    def pause(self) -> None:
-        """The time until the next scan doesn't count."""
-        self._moment = None
-
     @property
     def elapsed(self) -> str | None:
         """The name of the input that takes the time since the scan before."""
@@ -125,9 +121,11 @@ class Simulation:
         await self._model.end()
 
     async def begin(self) -> None:
-        """The model's first scan, since the plant's first scan waits for samples. Raises GatewayFault."""
+        """A scan of the model, since the plant's first scan waits for samples. The model begins anew with that one: the time until then,
+        from the plant's epoch or the record's last scan, is none that its timers may see. Raises GatewayFault.
+        """
         await self._step(self._core.state.moment)
-        self._model.pause()
+        await self._model.end()
 
     async def step(self, moment: int) -> None:
         """The model's scan at a moment, whose outputs become samples. A model whose server has ended is a trouble, until it runs

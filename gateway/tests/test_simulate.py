@@ -242,6 +242,35 @@ def test_the_time_since_the_scan_before_is_no_truth(
 
 
 @pytest.mark.server
+def test_no_timer_of_a_model_sees_the_time_before_the_first_scan(
+    alarmd: Path, examples: Path, tmp_path: Path
+) -> None:
+    """This one heats after ten minutes."""
+    model = tmp_path / "model" / "plant.toml"
+    shutil.copytree(examples / "tank" / "model", model.parent)
+    (model.parent / "model.st").write_text(
+        """
+        VAR_GLOBAL temperature AT %QD0 : DINT := 200; END_VAR
+        PROGRAM m
+          VAR late : TON; END_VAR
+          late(IN := TRUE, PT := T#10m);
+          IF late.Q THEN temperature := 990; END_IF;
+        END_PROGRAM
+        """
+    )
+
+    async def body() -> None:
+        async with Simulated(alarmd, examples, tmp_path, model) as it:
+            await until(lambda: it.code("TAHH-102") is Code.UNACK)
+            came = it.core.state.by_tag["TAHH-102"].since
+        lines = it.config.record.read_text().splitlines()
+        begun = next(int(line.split()[1]) for line in lines if line.startswith("scan "))
+        assert came == begun + 600_000
+
+    asyncio.run(body())
+
+
+@pytest.mark.server
 def test_the_command_takes_disturbances_and_ends_in_order(alarmd: Path, examples: Path) -> None:
     ours, theirs = pty.openpty()
     tank = examples / "tank"
