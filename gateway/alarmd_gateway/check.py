@@ -17,7 +17,7 @@ from .kept import beginning
 from .log_view import newest_copy
 from .map_file import of_config
 from .model import GatewayFault, Plant
-from .record import peek, unbegun
+from .record import LONGEST_HEAD, peek, unbegun
 from .shared_config import shared_config
 from .simulate import model_path, read_model
 from .web_config import web_config
@@ -78,7 +78,7 @@ def judge_record(config: Config, plant: Plant) -> None:
         path = newest_copy(path)
     try:
         with open(path, "rb") as file:
-            line = file.readline()
+            line = file.readline(LONGEST_HEAD)
     except FileNotFoundError as fault:
         if not path.parent.is_dir():
             raise GatewayFault(f"the record {path}: {fault.strerror}", WORDS_STATUS) from None

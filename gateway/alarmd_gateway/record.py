@@ -26,6 +26,7 @@ from .texts import walk
 
 _HEAD: Final = "# gateway record "
 _OLD_HEAD: Final = "# plant "
+LONGEST_HEAD: Final = 1 << 20  # bytes
 _NO_HELP: Final = (errno.ENOENT, errno.ENOTDIR, errno.EISDIR, errno.EACCES, errno.EROFS)
 """Faults of opening a record that another start doesn't help."""
 
@@ -127,7 +128,7 @@ def head_sums(path: Path) -> dict[str, str]:
     """The sums that the first line of a record has; none where there is no record, or it can't be read."""
     try:
         with open(path, "rb") as file:
-            line = file.readline(1 << 20).decode("utf-8", "replace").rstrip("\n")
+            line = file.readline(LONGEST_HEAD).decode("utf-8", "replace").rstrip("\n")
     except OSError:
         return {}
     kept: object = (
@@ -193,7 +194,7 @@ class FileRecord:
     def _begin(self) -> None:
         """Begins the record, or judges the one that is there; what is none stays as it is."""
         self._file.seek(0)
-        line = self._file.readline()
+        line = self._file.readline(LONGEST_HEAD)
         if unbegun(line):
             self._file.truncate(0)
             write(self._file, f"{head(self._sums, log=self._log)}\n".encode())
@@ -287,7 +288,9 @@ def peek(path: Path, plant: Plant) -> Iterator[Entry]:
     """The commands of a record that another gateway may have, without a lock. Raises GatewayFault (status 2)."""
     try:
         with open(path, "rb", buffering=1 << 20) as file:
-            judge_head(file.readline().decode("utf-8", "replace").rstrip("\n"), plant, path)
+            judge_head(
+                file.readline(LONGEST_HEAD).decode("utf-8", "replace").rstrip("\n"), plant, path
+            )
             yield from entries(file)
     except OSError as fault:
         raise GatewayFault(f"the record {path}: {fault.strerror}", 2) from None

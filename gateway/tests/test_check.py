@@ -100,6 +100,13 @@ def test_a_record_has_to_be_of_this_plant(config: Path, plant: Path) -> None:
     assert (config.parent / "record").read_bytes() == before
 
 
+def test_a_record_without_an_end_is_none(config: Path) -> None:
+    config.write_text(config.read_text().replace('"record"', '"/dev/full"'))  # bytes 0, for ever
+    words = ["sh", "-c", f"ulimit -v 2000000; exec '{ROOT}/gateway/gateway' check '{config}'"]
+    done = subprocess.run(words, capture_output=True, text=True, timeout=LIMIT, check=False)
+    assert done.returncode == 2 and "is no record of a gateway" in done.stderr
+
+
 @pytest.mark.parametrize("torn", ["", "# gat", '# gateway record {"files": {"pla'])
 def test_a_record_whose_first_line_is_not_whole_is_begun(config: Path, torn: str) -> None:
     (config.parent / "record").write_text(torn)
