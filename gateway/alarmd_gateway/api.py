@@ -17,7 +17,7 @@ from .journal import Row
 from .model import Json
 from .ordering import Marks, read_mark, read_order, with_console
 from .report_table import as_json, table
-from .reports import Report, report
+from .reports import Report, begun, report
 from .sessions import Pace, Session, Tries
 from .view import View
 
@@ -219,7 +219,8 @@ class Api:
                 return kept[1]
             journal, end = self.core.journal, self.core.state.moment + 1
             rows = journal.rows(1, len(journal))
-            first = journal.row(1).moment if len(journal) else end
+            found = begun(journal.rows())
+            first = end if found is None else found
             begin = max(first, end - hours * HOUR) if hours else first
             consoles = None if self.view(session).everything else session.consoles
             plant, before = self.core.plant, journal.plants[:-1]

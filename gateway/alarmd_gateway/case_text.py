@@ -86,8 +86,12 @@ class Cases:
                 steps[-1] = replace(steps[-1], expected=expected)
             else:
                 steps.append(self._command(words, steps[-1].moment))
-        if not any(case.steps for case in cases):
+        if not cases:
             raise self.fault("there is no case in it")
+        for case in cases:
+            if not case.steps:
+                self._line = case.line
+                raise self.fault("there is nothing in this case")
         return cases
 
     def fault(self, words: str) -> GatewayFault:

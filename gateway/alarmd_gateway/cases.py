@@ -41,12 +41,21 @@ class Difference:
         )
 
 
-def run_case(alarmd: Path, plant: Plant, case: Case, seconds: float) -> list[list[str]]:
+def read_plant(alarmd: Path, path: Path, seconds: float) -> Plant:
+    """The plant of a plant file. Raises GatewayFault (status 3), in the words of alarmd where that refuses it."""
+    try:
+        return plants.read(path)
+    except GatewayFault:
+        run_case(alarmd, path, Case(0, ""), seconds)
+        raise
+
+
+def run_case(alarmd: Path, plant: Path, case: Case, seconds: float) -> list[list[str]]:
     """The answers of a fresh server to the case's commands. Raises GatewayFault where it ends before the last, or isn't done in
     so many seconds."""
     commands = [step.command for step in case.steps if step.command]
     text = "".join(f"{command}\n{END_MARK}\n" for command in commands)
-    words = [str(alarmd), "run", str(plant.path)]
+    words = [str(alarmd), "run", str(plant)]
     try:
         done = subprocess.run(words, input=text.encode(), capture_output=True, timeout=seconds)
     except OSError as fault:
@@ -151,7 +160,7 @@ def test_file(alarmd: Path, plant: Plant, path: Path, seconds: float) -> tuple[i
     cases = Cases(str(path), plant).read(text)
     differ = 0
     for case in cases:
-        found = list(judge(plant, case, run_case(alarmd, plant, case, seconds)))
+        found = list(judge(plant, case, run_case(alarmd, plant.path, case, seconds)))
         differ += bool(found)
         for difference in found:
             print(difference.text(str(path), case))
@@ -169,7 +178,7 @@ def main(words: list[str]) -> int:
     parser.add_argument("--seconds", type=float, default=60, help="how long a case may take (60)")
     given = parser.parse_args(words[1:])
     alarmd = find_alarmd(given.alarmd)
-    plant = plants.read(given.plant)
+    plant = read_plant(alarmd, given.plant, given.seconds)
     counts = [test_file(alarmd, plant, path, given.seconds) for path in given.cases]
     whole, differ = (sum(column) for column in zip(*counts))
     told = f"{differ} differ{'s' if differ == 1 else ''}" if differ else "all as expected"

@@ -6,7 +6,6 @@ is taken, no port opened, no broker or device asked, and no command of the recor
 
 from __future__ import annotations
 
-import os
 import subprocess
 import sys
 from pathlib import Path
@@ -18,7 +17,7 @@ from .kept import beginning
 from .log_view import newest_copy
 from .map_file import of_config
 from .model import GatewayFault, Plant
-from .record import peek
+from .record import LONGEST_HEAD, peek, unbegun
 from .shared_config import shared_config
 from .simulate import model_path, read_model
 from .web_config import web_config
@@ -78,12 +77,15 @@ def judge_record(config: Config, plant: Plant) -> None:
         shared_config(config)
         path = newest_copy(path)
     try:
-        size = os.stat(path).st_size
-    except FileNotFoundError:
-        return  # it is begun by the first start
+        with open(path, "rb") as file:
+            line = file.readline(LONGEST_HEAD)
+    except FileNotFoundError as fault:
+        if not path.parent.is_dir():
+            raise GatewayFault(f"the record {path}: {fault.strerror}", WORDS_STATUS) from None
+        line = b""
     except OSError as fault:
         raise GatewayFault(f"the record {path}: {fault.strerror}", WORDS_STATUS) from None
-    if not size:
-        return
+    if unbegun(line):
+        return  # the next start begins it
     first = beginning(config.plant, path, config.record)
     next(peek(path, plant if first == config.plant else plants.read(first)), None)

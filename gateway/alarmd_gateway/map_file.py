@@ -23,6 +23,7 @@ from .mapping import (
 from .model import GatewayFault, Kind, Plant, Variable
 
 LARGEST_SCALE = 10**12
+FARTHEST = 100  # places between a number's point and its first digit: all digits of 1e999999999 would take minutes and gigabytes
 
 
 class Reader:
@@ -46,7 +47,7 @@ class Reader:
 
     def _name(self, table: Table) -> str:
         name = table.text("name")
-        if not name or " " in name or name in self._names:
+        if name.split() != [name] or not name.isprintable() or name in self._names:
             raise table.wrong("name", "a word that no other source is called")
         self._names.add(name)
         return name
@@ -153,13 +154,15 @@ class Reader:
         return Point(variable, area, address, form, low, bit, scale)
 
     def _limits(self, table: Table) -> tuple[tuple[str, float], ...]:
-        limits = []
+        limits: dict[str, float] = {}
         for key in table.keys():
             found = self._plant.inputs.get(key.lower())
             if found is None:
                 raise table.wrong(key, "left out: no input of the plant has this name")
-            limits.append((found.name, table.number(key, None, 1, 10**9) / 1000))
-        return tuple(limits)
+            if found.name in limits:
+                raise table.wrong(key, "left out: this input stands there already")
+            limits[found.name] = table.number(key, None, 1, 10**9) / 1000
+        return tuple(limits.items())
 
 
 def word(table: Table, key: str, words: list[str], default: str | None = None) -> str:
@@ -175,7 +178,8 @@ def fraction(table: Table, key: str, default: Fraction) -> Fraction:
     if not table.has(key):
         return default
     number = table.anything(key)
-    if isinstance(number, Decimal) and number.is_finite() or type(number) is int:
+    near = isinstance(number, Decimal) and number.is_finite() and abs(number.adjusted()) <= FARTHEST
+    if near or type(number) is int:
         found = Fraction(number)
         if abs(found) <= LARGEST_SCALE and found.denominator <= LARGEST_SCALE:
             return found

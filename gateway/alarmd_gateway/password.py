@@ -17,14 +17,20 @@ def main(words: list[str]) -> int:
         raise GatewayFault(
             f"{called('password')} has no words: it asks for the password", WORDS_STATUS
         )
-    if sys.stdin.isatty():
-        password = getpass.getpass("Password: ")
-        if getpass.getpass("Once more: ") != password:
-            raise GatewayFault("these are two passwords", WORDS_STATUS)
-    else:
-        password = sys.stdin.readline().removesuffix("\n")
     try:
-        print(f'password = "{hash_of(password).text()}"')
-    except ValueError as fault:
-        raise GatewayFault(str(fault), WORDS_STATUS) from fault
+        print(f'password = "{hash_of(asked()).text()}"')
+    except (EOFError, ValueError) as fault:
+        raise GatewayFault(str(fault) or "there was no password", WORDS_STATUS) from fault
     return 0
+
+
+def asked() -> str:
+    """What was typed, or stands in the first line. Raises GatewayFault, ValueError where it is no text, EOFError where nothing came."""
+    if sys.stdin is None:  # it was closed
+        raise EOFError
+    if not sys.stdin.isatty():
+        return sys.stdin.readline().removesuffix("\n")
+    password = getpass.getpass("Password: ")
+    if getpass.getpass("Once more: ") != password:
+        raise GatewayFault("these are two passwords", WORDS_STATUS)
+    return password

@@ -32,6 +32,17 @@ from .tokens import BadSource, Token, cut
 REFUSED_STATUS: Final = 3
 """The status of the process where the plant is refused."""
 
+_NO_PLANT: Final = (
+    BadSource,
+    csv.Error,
+    LookupError,
+    ValueError,
+    TypeError,
+    AttributeError,
+    RuntimeError,  # a generator's, whose text has ended too early
+)
+"""What a plant may raise that `alarmd` refuses."""
+
 _BOM: Final = b"\xef\xbb\xbf"
 _REGIONS: Final = {"I": Region.INPUT, "Q": Region.OUTPUT, "M": Region.MEMORY}
 
@@ -64,7 +75,7 @@ def _judged(path: Path) -> Iterator[None]:
         words = f"FILE {fault.filename or path}: {fault.strerror}"
     except tomllib.TOMLDecodeError as fault:
         words = f"{path} is no TOML 1.0: {fault}"
-    except (BadSource, KeyError, ValueError, TypeError, AttributeError) as fault:
+    except _NO_PLANT as fault:
         words = f"the gateway can't read the plant {path}: {fault}"
     else:
         return

@@ -26,6 +26,7 @@ from .texts import walk
 
 _HEAD: Final = "# gateway record "
 _OLD_HEAD: Final = "# plant "
+LONGEST_HEAD: Final = 1 << 20  # bytes
 _NO_HELP: Final = (errno.ENOENT, errno.ENOTDIR, errno.EISDIR, errno.EACCES, errno.EROFS)
 """Faults of opening a record that another start doesn't help."""
 
@@ -127,13 +128,19 @@ def head_sums(path: Path) -> dict[str, str]:
     """The sums that the first line of a record has; none where there is no record, or it can't be read."""
     try:
         with open(path, "rb") as file:
-            line = file.readline(1 << 20).decode("utf-8", "replace").rstrip("\n")
+            line = file.readline(LONGEST_HEAD).decode("utf-8", "replace").rstrip("\n")
     except OSError:
         return {}
     kept: object = (
         _fields(line.removeprefix(_HEAD)).get("files") if line.startswith(_HEAD) else None
     )
     return kept if isinstance(kept, dict) else {}
+
+
+def unbegun(line: bytes) -> bool:
+    """Whether the first line of a file is that of a record which is still to be begun: there is none, or it wasn't written wholly."""
+    known = _HEAD.encode()
+    return not line.endswith(b"\n") and (known.startswith(line) or line.startswith(known))
 
 
 def judge_head(line: str, plant: Plant, path: Path) -> None:
@@ -185,16 +192,19 @@ class FileRecord:
             raise self._fault(fault, 2 if fault.errno in _NO_HELP else 1) from None
 
     def _begin(self) -> None:
-        cut(self.path, self._file)
+        """Begins the record, or judges the one that is there; what is none stays as it is."""
         self._file.seek(0)
-        first = self._file.readline().decode("utf-8", "replace").rstrip("\n")
-        if first:
-            judge_head(first, self._plant, self.path)
-            if _fields(first.removeprefix(_HEAD)).get("log") != self._log:
-                raise GatewayFault(f"{self.path} is no copy of this log: keep it elsewhere", 2)
-        else:
+        line = self._file.readline(LONGEST_HEAD)
+        if unbegun(line):
+            self._file.truncate(0)
             write(self._file, f"{head(self._sums, log=self._log)}\n".encode())
             sync_folder(self.path)
+            return
+        first = line.decode("utf-8", "replace").rstrip("\n")
+        judge_head(first, self._plant, self.path)
+        if _fields(first.removeprefix(_HEAD)).get("log") != self._log:
+            raise GatewayFault(f"{self.path} is no copy of this log: keep it elsewhere", 2)
+        cut(self.path, self._file)
 
     def _fault(self, fault: OSError, status: int = 1) -> GatewayFault:
         return GatewayFault(f"the record {self.path}: {fault.strerror}", status)
@@ -278,7 +288,9 @@ def peek(path: Path, plant: Plant) -> Iterator[Entry]:
     """The commands of a record that another gateway may have, without a lock. Raises GatewayFault (status 2)."""
     try:
         with open(path, "rb", buffering=1 << 20) as file:
-            judge_head(file.readline().decode("utf-8", "replace").rstrip("\n"), plant, path)
+            judge_head(
+                file.readline(LONGEST_HEAD).decode("utf-8", "replace").rstrip("\n"), plant, path
+            )
             yield from entries(file)
     except OSError as fault:
         raise GatewayFault(f"the record {path}: {fault.strerror}", 2) from None

@@ -7,6 +7,7 @@ from __future__ import annotations
 
 import getpass
 import json
+import os
 import socket
 from pathlib import Path
 from typing import Final
@@ -46,9 +47,17 @@ def main(words: list[str]) -> int:
     return 0 if answer.startswith(RELOADED) else 3
 
 
+def who() -> str:
+    """The name of the user who asks; of one that has none, as in a container, the number."""
+    try:
+        return getpass.getuser()
+    except (KeyError, OSError):
+        return str(os.getuid())
+
+
 def ask(config: Config, texts: Texts, reason: str | None) -> str:
     """What the gateway answers. Raises GatewayFault: status 2 where none serves this configuration, 1 where it ends meanwhile."""
-    fields = {"user": getpass.getuser(), "reason": reason}
+    fields = {"user": who(), "reason": reason}
     head = f"{json.dumps(fields)}\n{sized.line(texts)}\n".encode()
     with socket.socket(socket.AF_UNIX) as connection:
         connection.settimeout(config.patience_ms / 1000 + SLOW)

@@ -220,6 +220,18 @@ def report(
     )
 
 
+def begun(rows: Iterable[Row]) -> int | None:
+    """The moment of the first row that a scan has added, or an order or a reload behind a scan; None where there is none. Those before
+    the first scan bear the moment 0, which may be years before it."""
+    by_order = False
+    for row in rows:
+        kind = row.words[0]
+        if row.moment or not (kind in ("ORDER", "RELOAD") or (by_order and kind == "ALARM")):
+            return row.moment
+        by_order = kind == "ORDER" and row.words[-1] == "OK"
+    return None
+
+
 def days_of(plant: Plant, moments: Sequence[Sequence[int]], begin: int) -> tuple[Day, ...]:
     """The annunciations of each day (UTC) that has some, the last MOST_DAYS of them."""
     counted: list[Counter[str]] = [

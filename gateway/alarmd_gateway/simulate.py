@@ -21,7 +21,7 @@ from .config import WORDS_STATUS, Config
 from .core import Core
 from .fields.source import Backoff
 from .mapping import Retry
-from .model import GatewayFault, Plant, Sample, Value, Variable
+from .model import GatewayFault, Kind, Plant, Sample, Value, Variable
 from .programs import find_alarmd
 from .server import Server
 from .state import State
@@ -64,10 +64,6 @@ class Model:
         self._state.scan(scan.moment, scan.given, answer)
         self._moment = moment
         return self._state.outputs
-
-    def pause(self) -> None:
-        """The time until the next scan doesn't count."""
-        self._moment = None
 
     @property
     def elapsed(self) -> str | None:
@@ -125,9 +121,11 @@ class Simulation:
         await self._model.end()
 
     async def begin(self) -> None:
-        """The model's first scan, since the plant's first scan waits for samples. Raises GatewayFault."""
+        """A scan of the model, since the plant's first scan waits for samples. The model begins anew with that one: the time until then,
+        from the plant's epoch or the record's last scan, is none that its timers may see. Raises GatewayFault.
+        """
         await self._step(self._core.state.moment)
-        self._model.pause()
+        await self._model.end()
 
     async def step(self, moment: int) -> None:
         """The model's scan at a moment, whose outputs become samples. A model whose server has ended is a trouble, until it runs
@@ -197,6 +195,12 @@ def read_model(path: Path, plant: Plant) -> Plant:
         words = f"no output of the model {path} bears the name of an input of the plant"
         raise GatewayFault(words, WORDS_STATUS)
     shared(model.inputs, plant.outputs)
+    elapsed = model.inputs.get(ELAPSED)
+    if elapsed is not None and elapsed.kind is Kind.BOOL:
+        words = (
+            f"{elapsed.name} of the model {path} is a BOOL: it has to be a DINT, for milliseconds"
+        )
+        raise GatewayFault(words, WORDS_STATUS)
     return model
 
 
@@ -232,12 +236,12 @@ def main(words: list[str]) -> int:
     if not 1 <= given.speed <= 1000:
         parser.error("--speed is 1 to 1000")
     with tempfile.TemporaryDirectory(prefix="simulate-") as folder:
-        tables: dict[str, dict[str, str]] = {"simulate": {"model": str(given.model.resolve())}}
+        tables: dict[str, dict[str, str]] = {"simulate": {"model": str(given.model.absolute())}}
         if given.page is not None:
             tables["web"] = {"listen": given.page}
         config = Config(
             alarmd=find_alarmd(given.alarmd),
-            plant=given.plant.resolve(),
+            plant=given.plant.absolute(),  # of a link the folder counts in which it lies
             record=given.record.resolve() if given.record else Path(folder) / "record",
             folder=Path.cwd(),
             period_ms=max(1, given.period_ms // given.speed),

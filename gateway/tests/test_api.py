@@ -388,6 +388,19 @@ def test_what_was_annunciated_by_an_alarm_that_is_gone_counts(open_plant: Served
     assert found["acknowledgements"]["waiting"] == 2  # and not A2
 
 
+def test_an_order_before_the_first_scan_draws_out_no_figures() -> None:
+    core, now = FakeCore(), 200_000_000_000  # years after the epoch
+    with served(core) as opened:
+        opened.run(core.order(Order(Verb.ACK, 1, "A0")))
+        opened.do(lambda: core.scan(now, {"A0": Code.UNACK, "A1": Code.UNACK}))
+        opened.do(lambda: core.scan(now + 1_200_000 - 1))
+        client = Client(opened.url)
+        for hours in (0, 24):
+            found = client.ask(f"/api/report?hours={hours}").json
+            assert (found["begin"], found["end"]) == (now, now + 1_200_000)
+            assert found["rates"][0]["per_ten_minutes"] == 1
+
+
 def test_figures_as_csv_have_no_formulas(
     open_plant: Served, monkeypatch: pytest.MonkeyPatch
 ) -> None:

@@ -152,6 +152,9 @@ def test_a_changed_logic_differs(alarmd: Path, examples: Path, tmp_path: Path) -
     [
         ("", ":0: there is no case"),
         ("# nothing\n", "there is no case"),
+        ("case a\n", ":1: there is nothing in this case"),
+        ("\ncase a\n# scan 0\n\ncase b\nscan 0\n", ":2: there is nothing in this case"),
+        ("scan 0\ncase b\n", ":2: there is nothing in this case"),
         ("case a\nexepct LAL-101 UNACK", ":2: no line begins with 'exepct'"),
         ("scan level=250", ":1: a scan has a moment"),
         ("scan +", ":1: a scan has a moment"),
@@ -178,6 +181,32 @@ def test_a_refused_plant_is_status_3(alarmd: Path, examples: Path) -> None:
         with pytest.raises(GatewayFault) as found:
             run(alarmd, examples / "refused" / f"{name}.toml", examples / "built_in" / "cases")
         assert found.value.status == 3
+
+
+@pytest.mark.server
+@pytest.mark.parametrize(
+    ("file", "old", "new"),
+    [
+        ("points.st", "END_VAR", ""),
+        ("watch.st", "END_PROGRAM", "END_PROGRAM PROGRAM"),
+        ("alarms.csv", "", ""),
+        ("alarms.csv", "Tank level low", '"Tank level low'),
+    ],
+)
+def test_a_plant_that_ends_too_early_is_refused_in_the_words_of_alarmd(
+    alarmd: Path, examples: Path, tmp_path: Path, file: str, old: str, new: str
+) -> None:
+    shutil.copytree(examples / "tank", tmp_path / "tank")
+    path = tmp_path / "tank" / file
+    rows = "".join(f"T{number},tank,3,level_low,,FALSE,0,0,text\n" for number in range(5000))
+    text = path.read_text() + (rows if file == "alarms.csv" else "")
+    path.write_text(text.replace(old, new) if old else "")
+    with pytest.raises(GatewayFault) as found:
+        run(alarmd, tmp_path / "tank" / "plant.toml", examples / "tank" / "cases")
+    assert found.value.status == 3 and "has ended with status 3" in found.value.words
+    with pytest.raises(GatewayFault) as found:
+        plants.read(tmp_path / "tank" / "plant.toml")
+    assert found.value.status == 3
 
 
 @pytest.mark.parametrize(

@@ -100,9 +100,30 @@ def test_a_record_has_to_be_of_this_plant(config: Path, plant: Path) -> None:
     assert (config.parent / "record").read_bytes() == before
 
 
-def test_an_empty_record_is_begun(config: Path) -> None:
-    (config.parent / "record").touch()
+def test_a_record_without_an_end_is_none(config: Path) -> None:
+    config.write_text(config.read_text().replace('"record"', '"/dev/full"'))  # bytes 0, for ever
+    words = ["sh", "-c", f"ulimit -v 2000000; exec '{ROOT}/gateway/gateway' check '{config}'"]
+    done = subprocess.run(words, capture_output=True, text=True, timeout=LIMIT, check=False)
+    assert done.returncode == 2 and "is no record of a gateway" in done.stderr
+
+
+@pytest.mark.parametrize("torn", ["", "# gat", '# gateway record {"files": {"pla'])
+def test_a_record_whose_first_line_is_not_whole_is_begun(config: Path, torn: str) -> None:
+    (config.parent / "record").write_text(torn)
     assert check(config)[0] == 0
+    assert run(config, "running=TRUE level=250\n", "--check")[0] == 0
+    assert check(config)[0] == 0
+
+
+@pytest.mark.parametrize(
+    "etcd", ["", "[etcd]\nendpoints = ['http://127.0.0.1:1']\nlog = 'l'\ngateway = 'g'\n"]
+)
+def test_a_record_wants_its_folder(config: Path, etcd: str) -> None:
+    config.write_text(config.read_text().replace('"record"', '"nowhere/record"') + etcd)
+    status, _, err = check(config)
+    assert status == 2 and "nowhere/record" in err and "No such file" in err
+    if not etcd:
+        assert run(config, "")[0] == 2
 
 
 def test_serve_checks_first_where_it_is_told(config: Path, plant: Path) -> None:

@@ -2,6 +2,9 @@
 
 from __future__ import annotations
 
+import os
+import subprocess
+import sys
 from dataclasses import replace
 from datetime import datetime, timezone
 from fractions import Fraction
@@ -208,10 +211,14 @@ def test_an_empty_map(tmp_path: Path) -> None:
         ('form = "int32"', 'form = "int64"', "'form'"),
         ('words = "low"', 'words = "middle"', "'words'"),
         ('name = "plc"', 'name = "broker"', "'name'"),
+        ('name = "plc"', 'name = "the plc"', "'name'"),
+        ('name = "plc"', 'name = "plc\\nSERVER"', "'name'"),
+        ('name = "plc"', 'name = "\\u001b[2J"', "'name'"),
         ('host = "127.0.0.1"\npoll', "poll", "'host'"),
         ("poll_ms = 250", "poll = 250", "'poll'"),
         ("level = 2500", "flow = 2500", "'flow'"),
         ("level = 2500", "level = 0", "'level'"),
+        ("level = 2500", "level = 2500\nLEVEL = 60000", "'LEVEL'"),
         ('input = "door"', 'input = "level"', "'input' of [modbus[1].input[1]]"),
         ("[stale_ms]", "[stale]", "'stale'"),
         ("[stale_ms]", "[stale_ms", "no TOML"),
@@ -223,6 +230,18 @@ def test_what_is_wrong_is_named(tmp_path: Path, old: str, new: str, words: str) 
         map_of(tmp_path, WHOLE.replace(old, new, 1))
     assert words in found.value.words and "map.toml" in found.value.words
     assert found.value.status == 2
+
+
+@pytest.mark.parametrize("scale", ["1e999999999", "-1e-999999999"])
+def test_a_scale_beyond_all_measure_is_refused_at_once(tmp_path: Path, scale: str) -> None:
+    """In a process of its own: who writes out all its digits can't be interrupted."""
+    path = tmp_path / "map.toml"
+    path.write_text(WHOLE.replace("scale = 0.1", f"scale = {scale}"))
+    program = f"import test_mapping as m; m.read(m.Path({str(path)!r}), m.PLANT)"
+    words = [sys.executable, "-B", "-c", program]
+    folders = {"PYTHONPATH": os.pathsep.join(sys.path)}
+    done = subprocess.run(words, env=folders, capture_output=True, timeout=30, check=False)
+    assert b"'scale' of [mqtt[1].input[1]] has to be a number of at most" in done.stderr
 
 
 def test_a_map_that_is_not_there(tmp_path: Path) -> None:

@@ -57,6 +57,16 @@ def test_commands_come_back_with_user_and_reason(tmp_path: Path, plant: Plant) -
     assert path.read_bytes().count(b"\n") == 8
 
 
+@pytest.mark.parametrize("text", ["what is no record", "nor\nis this", "\n", "# gate\n", "# plant"])
+def test_what_is_no_record_stays_as_it_is(tmp_path: Path, plant: Plant, text: str) -> None:
+    path = tmp_path / "notes"
+    path.write_text(text)
+    with pytest.raises(GatewayFault) as found:
+        FileRecord(path, plant)
+    assert found.value.status == 2
+    assert path.read_text() == text
+
+
 @pytest.mark.parametrize(
     ("torn", "left"),
     [

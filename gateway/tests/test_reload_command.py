@@ -2,17 +2,22 @@
 
 from __future__ import annotations
 
+import json
 import os
 import socket
 import stat
 import subprocess
+import threading
 from pathlib import Path
 
 import pytest
 from around import ROOT, Gateway, config_file
 from reload_help import READING, WITHOUT, Small, latched, reloads
 
-from alarmd_gateway.reloading import short
+from alarmd_gateway import config as configs
+from alarmd_gateway import plant as plants
+from alarmd_gateway.reload import ask
+from alarmd_gateway.reloading import short, socket_path
 
 __all__ = ["reloads"]
 
@@ -105,6 +110,33 @@ def test_a_server_without_the_command(folder: Path, monkeypatch: pytest.MonkeyPa
         gateway.wait_for("REPLY OK")
     finally:
         gateway.kill()
+
+
+def test_a_user_without_a_name_is_told_by_number(
+    folder: Path, monkeypatch: pytest.MonkeyPatch
+) -> None:
+    for name in ("LOGNAME", "USER", "LNAME", "USERNAME"):
+        monkeypatch.delenv(name, raising=False)
+    monkeypatch.setattr("pwd.getpwuid", {}.__getitem__)  # no name of any number
+    plant = Small().write(folder)
+    config = configs.read(config_file(READING, plant))
+    heard: list[dict[str, str | None]] = []
+
+    def gateway(listening: socket.socket) -> None:
+        connection, _ = listening.accept()
+        with connection, connection.makefile("rwb") as file:
+            heard.append(json.loads(file.readline()))
+            file.read(sum(map(int, file.readline().split()[1:])))
+            file.write(b"RELOADED KEPT 1 NEW 0\n")
+
+    with socket.socket(socket.AF_UNIX) as listening, short(socket_path(config)) as path:
+        listening.bind(path)
+        listening.listen()
+        answering = threading.Thread(target=gateway, args=(listening,), daemon=True)
+        answering.start()
+        assert ask(config, plants.texts_of(plant), None) == "RELOADED KEPT 1 NEW 0"
+        answering.join()
+    assert heard == [{"user": str(os.getuid()), "reason": None}]
 
 
 def test_whoever_connects_and_says_something_else(folder: Path) -> None:

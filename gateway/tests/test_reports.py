@@ -32,6 +32,7 @@ from alarmd_gateway.reports import (
     Rate,
     Shelved,
     Stale,
+    begun,
     flooded,
     largest_window,
     report,
@@ -268,3 +269,20 @@ def test_the_figures_as_json() -> None:
         }
         for number in (0, 1, 2)
     ]
+
+
+@pytest.mark.parametrize(
+    ("rows", "moment"),
+    [
+        ([], None),
+        (["0 ORDER 1 ack A O3", "0 ORDER 1 remove A OK", "0 ALARM A NORM OOS"], None),
+        (["0 ORDER 1 remove A OK", "0 ALARM A NORM OOS", "9 ALARM B NORM UNACK"], 9),
+        (["0 RELOAD KEPT 4 NEW 0", "9 ORDER 1 ack A O3"], 9),
+        (["0 ORDER 1 remove A OK", "0 ALARM A NORM OOS", "0 ALARM B NORM UNACK"], 0),
+        (["0 ORDER 1 ack A O3", "0 ALARM A NORM UNACK", "9 ALARM B NORM UNACK"], 0),
+        (["0 ALARM A NORM UNACK", "9 ALARM B NORM UNACK"], 0),
+        (["0 FAULT dose 1 DIVZERO", "9 ALARM B NORM UNACK"], 0),
+    ],
+)
+def test_orders_before_the_first_scan_begin_nothing(rows: list[str], moment: int | None) -> None:
+    assert begun(journal(*rows)) == moment

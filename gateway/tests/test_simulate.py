@@ -16,10 +16,12 @@ from unittest.mock import patch
 
 import pytest
 
+from alarmd_gateway import plant as plants
+from alarmd_gateway.config import Config
 from alarmd_gateway.core import Core
 from alarmd_gateway.model import BadSample, Code, GatewayFault, Sample
 from alarmd_gateway.samples import SampleQueue
-from alarmd_gateway.simulate import Simulation, attach
+from alarmd_gateway.simulate import Simulation, attach, main, model_path, read_model
 from core_help import Served, by_core, by_record, config_of
 from field_help import until
 
@@ -224,6 +226,50 @@ def test_a_model_that_does_not_fit(
     asyncio.run(body())
 
 
+@pytest.mark.parametrize(("kind", "fits"), [("DINT", True), ("TIME", True), ("BOOL", False)])
+def test_the_time_since_the_scan_before_is_no_truth(
+    examples: Path, tmp_path: Path, kind: str, fits: bool
+) -> None:
+    place = "X9.0" if kind == "BOOL" else "D0"
+    model = changed(examples, tmp_path, "%ID0   : DINT", f"%I{place}   : {kind}")
+    plant = plants.read(examples / "tank" / "plant.toml")
+    if fits:
+        assert read_model(model, plant).inputs["elapsed_ms"].kind.value == kind
+        return
+    with pytest.raises(GatewayFault) as found:
+        read_model(model, plant)
+    assert found.value.status == 2 and "elapsed_ms" in found.value.words
+
+
+@pytest.mark.server
+def test_no_timer_of_a_model_sees_the_time_before_the_first_scan(
+    alarmd: Path, examples: Path, tmp_path: Path
+) -> None:
+    """This one heats after ten minutes."""
+    model = tmp_path / "model" / "plant.toml"
+    shutil.copytree(examples / "tank" / "model", model.parent)
+    (model.parent / "model.st").write_text(
+        """
+        VAR_GLOBAL temperature AT %QD0 : DINT := 200; END_VAR
+        PROGRAM m
+          VAR late : TON; END_VAR
+          late(IN := TRUE, PT := T#10m);
+          IF late.Q THEN temperature := 990; END_IF;
+        END_PROGRAM
+        """
+    )
+
+    async def body() -> None:
+        async with Simulated(alarmd, examples, tmp_path, model) as it:
+            await until(lambda: it.code("TAHH-102") is Code.UNACK)
+            came = it.core.state.by_tag["TAHH-102"].since
+        lines = it.config.record.read_text().splitlines()
+        begun = next(int(line.split()[1]) for line in lines if line.startswith("scan "))
+        assert came == begun + 600_000
+
+    asyncio.run(body())
+
+
 @pytest.mark.server
 def test_the_command_takes_disturbances_and_ends_in_order(alarmd: Path, examples: Path) -> None:
     ours, theirs = pty.openpty()
@@ -252,6 +298,28 @@ def test_the_command_takes_disturbances_and_ends_in_order(alarmd: Path, examples
         process.communicate()
         os.close(ours)
         os.close(theirs)
+
+
+def test_of_a_link_the_folder_counts_in_which_it_lies(
+    alarmd: Path, examples: Path, tmp_path: Path, monkeypatch: pytest.MonkeyPatch
+) -> None:
+    for name in ("tank", "tank/model"):
+        folder = tmp_path / name
+        shutil.copytree(examples / name, folder, dirs_exist_ok=True)
+        (folder / "plant.toml").unlink()
+        (folder / "plant.toml").symlink_to(examples / name / "plant.toml")
+    served: list[Config] = []
+
+    async def serve(config: Config) -> None:
+        served.append(config)
+
+    monkeypatch.setattr("alarmd_gateway.serve.serve", serve)
+    monkeypatch.chdir(tmp_path)
+    words = ["tank/plant.toml", "tank/model/plant.toml", "--alarmd", str(alarmd)]
+    assert main(["simulate", *words]) == 0
+    (config,) = served
+    assert config.plant == tmp_path / "tank" / "plant.toml"
+    assert model_path(config) == tmp_path / "tank" / "model" / "plant.toml"
 
 
 @pytest.mark.parametrize("more", [["--speed", "0"], ["--period-ms", "0"], ["--what"], []])

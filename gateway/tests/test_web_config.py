@@ -4,6 +4,8 @@ from __future__ import annotations
 
 import http.client
 import io
+import os
+import pty
 import socket
 import ssl
 import subprocess
@@ -12,6 +14,7 @@ from collections.abc import Callable
 from pathlib import Path
 
 import pytest
+from around import ROOT
 from fake_core import fake_plant
 from http_help import two_users
 from served import served
@@ -154,3 +157,27 @@ def test_the_password_of_a_user(typed: Typed, capsys: pytest.CaptureFixture[str]
         password.main(["password"])
     with pytest.raises(GatewayFault):
         password.main(["password", "secret"])
+
+
+@pytest.mark.parametrize("given", [b"\xff\n", b"", None])
+def test_no_password_is_status_2(given: bytes | None) -> None:
+    gateway = ROOT / "gateway" / "gateway"
+    words = ["sh", "-c", f"'{gateway}' password" + (" <&-" if given is None else "")]
+    environment = {"PYTHONIOENCODING": "utf-8:strict", "PATH": "/usr/bin:/bin"}
+    done = subprocess.run(words, input=given, env=environment, capture_output=True, check=False)
+    assert (done.returncode, done.stdout) == (2, b"")
+    assert done.stderr.startswith(b"SERVER ") and b"fault of the gateway" not in done.stderr
+
+
+def test_who_ends_the_input_at_the_question_gave_no_password() -> None:
+    ours, theirs = pty.openpty()
+    words = [str(ROOT / "gateway" / "gateway"), "password"]
+    process = subprocess.Popen(words, stdin=theirs, stderr=theirs, start_new_session=True)
+    shown = b""
+    while b"Password: " not in shown:
+        shown += os.read(ours, 1000)
+    os.write(ours, b"\x04")
+    assert process.wait(60) == 2
+    assert b"SERVER there was no password" in os.read(ours, 1000)
+    os.close(ours)
+    os.close(theirs)
