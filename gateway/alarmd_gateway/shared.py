@@ -190,9 +190,7 @@ class SharedCore(Core):
                 if not await self._may_lead(view):
                     return
             await super()._step()
-            if (
-                not self.leads
-            ):  # since then: what it tried for that long may have ended in a question
+            if not self.leads:  # what it tried for so long may have ended in a question
                 self._ask_no_more()
         except Deposed:
             self._step_down()

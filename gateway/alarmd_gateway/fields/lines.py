@@ -19,9 +19,8 @@ from .source import Intake, Lost, Source
 
 CHUNK: Final = 65_536
 LOOK_SECONDS: Final = 1.0  # between two looks whether the FIFO is still there
-CLOSE_SECONDS: Final = (
-    5.0  # for so long, at the most, lines that were read are taken before the end
-)
+CLOSE_SECONDS: Final = 5.0
+"""For so long, at the most, lines that were read are taken before the end."""
 
 
 class Answers(Protocol):
