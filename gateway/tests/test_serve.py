@@ -58,6 +58,43 @@ def test_an_order_without_its_line_end_is_taken(config: Path) -> None:
     assert "ack 1 LAL-101" in commands(config)
 
 
+BUSY = """
+PROGRAM {}
+  VAR i, n : DINT; END_VAR
+  FOR i := 1 TO 10000 DO n := i; END_FOR;
+END_PROGRAM
+"""
+
+ROUNDS = [  # what is given, and what comes of it, without the moments
+    ("running=TRUE level=250 flow=100", ["ALARM LAL-101 NORM UNACK", "OUT pump TRUE"]),
+    ("ack 1 LAL-101", ["REPLY OK", "ALARM LAL-101 UNACK ACKED"]),
+    ("level=420", ["ALARM LAL-101 ACKED NORM", "OUT heater TRUE"]),
+    ("additive=3000", ["ALARM RAH-104 NORM UNACK", "OUT ratio 30"]),
+    ("flow=0", ["FAULT dose 1 DIVZERO", "ALARM FAL-103 NORM UNACK"]),  # at the second such scan
+    ("flow=200", ["ALARM FAL-103 UNACK RTNUN"]),
+    ("restart 1 dose", ["REPLY OK", "ALARM RAH-104 UNACK RTNUN", "OUT ratio 15"]),
+]
+
+
+@pytest.mark.parametrize("workers", [1, 2])
+def test_answers_are_the_same_whoever_runs_the_programs(
+    alarmd: Path, plant: Path, workers: int
+) -> None:
+    with open(plant.parent / "control.st", "a") as file:  # so much that workers share it
+        file.write(BUSY.format("busy") + BUSY.format("as_busy"))
+    gateway = Gateway(config_file(alarmd, plant, workers=workers))
+    wanted: list[str] = []
+    for line, answers in ROUNDS:
+        gateway.give(f"{line}\n")
+        kind, rest = answers[-1].split(" ", 1)
+        gateway.wait_for(rf"^{kind} \d+ {rest}$", after=len(wanted))
+        wanted += answers
+    assert len(os.listdir(f"/proc/{gateway.server_pid()}/task")) == workers
+    gateway.end_input()
+    assert gateway.wait() == 0
+    assert [re.sub(r"^(\w+) \d+ ", r"\1 ", line) for line in gateway.out] == wanted
+
+
 def test_the_last_commands_answer_is_shown_at_the_start(config: Path) -> None:
     gateway = Gateway(config)
     gateway.give("running=1 level=250\n")

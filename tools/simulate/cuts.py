@@ -38,7 +38,7 @@ class BuiltIn:
         body = [Assign(Read(BOOL, ("global", "c"), "c"), Binary(">", BOOL, ratio, Literal(DINT, 10, "10")))]
         shared, program = [("a", DINT, "I", None), ("c", BOOL, None, None)], Routine("p", False, body=body)
         consoles, rows = [(1, ["north"]), (2, ["south"])], [AlarmRow("T1", "north", 2, "c", None, False, 5000)]
-        self.plant = Plant("2024-01-01T00:00:00Z", shared, {}, [program], ["north", "south"], consoles, rows)
+        self.plant = Plant("2024-01-01T00:00:00Z", shared, [], {}, [program], ["north", "south"], consoles, rows)
         self.alarms, self.sources, self.is_newer = "alarms.csv", ["p.st"], False
         self.texts = {}
         for name in ("plant.toml", "alarms.csv", "p.st"):
