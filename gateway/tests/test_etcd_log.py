@@ -587,6 +587,37 @@ def test_keys_and_values() -> None:
     assert Keys("tank").entry(1, 20) < Keys("tank").entry(1, 100) < Keys("tank").entry(2, 1)
 
 
+NODE = "http://127.0.0.1:2379"
+NO_NODES = [
+    "",
+    "127.0.0.1:2379",
+    "https://127.0.0.1:2380",  # the other one has http
+    "http://",
+    "http:///",
+    "http://:2379",
+    "http://127.0.0.1:",
+    "http://127.0.0.1:0",
+    "http://127.0.0.1:65536",
+    "http://127.0.0.1:2379x",
+    "http://127.0.0.300:2379",
+    "http://[::1:2379",
+    "http://[::x]:2379",
+    "http://::1:2379",
+    "http://a..b:2379",
+    "http://a b:2379",
+    " http://a:2379",
+    "http://a:2379 ",
+    "http://a:2379\n",
+    "http://a,http://b",
+    "http://anna:secret@a:2379",
+    "http://a:2379/etcd",
+    "http://a:2379?b",
+    "http://a:2379#b",
+    "http://127.0.0.1:2379/",  # it is there already
+    "http://127.0.0.1:02379",
+]
+
+
 @pytest.mark.parametrize(
     ("change", "words"),
     [
@@ -594,6 +625,7 @@ def test_keys_and_values() -> None:
         ({"gateway": ""}, "'gateway'"),
         ({"endpoints": []}, "'endpoints'"),
         ({"endpoints": ["ftp://x"]}, "'endpoints'"),
+        *(({"endpoints": [NODE, bad]}, "'endpoints'") for bad in NO_NODES),
         ({"lease_s": 1}, "'lease_s'"),
         ({"more": 1}, "'more'"),
     ],
@@ -606,3 +638,10 @@ def test_a_table_that_is_wrong(tmp_path: Path, change: dict[str, object], words:
     with pytest.raises(GatewayFault, match=words) as fault:
         shared_config(bad)
     assert fault.value.status == 2
+
+
+def test_addresses_of_nodes(tmp_path: Path) -> None:
+    ends = ["http://127.0.0.1:2379/", "http://127.0.0.1:2380", "http://[::1]:2379", "http://N1.a.b"]
+    table = {"endpoints": ends, "log": "tank", "gateway": "a"}
+    found = shared_config(Config(tmp_path, tmp_path, tmp_path, tmp_path, tables={"etcd": table}))
+    assert found.endpoints == ("http://127.0.0.1:2379", *ends[1:])
