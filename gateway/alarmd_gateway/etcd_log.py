@@ -55,8 +55,8 @@ class EtcdLog:
         return self._copy
 
     async def open(self, new_program: bool = False) -> None:
-        """Begins the log where there is none, opens the copy, and brings it up to the log's end. With `new_program` the log goes on
-        with this gateway's program. Raises NoEtcd, and GatewayFault: status 2 where the log or the copy is another plant's, the
+        """Begins the log where there is none, opens the copy, and brings it up to the log's end. With `new_program` the log may go on
+        with another program still. Raises NoEtcd, and GatewayFault: status 2 where the log or the copy is another plant's, the
         log of another program, or the copy of another log; 1 where the copy can't be written."""
         first = {"record": 1, "log": uuid.uuid4().hex, "entries": 0}
         begin = [etcd.put(self.keys.last, first), *self._own.begin()]
@@ -65,11 +65,13 @@ class EtcdLog:
         answer = await self.asks.ask([], reads)
         (last,), (kept,) = etcd.found(answer, 0), etcd.found(answer, 1)
         self._own.judge_files(kept)
-        if new_program:
-            await self.asks.ask([], [self._own.program()])
-        else:
+        if not new_program:
             self._own.judge_program(etcd.found(answer, 2))
         await self.begin(last_by(last))
+
+    async def go_on(self) -> None:
+        """The log goes on with this gateway's program from now on, and with no other one. Raises NoEtcd, EtcdRefused."""
+        await self.asks.ask([], [self._own.program()])
 
     async def begin(self, last: Last) -> None:
         """Goes over to a record: its copy is opened, and brought up to this end. Raises NoEtcd, NoCopy, GatewayFault."""

@@ -47,7 +47,7 @@ class Pair:
         program = keys.pop("alarmd", self._alarmd)
         assert isinstance(program, Path)
         config = config_for(program, self._plant(self._folder / name), **keys)
-        told = SharedConfig((), "trial", name, 3, 1.0)
+        told = SharedConfig((), "trial", name, 3, 1.0, config.new_alarmd)
         core = await SharedCore.join(config, told, self.etcd)
         self.served.append(Served(core))
         return core
