@@ -17,7 +17,19 @@ from .etcd import TXN, Body, Etcd, EtcdRefused, NoEtcd
 from .identity import Identity
 from .leader import Leader, leader_of
 from .log_entries import PAGE, Entries
-from .log_view import Keys, Last, Marked, View, copy_path, last_by, last_of, marked, value_of
+from .log_view import (
+    Keys,
+    Last,
+    Marked,
+    View,
+    copy_path,
+    last_by,
+    last_of,
+    marked,
+    newest_copy,
+    newest_number,
+    value_of,
+)
 from .model import GatewayFault, Plant
 from .new_record import NewRecord
 from .record import Entry, FileRecord
@@ -67,6 +79,9 @@ class EtcdLog:
         self._own.judge_files(kept)
         if not new_program:
             self._own.judge_program(etcd.found(answer, 2))
+        if newest_number(self._path) > last_by(last).record:  # a later record would find it there
+            words = f"{newest_copy(self._path)} is of no record of this log: keep it elsewhere"
+            raise GatewayFault(words, 2)
         await self.begin(last_by(last))
 
     async def go_on(self) -> None:

@@ -100,9 +100,14 @@ def copy_path(record: Path, number: int) -> Path:
 
 def newest_copy(record: Path) -> Path:
     """The copy of the newest record that this gateway has; the first where it has none."""
+    return copy_path(record, newest_number(record))
+
+
+def newest_number(record: Path) -> int:
+    """The number of that record."""
     tails = (path.name.removeprefix(f"{record.name}.") for path in record.parent.glob("*"))
     numbers = [int(tail) for tail in tails if tail.isascii() and tail.isdigit()]
-    return copy_path(record, max(numbers, default=1))
+    return max(numbers, default=1)
 
 
 def last_of(path: Path) -> tuple[int, str]:

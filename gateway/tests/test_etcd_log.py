@@ -492,6 +492,27 @@ def test_a_copy_goes_on(tmp_path: Path, plant: Plant) -> None:
     trial(work, tmp_path, plant)
 
 
+def test_a_copy_of_a_record_that_is_still_to_come_is_refused(tmp_path: Path, plant: Plant) -> None:
+    """As those of a log whose etcd was lost: else all gateways would end at a new record, months later."""
+
+    async def work(etcd: FakeEtcd, side: Sides) -> None:
+        (tmp_path / "a").mkdir()
+        old = tmp_path / "a" / "record.2"
+        old.write_text("# of a log that was there before\n")
+        with pytest.raises(GatewayFault, match="record.2 is of no record of this log") as fault:
+            await side("a")
+        assert fault.value.status == 2
+        old.unlink()
+        a = await side("a")
+        await a.lead()
+        await a.log.succeed([Entry("scan 1")])
+        assert a.log.known.record == 2
+        a.log.close()
+        await side("a")
+
+    trial(work, tmp_path, plant)
+
+
 def test_another_plant_is_refused(tmp_path: Path, plant: Plant) -> None:
     async def work(etcd: FakeEtcd, side: Sides) -> None:
         await side("a")
