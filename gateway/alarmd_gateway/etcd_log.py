@@ -245,11 +245,11 @@ class EtcdLog:
             self.follow()
             raise
 
-    async def request(self, mark: str, entry: Entry, lease: str) -> None:
-        """Hands an order on to the leader; it is withdrawn where the lease ends. Raises NoEtcd where it isn't known whether it is
-        handed on, EtcdRefused where it isn't."""
+    async def request(self, mark: str, entry: Entry, lease: str, seen: int | None = None) -> None:
+        """Hands an order on to the leader, with the moment up to which its alarm was read; it is withdrawn where the lease ends.
+        Raises NoEtcd where it isn't known whether it is handed on, EtcdRefused where it isn't."""
         parts = await self.entries.write_asked(mark, entry, lease)
-        value = etcd.put(self.keys.requests + mark, value_of(entry, mark, parts), lease)
+        value = etcd.put(self.keys.requests + mark, value_of(entry, mark, parts, seen), lease)
         words = etcd.transaction([], [value])
         await self.asks.etcd.post(TXN, words, once=True)  # never twice
 
@@ -260,7 +260,7 @@ class EtcdLog:
         return etcd.held(await self.asks.ask([etcd.present(key)], gone))
 
     async def drop(self, mark: str) -> None:
-        """Takes a request away that is no order. Raises NoEtcd."""
+        """Takes a request away that is no order, or isn't to be given. Raises NoEtcd."""
         await self.asks.ask([], [etcd.delete(self.keys.requests + mark)])
 
     def moved(self, plant: Plant) -> None:

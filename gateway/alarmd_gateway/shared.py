@@ -106,14 +106,14 @@ class SharedCore(Core):
 
     # what others ask of the core
 
-    async def _submit(self, command: Order | Reload, user: str | None, reason: str | None) -> Reply:
+    async def _submit(self, job: Job) -> Reply:
         """See Core. ServerGone says whether the order may have been taken."""
-        asked = asyncio.ensure_future(super()._submit(command, user, reason))
-        patience = ORDER if isinstance(command, Order) else RELOAD
+        asked = asyncio.ensure_future(super()._submit(job))
+        patience = ORDER if isinstance(job.command, Order) else RELOAD
         done, _ = await asyncio.wait({asked}, timeout=patience)
         if done:
             return asked.result()
-        taken_back = await self._taken_back(command)
+        taken_back = await self._taken_back(job.command)
         if asked.done():
             return asked.result()
         asked.cancel()
@@ -288,6 +288,7 @@ class SharedCore(Core):
             await self._go_over(view)
         if view.fresh:
             self._renewal.look_at_history()
+        self._orders.refused(view)
 
     async def _go_over(self, view: View) -> None:
         plant = await self._link.next_plant()

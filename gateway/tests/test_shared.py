@@ -17,7 +17,7 @@ from fake_etcd import FakeEtcd
 
 from alarmd_gateway import etcd_log, log_watch, new_record, rotation, shared, transactions
 from alarmd_gateway.etcd import NoEtcd
-from alarmd_gateway.jobs import Job
+from alarmd_gateway.jobs import CameAgain, Job
 from alarmd_gateway.log_view import Last, Marked, View
 from alarmd_gateway.metrics import Metrics
 from alarmd_gateway.model import Code, Order, Plant, Sample, ServerGone, Verb
@@ -502,9 +502,9 @@ def test_an_order_whose_lease_has_ended_is_handed_on_with_the_next(
             await hold.wait()
             await beat()
 
-        async def tried(mark: str, entry: Entry, lease: str) -> None:
+        async def tried(mark: str, entry: Entry, lease: str, seen: int | None = None) -> None:
             tries.append(lease)
-            await request(mark, entry, lease)
+            await request(mark, entry, lease, seen)
 
         monkeypatch.setattr(follower._candidate, "beat", late)
         monkeypatch.setattr(follower._log, "request", tried)
@@ -516,6 +516,46 @@ def test_an_order_whose_lease_has_ended_is_handed_on_with_the_next(
         hold.set()
         assert (await asked).code == "OK"
         assert tries[0] == old != tries[-1]
+
+    trial(Pair(alarmd, tmp_path, tank), work)
+
+
+@pytest.mark.parametrize("here", [True, False])
+def test_an_alarm_that_has_come_again_since_it_was_read_is_not_acknowledged(
+    alarmd: Path, tmp_path: Path, monkeypatch: pytest.MonkeyPatch, here: bool
+) -> None:
+    """By an order at the leader, or at the other gateway, which hasn't seen it yet when it hands the order on."""
+
+    async def work(pair: Pair) -> None:
+        a = await pair.join("a")
+        await until(lambda: a.leads, "a leads")
+        b = await pair.join("b")
+        request = b._log.request
+        await give(a, running=True, level=250, flow=100)
+        await give(a, level=500)
+        await until(lambda: b.state.by_tag["LAL-101"].code is Code.RTNUN, "the alarm, and its end")
+        seen, handed = b.state.by_tag["LAL-101"].since, list[int | None]()
+
+        async def comes_again(mark: str, entry: Entry, lease: str, seen: int | None = None) -> None:
+            handed.append(seen)
+            await give(a, level=250)
+            await until(lambda: a.state.by_tag["LAL-101"].code is Code.UNACK, "it comes again")
+            await request(mark, entry, lease, seen)
+
+        monkeypatch.setattr(b._log, "request", comes_again)
+        core = a if here else b
+        if here:
+            await give(a, level=250)
+            await until(lambda: a.state.by_tag["LAL-101"].code is Code.UNACK, "it comes again")
+        with pytest.raises(CameAgain):
+            await core.order(Order(Verb.ACK, 1, "LAL-101"), "anna", None, seen)
+        assert handed == ([] if here else [seen])
+        await until(lambda: b.state.by_tag["LAL-101"].code is Code.UNACK, "it waits")
+        monkeypatch.setattr(b._log, "request", request)
+        seen = b.state.by_tag["LAL-101"].since
+        assert (await core.order(Order(Verb.ACK, 1, "LAL-101"), "anna", None, seen)).taken
+        rows = [row for row in a.journal.rows() if row.words[0] == "ORDER"]
+        assert len(rows) == 1 and not b._orders.away._jobs
 
     trial(Pair(alarmd, tmp_path, tank), work)
 
@@ -574,9 +614,9 @@ def test_an_order_that_was_told_of_while_it_was_handed_on_is_not_taken_later(
             waiting.set()
             await gate.wait()
 
-        async def slow(mark: str, entry: Entry, lease: str) -> None:
+        async def slow(mark: str, entry: Entry, lease: str, seen: int | None = None) -> None:
             await told.wait()
-            await request(mark, entry, lease)
+            await request(mark, entry, lease, seen)
 
         monkeypatch.setattr(b._log, "request", slow)
         a.before_scan = held
