@@ -164,6 +164,11 @@ class Core:
         """Whether `offer` takes a sample of each input without waiting: they want a scan of their own at most, and room is left."""
         return self._queue.room > 1
 
+    @property
+    def may_write(self) -> bool:
+        """Whether outputs are written by this gateway now: asked right before each."""
+        return self.leads
+
     def subscribe(self, room: int = 1000) -> Subscription:
         """The changes from now on. Make it before the snapshot, and pass over changes up to the snapshot's number."""
         return self._announcer.board.subscribe(room)

@@ -64,6 +64,7 @@ class SharedCore(Core):
         self._watching = LogWatch(log, link.troubles, config.period_ms / 1000)
         self._latest = Latest(max(OLDER, 3 * config.period_ms / 1000))
         self._orders = SharedOrders(link, log, self._jobs, self._tell)
+        self._lease: str | None = None  # the one by which this gateway leads
         self._leader = ""
         self._end: Last | None = None  # the log's end at the last look
         self._looked = -1.0
@@ -137,6 +138,11 @@ class SharedCore(Core):
             await super().offer(sample)
         elif self.sampled is not None and sample.fresh:
             self.sampled(variable.name)
+
+    @property
+    def may_write(self) -> bool:
+        """See Core. Not where the lease may have ended: another gateway may have written something else by then."""
+        return self.leads and self._candidate.surely_has(self._lease)
 
     def snapshot(self) -> Snapshot:
         """See Core. `log` has who leads, and how long the log is that this gateway has."""
@@ -239,7 +245,7 @@ class SharedCore(Core):
         """Scans begin, by the time of day or the log's last moment, with the last sample of each input."""
         if self.leads:
             return
-        self.leads = True
+        self.leads, self._lease = True, self._candidate.lease
         tell(f"{self._name} leads from now on")
         self._begin()
         self._due = 0.0

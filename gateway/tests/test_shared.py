@@ -251,6 +251,32 @@ def test_no_answer_of_etcd(alarmd: Path, tmp_path: Path, monkeypatch: pytest.Mon
     trial(Pair(alarmd, tmp_path, tank), work)
 
 
+def test_who_may_lead_no_more_writes_no_outputs(
+    alarmd: Path, tmp_path: Path, monkeypatch: pytest.MonkeyPatch
+) -> None:
+    """From the end of its lease on, by its own clock, which is before any other gateway may lead."""
+    monkeypatch.setattr(log_watch, "SILENT", 60.0)
+    monkeypatch.setattr(transactions, "PATIENCE", 60.0)
+
+    async def work(pair: Pair) -> None:
+        a = await pair.join("a")
+        await until(lambda: a.leads and a.may_write, "a leads")
+        b = await pair.join("b")
+        assert not b.may_write
+        lease = a._candidate.lease
+        pair.etcd.deaf = 10**9
+        await until(lambda: not a.may_write, "it isn't sure any more")
+        assert a.leads and a._candidate.lease == lease
+        pair.etcd.deaf = 0
+        await until(lambda: a.may_write, "it is again")
+        assert a.leads and lease is not None
+        pair.etcd.end(lease)
+        await until(lambda: a._candidate.lease not in (None, lease), "another lease")
+        assert not (a.leads and a.may_write) or a._lease == a._candidate.lease
+
+    trial(Pair(alarmd, tmp_path, tank), work)
+
+
 def test_a_leader_that_has_nothing_to_append(
     alarmd: Path, tmp_path: Path, monkeypatch: pytest.MonkeyPatch
 ) -> None:
