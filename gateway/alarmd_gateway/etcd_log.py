@@ -166,10 +166,14 @@ class EtcdLog:
         await self._extend(self.copy, [one.entry])
         self._known = Last(known.record, known.log, known.entries + 1, 0)
 
+    def has(self, last: Last) -> bool:
+        """Whether this gateway has the whole log up to this end."""
+        known = self._known
+        return (known.record, known.log, known.entries) == (last.record, last.log, last.entries)
+
     def lead(self, leader: Leader, last: Last) -> bool:
         """Whether this gateway, which leads by `leader`, has the whole log, and so may append to it from now on."""
-        known = self._known
-        if (known.record, known.log, known.entries) != (last.record, last.log, last.entries):
+        if not self.has(last):
             return False
         self.leads_since, self._known = leader.revision, last
         return True

@@ -218,7 +218,7 @@ class SharedCore(Core):
             raise
 
     async def _may_lead(self, view: View) -> bool:
-        """Whether this gateway leads, and has the whole log. Else it stands where nobody does, or waits."""
+        """Whether this gateway leads, and has the whole log. Else it stands where nobody leads and it has that, or waits."""
         leader = view.leader
         self._leader = leader.name if leader else ""
         if leader is not None and self._own(view) and self._log.lead(leader, view.last):
@@ -230,7 +230,7 @@ class SharedCore(Core):
         if self.leads:
             self._step_down()
         await self._orders.hand_on(self._candidate.lease)
-        if leader is None and self._candidate.lease is not None:
+        if leader is None and self._candidate.lease is not None and self._log.has(view.last):
             await self._candidate.stand()
         elif not view.fresh:
             await self._pause()

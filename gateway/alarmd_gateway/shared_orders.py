@@ -98,9 +98,7 @@ class SharedOrders:
     def refused(self, view: View) -> None:
         """Tells of the orders whose alarms have come again since they were read, and which the leader hasn't taken: they wait no more,
         and aren't in the log, all of which this gateway has."""
-        if view.last.log != self._log.known.log or view.last.entries != self._log.known.entries:
-            return
-        if len(view.requests) < PAGE:
+        if self._log.has(view.last) and len(view.requests) < PAGE:
             waiting = {request.mark for request in view.requests}
             for job in self.away.gone(waiting, view.last.record):
                 unread(job, self._link.book.state)

@@ -15,7 +15,15 @@ from around import config_for, plant_copy, until, without_programs
 from core_help import Served
 from fake_etcd import FakeEtcd
 
-from alarmd_gateway import etcd_log, log_watch, new_record, rotation, shared, transactions
+from alarmd_gateway import (
+    etcd_log,
+    log_entries,
+    log_watch,
+    new_record,
+    rotation,
+    shared,
+    transactions,
+)
 from alarmd_gateway.etcd import NoEtcd
 from alarmd_gateway.jobs import CameAgain, Job
 from alarmd_gateway.log_view import Last, Marked, View
@@ -495,6 +503,39 @@ def test_the_old_record_is_whole_before_the_new_one_is_followed(
         assert first[0] == first[1]
 
     trial(Pair(alarmd, tmp_path, without_programs, rotate_at=20), work)
+
+
+def test_who_lacks_a_part_of_the_log_does_not_stand(
+    alarmd: Path, tmp_path: Path, monkeypatch: pytest.MonkeyPatch
+) -> None:
+    """As one that was cut off for an hour: while it reads what it lacks nobody would scan, though another one could."""
+    monkeypatch.setattr(log_entries, "PAGE", 2)
+
+    async def work(pair: Pair) -> None:
+        a = await pair.join("a")
+        await until(lambda: a.leads, "a leads")
+        b = await pair.join("b")
+        gate, keep, stand = asyncio.Event(), b._log.keep, b._candidate.stand
+        stood: list[int] = []
+
+        async def held(one: Marked) -> None:
+            await gate.wait()
+            await keep(one)
+
+        async def stands() -> None:
+            stood.append(b._log.known.entries)
+            await stand()
+
+        monkeypatch.setattr(b._log, "keep", held)
+        monkeypatch.setattr(b._candidate, "stand", stands)
+        await give(a, running=True, level=250, flow=100)
+        await until(lambda: a.state.events > 12, "scans")
+        await pair.served.pop(0).close()
+        gate.set()
+        await until(lambda: b.leads, "b leads")
+        assert set(stood) == {a._log.known.entries}
+
+    trial(Pair(alarmd, tmp_path, tank), work)
 
 
 def test_a_request_that_is_no_order_goes(alarmd: Path, tmp_path: Path) -> None:
