@@ -43,7 +43,8 @@ class LogWatch:
         fault = self._log.asks.fault
         words = f"etcd takes no command: {fault}" if fault else NOBODY
         uncopied = self._log.uncopied
-        self._set("", LOST if silent else "")
+        refusal = self._log.asks.refusal
+        self._set("", (f"{LOST} ({refusal})" if refusal else LOST) if silent else "")
         self._set("scans", words if still and not silent and not uncopied else "")
         self._set("copy", f"{UNCOPIED} ({uncopied})" if uncopied else "")
         return silent

@@ -12,7 +12,7 @@ from . import commands
 from .away import Away
 from .commands import Command, Reload, Scan
 from .jobs import UNKNOWN, Job, fail, unread
-from .etcd import EtcdRefused, NoEtcd
+from .etcd import EtcdRefused, NoEtcd, NotNow
 from .etcd_log import EtcdLog
 from .link import Link, NoReload, entry_of, prepared
 from .log_entries import PAGE
@@ -136,9 +136,10 @@ class SharedOrders:
             entry = entry_of(job.command, job.user, job.reason)
             try:
                 await self._log.request(mark, entry, lease, job.seen)
-            except EtcdRefused:
+            except (EtcdRefused, NotNow):
                 self.away.drop(mark)
-                self._jobs.appendleft(job)
+                if not job.reply.done():
+                    self._jobs.appendleft(job)
                 raise
             self.away.handed_on(mark, self._log.known.record)
             if job.reply.done():  # who gave it was told meanwhile, and couldn't take it back yet

@@ -308,9 +308,16 @@ def test_etcd_takes_no_command(
         await until(lambda: told(first, "scans") and told(second, "scans"), "both say so")
         texts = [one.text for one in first.troubles if one.subject == "scans"]
         assert texts == ["etcd takes no command: etcdserver: mvcc: database space exceeded"]
+        for core in (first, second):
+            with pytest.raises(ServerGone, match="the order wasn't taken"):
+                await core.order(Order(Verb.REMOVE, 1, "LAL-101"))
         pair.etcd.refusal = ""
         await until(lambda: not told(first, "scans") and not told(second, "scans"), "it ends")
+        assert (await second.order(Order(Verb.ACK, 1, "LAL-101"))).code == "OK"
+        rows = [row.words[2] for row in second.journal.rows() if row.words[0] == "ORDER"]
+        assert rows == ["ack"]
 
+    monkeypatch.setattr(shared, "ORDER", 1.0)
     monkeypatch.setattr(log_watch, "GROWS", 0.5)
     monkeypatch.setattr(transactions, "PATIENCE", 0.5)
     pair_trial(Pair(alarmd, tmp_path, tank), work)
