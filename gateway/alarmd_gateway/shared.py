@@ -221,6 +221,7 @@ class SharedCore(Core):
         """Whether this gateway leads, and has the whole log. Else it stands where nobody leads and it has that, or waits."""
         leader = view.leader
         self._leader = leader.name if leader else ""
+        self._watching.led_by(leader, self._candidate, self._looked)
         if leader is not None and self._own(view) and self._log.lead(leader, view.last):
             self._step_up()
             for request in view.requests:

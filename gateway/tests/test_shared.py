@@ -47,15 +47,15 @@ class Pair:
         self._alarmd, self._folder, self._plant, self._more = alarmd, folder, plant, more
         self.served: list[Served] = []
 
-    async def join(self, name: str, **more: int | bool | Path) -> SharedCore:
-        """A gateway of this name, which is at work."""
-        (self._folder / name).mkdir()
+    async def join(self, place: str, name: str = "", **more: int | bool | Path) -> SharedCore:
+        """A gateway in a folder of this name, and of the same or another name, which is at work."""
+        (self._folder / place).mkdir()
         keys: dict[str, int | bool | Path] = {**self._more, **more}
         keys["yes"] = True
         program = keys.pop("alarmd", self._alarmd)
         assert isinstance(program, Path)
-        config = config_for(program, self._plant(self._folder / name), **keys)
-        told = SharedConfig((), "trial", name, 3, 1.0, config.new_alarmd)
+        config = config_for(program, self._plant(self._folder / place), **keys)
+        told = SharedConfig((), "trial", name or place, 3, 1.0, config.new_alarmd)
         core = await SharedCore.join(config, told, self.etcd)
         self.served.append(Served(core))
         return core
@@ -503,6 +503,32 @@ def test_the_old_record_is_whole_before_the_new_one_is_followed(
         assert first[0] == first[1]
 
     trial(Pair(alarmd, tmp_path, without_programs, rotate_at=20), work)
+
+
+def test_two_gateways_of_one_name_are_told_of(
+    alarmd: Path, tmp_path: Path, monkeypatch: pytest.MonkeyPatch, capfd: pytest.CaptureFixture[str]
+) -> None:
+    monkeypatch.setattr(log_watch, "ALIKE", 0.3)
+    told = "another gateway leads that is called 'a' too"
+
+    async def work(pair: Pair) -> None:
+        a = await pair.join("a")
+        await until(lambda: a.leads, "a leads")
+        await pair.join("b")
+        b = await pair.join("other", name="a")
+        lines: list[str] = []
+
+        def said() -> bool:
+            lines.extend(line for line in capfd.readouterr().err.splitlines() if told in line)
+            return bool(lines)
+
+        await until(said, "it is told")
+        looked = b._looked
+        await until(lambda: b._looked > looked + 1, "a second")
+        said()
+        assert len(lines) == 1
+
+    trial(Pair(alarmd, tmp_path, tank), work)
 
 
 def test_who_lacks_a_part_of_the_log_does_not_stand(
