@@ -14,8 +14,9 @@ from .cells import guarded
 from .core import Core
 from .guard import Guard, Refused, answer, body, number
 from .journal import Row
+from .jobs import CameAgain
 from .model import Json
-from .ordering import Marks, read_mark, read_order, with_console
+from .ordering import Marks, read_mark, read_order, read_seen, with_console
 from .report_table import as_json, table
 from .reports import Report, begun, report
 from .sessions import Pace, Session, Tries
@@ -164,6 +165,7 @@ class Api:
 
     async def _give(self, session: Session, given: dict[str, Json]) -> Json:
         order, reason = read_order(given)
+        seen = read_seen(given)
         if not self._pace.take(session.token):
             raise Refused(429, "too many orders at once", 1)
         view = self.view(session)
@@ -172,9 +174,11 @@ class Api:
         elif order.console not in session.consoles:
             raise Refused(403, f"console {order.console} isn't yours")
         try:
-            reply = await self.core.order(order, session.user, reason)
+            reply = await self.core.order(order, session.user, reason, seen)
         except ValueError as bad:
             raise Refused(400, str(bad)) from bad
+        except CameAgain:
+            raise Refused(409, "it has come again since it was read") from None
         key = order.verb.value, reply.code
         self.orders[key] = self.orders.get(key, 0) + 1
         return {"reply": reply.code, "taken": reply.taken, "why": reply.why}

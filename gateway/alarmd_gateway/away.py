@@ -2,6 +2,8 @@
 
 from __future__ import annotations
 
+from collections.abc import Container
+
 from .commands import Command
 from .jobs import UNKNOWN, Job, reply
 from .model import ServerGone
@@ -12,10 +14,23 @@ class Away:
 
     def __init__(self) -> None:
         self._jobs: dict[str, Job] = {}
+        self._handed: dict[str, int] = {}  # the log's record when it was handed on, by the mark
 
     def add(self, mark: str, job: Job) -> None:
         """This order may be in the log from now on."""
         self._jobs[mark] = job
+
+    def handed_on(self, mark: str, record: int) -> None:
+        """This order waits for the leader from now on, as long as the log goes on with this record."""
+        self._handed[mark] = record
+
+    def gone(self, waiting: Container[str], record: int) -> list[Job]:
+        """Those that were handed on and wait no more, as of this record of the log, all of which is known: they are surely not taken."""
+        return [
+            job
+            for mark, job in self._jobs.items()
+            if self._handed.get(mark) == record and mark not in waiting
+        ]
 
     def mark_of(self, command: Command) -> str | None:
         """The mark of the order that is this very one; None where it is none of these."""
@@ -46,3 +61,4 @@ class Away:
     def tidy(self) -> None:
         """Those for which nobody waits any more are forgotten."""
         self._jobs = {mark: job for mark, job in self._jobs.items() if not job.reply.done()}
+        self._handed = {mark: one for mark, one in self._handed.items() if mark in self._jobs}

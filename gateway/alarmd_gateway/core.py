@@ -18,7 +18,7 @@ from .clock import Clock, clocks
 from .commands import Command, Reload, Scan
 from .config import Config
 from .first_moment import FirstMoment
-from .jobs import UNKNOWN, Disturbances, Job, fail, reply
+from .jobs import UNKNOWN, Disturbances, Job, fail, reply, unread
 from .journal import Journal
 from .link import Link, NoReload, read_reload
 from .model import (
@@ -112,12 +112,17 @@ class Core:
     # what others ask of the core
 
     async def order(
-        self, order: Order, user: str | None = None, reason: str | None = None
+        self,
+        order: Order,
+        user: str | None = None,
+        reason: str | None = None,
+        seen: int | None = None,
     ) -> Reply:
-        """Records an order with its user and reason, sends it, and gives the answer (OK, O1 to O5, or E6). Raises ServerGone,
-        or ValueError where a word of the order can't stand in a line."""
+        """Records an order with its user and reason, sends it, and gives the answer (OK, O1 to O5, or E6). `seen` is the moment up to
+        which its alarm was read. Raises ServerGone, CameAgain where the alarm was annunciated behind that, or ValueError where a
+        word of the order can't stand in a line."""
         commands.check(order)
-        return await self._submit(order, user, reason)
+        return await self._submit(Job(order, user, reason, seen))
 
     async def reload(
         self, texts: Texts, user: str | None = None, reason: str | None = None
@@ -128,12 +133,11 @@ class Core:
             command = await read_reload(self.plant.path, texts)
         except GatewayFault as fault:
             raise NoReload(fault.words) from None
-        return await self._submit(command, user, reason)
+        return await self._submit(Job(command, user, reason))
 
-    async def _submit(self, command: Order | Reload, user: str | None, reason: str | None) -> Reply:
+    async def _submit(self, job: Job) -> Reply:
         if self._closing:
             raise ServerGone("the gateway ends", 1)
-        job = Job(command, user, reason)
         self._jobs.append(job)
         self._wake.set()
         return await job.reply
@@ -159,6 +163,11 @@ class Core:
     def has_room(self) -> bool:
         """Whether `offer` takes a sample of each input without waiting: they want a scan of their own at most, and room is left."""
         return self._queue.room > 1
+
+    @property
+    def may_write(self) -> bool:
+        """Whether outputs are written by this gateway now: asked right before each."""
+        return self.leads
 
     def subscribe(self, room: int = 1000) -> Subscription:
         """The changes from now on. Make it before the snapshot, and pass over changes up to the snapshot's number."""
@@ -277,6 +286,8 @@ class Core:
         self._taken.set()
 
     async def _order(self, job: Job) -> None:
+        if unread(job, self.state):
+            return
         try:
             if isinstance(job.command, Reload):
                 await self._link.ready_for(job.command)

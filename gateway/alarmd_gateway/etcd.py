@@ -20,6 +20,11 @@ class NoEtcd(Exception):
     """No answer came. What was asked may have been done, or may be done later."""
 
 
+class NotNow(NoEtcd):
+    """etcd has answered that it does nothing of the kind now, and hasn't done what was asked: its space is exceeded, or who asks may
+    not. The text has its words."""
+
+
 class EtcdRefused(Exception):
     """etcd has answered that it doesn't do what was asked, and hasn't done it."""
 

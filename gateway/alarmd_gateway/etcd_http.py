@@ -9,8 +9,9 @@ from collections.abc import Sequence
 
 import aiohttp
 
-from .etcd import Body, EtcdRefused, NoEtcd
+from .etcd import Body, EtcdRefused, NoEtcd, NotNow
 
+REFUSALS = (3, 7, 8, 16)  # by gRPC: an argument is wrong, not permitted, no room, nobody is known
 BESIDE = 4  # a node that is silent for this part of its time isn't waited for alone
 
 
@@ -108,7 +109,7 @@ class HttpEtcd:
         words = str(found.get("message") or found.get("error") or status)
         if "lease not found" in words:
             raise EtcdRefused(words)
-        raise NoEtcd(words)
+        raise NotNow(words) if found.get("code") in REFUSALS else NoEtcd(words)
 
     async def close(self) -> None:
         """See Etcd."""

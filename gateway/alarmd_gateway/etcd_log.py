@@ -17,7 +17,19 @@ from .etcd import TXN, Body, Etcd, EtcdRefused, NoEtcd
 from .identity import Identity
 from .leader import Leader, leader_of
 from .log_entries import PAGE, Entries
-from .log_view import Keys, Last, Marked, View, copy_path, last_by, last_of, marked, value_of
+from .log_view import (
+    Keys,
+    Last,
+    Marked,
+    View,
+    copy_path,
+    last_by,
+    last_of,
+    marked,
+    newest_copy,
+    newest_number,
+    value_of,
+)
 from .model import GatewayFault, Plant
 from .new_record import NewRecord
 from .record import Entry, FileRecord
@@ -55,8 +67,8 @@ class EtcdLog:
         return self._copy
 
     async def open(self, new_program: bool = False) -> None:
-        """Begins the log where there is none, opens the copy, and brings it up to the log's end. With `new_program` the log goes on
-        with this gateway's program. Raises NoEtcd, and GatewayFault: status 2 where the log or the copy is another plant's, the
+        """Begins the log where there is none, opens the copy, and brings it up to the log's end. With `new_program` the log may go on
+        with another program still. Raises NoEtcd, and GatewayFault: status 2 where the log or the copy is another plant's, the
         log of another program, or the copy of another log; 1 where the copy can't be written."""
         first = {"record": 1, "log": uuid.uuid4().hex, "entries": 0}
         begin = [etcd.put(self.keys.last, first), *self._own.begin()]
@@ -65,11 +77,16 @@ class EtcdLog:
         answer = await self.asks.ask([], reads)
         (last,), (kept,) = etcd.found(answer, 0), etcd.found(answer, 1)
         self._own.judge_files(kept)
-        if new_program:
-            await self.asks.ask([], [self._own.program()])
-        else:
+        if not new_program:
             self._own.judge_program(etcd.found(answer, 2))
+        if newest_number(self._path) > last_by(last).record:  # a later record would find it there
+            words = f"{newest_copy(self._path)} is of no record of this log: keep it elsewhere"
+            raise GatewayFault(words, 2)
         await self.begin(last_by(last))
+
+    async def go_on(self) -> None:
+        """The log goes on with this gateway's program from now on, and with no other one. Raises NoEtcd, EtcdRefused."""
+        await self.asks.ask([], [self._own.program()])
 
     async def begin(self, last: Last) -> None:
         """Goes over to a record: its copy is opened, and brought up to this end. Raises NoEtcd, NoCopy, GatewayFault."""
@@ -149,10 +166,14 @@ class EtcdLog:
         await self._extend(self.copy, [one.entry])
         self._known = Last(known.record, known.log, known.entries + 1, 0)
 
+    def has(self, last: Last) -> bool:
+        """Whether this gateway has the whole log up to this end."""
+        known = self._known
+        return (known.record, known.log, known.entries) == (last.record, last.log, last.entries)
+
     def lead(self, leader: Leader, last: Last) -> bool:
         """Whether this gateway, which leads by `leader`, has the whole log, and so may append to it from now on."""
-        known = self._known
-        if (known.record, known.log, known.entries) != (last.record, last.log, last.entries):
+        if not self.has(last):
             return False
         self.leads_since, self._known = leader.revision, last
         return True
@@ -228,11 +249,11 @@ class EtcdLog:
             self.follow()
             raise
 
-    async def request(self, mark: str, entry: Entry, lease: str) -> None:
-        """Hands an order on to the leader; it is withdrawn where the lease ends. Raises NoEtcd where it isn't known whether it is
-        handed on, EtcdRefused where it isn't."""
+    async def request(self, mark: str, entry: Entry, lease: str, seen: int | None = None) -> None:
+        """Hands an order on to the leader, with the moment up to which its alarm was read; it is withdrawn where the lease ends.
+        Raises NoEtcd where it isn't known whether it is handed on, EtcdRefused where it isn't."""
         parts = await self.entries.write_asked(mark, entry, lease)
-        value = etcd.put(self.keys.requests + mark, value_of(entry, mark, parts), lease)
+        value = etcd.put(self.keys.requests + mark, value_of(entry, mark, parts, seen), lease)
         words = etcd.transaction([], [value])
         await self.asks.etcd.post(TXN, words, once=True)  # never twice
 
@@ -243,7 +264,7 @@ class EtcdLog:
         return etcd.held(await self.asks.ask([etcd.present(key)], gone))
 
     async def drop(self, mark: str) -> None:
-        """Takes a request away that is no order. Raises NoEtcd."""
+        """Takes a request away that is no order, or isn't to be given. Raises NoEtcd."""
         await self.asks.ask([], [etcd.delete(self.keys.requests + mark)])
 
     def moved(self, plant: Plant) -> None:

@@ -34,7 +34,10 @@ class Field:
         self._spelled = {name.lower(): name for name, _ in map.limits}
         self._outputs = {one.name.lower(): one for one in map.outputs()}
         core.sampled = self._sampled
+        self._left_out = False  # whether an output wasn't written that is to be, once it may
         self._sources = sources(map, self._intake, core)
+        for source in self._sources:
+            source.may_write = self._may_write
         running = [source.run(self._current) for source in self._sources]
         watches = [self._watch_outputs(), self._watch_samples()]
         self._tasks = [asyncio.create_task(one) for one in (*running, *watches)]
@@ -48,9 +51,15 @@ class Field:
         for source in self._sources:
             source.close()
 
+    def _may_write(self) -> bool:
+        """Whether an output may be written now; what is left out is written later, where this gateway leads then."""
+        may = self._core.may_write
+        self._left_out = self._left_out or not may
+        return may
+
     def _current(self) -> dict[str, Value]:
-        """The outputs that a source writes once it is reached: none where another gateway leads."""
-        if not self._core.leads:
+        """The outputs that a source writes once it is reached: none where another gateway may lead."""
+        if not self._may_write():
             return {}
         pairs = (self._mapped(*pair) for pair in self._core.state.outputs.items())
         return dict(pair for pair in pairs if pair is not None)
@@ -70,8 +79,7 @@ class Field:
         """Hands each change of an output to the sources, in order."""
         while True:
             changes = self._core.subscribe()
-            for name, value in self._current().items():
-                self._put(name, value)
+            self._put_all()
             try:
                 async for change in changes:
                     if change.kind is ChangeKind.OUTPUT:
@@ -79,16 +87,21 @@ class Field:
                         if (mapped := self._mapped(name, value)) is not None:
                             self._put(*mapped)
                     elif change.kind in (ChangeKind.ANEW, ChangeKind.RELOADED):
-                        for name, value in self._current().items():
-                            self._put(name, value)
+                        self._put_all()
                 return  # the core has closed
             except CutOff:
                 pass
             finally:
                 changes.close()
 
+    def _put_all(self) -> None:
+        """Hands over all outputs, as they are now."""
+        self._left_out = False
+        for name, value in self._current().items():
+            self._put(name, value)
+
     def _put(self, name: str, value: Value) -> None:
-        if not self._core.leads:
+        if not self._may_write():
             return  # the leader writes outputs; all are written where this one leads
         for source in self._sources:
             source.put_output(name, value)
@@ -96,6 +109,8 @@ class Field:
     async def _watch_samples(self) -> None:
         while True:
             self._intake.look()
+            if self._left_out and self._core.may_write:
+                self._put_all()
             await asyncio.sleep(CHECK_SECONDS)
 
 

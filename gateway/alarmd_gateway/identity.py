@@ -52,7 +52,7 @@ class Identity:
         own = self._files
         changed = [name for name in {**own, **kept.value} if own.get(name) != kept.value.get(name)]
         if changed:
-            words = f"the log {self._keys.prefix} is of another plant: {changed[0]} differs"
+            words = f"the log {self._keys.prefix} is of another plant: {changed[0]} differs. Where a plant was taken up since its record began, copy record.plants from a gateway that has it"
             raise OtherPlant(words, kept.value)
 
     def judge_program(self, kept: Sequence[Kept]) -> None:

@@ -9,9 +9,14 @@ from typing import Protocol
 from .commands import Reload
 from .link import NoReload
 from .model import Order, Reply, ServerGone, Value, Variable
+from .state import State
 
 
 UNKNOWN = "it isn't known whether the order was taken: the journal tells"
+
+
+class CameAgain(Exception):
+    """An order that isn't given: its alarm was annunciated anew, and nobody has read that."""
 
 
 class Disturbances(Protocol):
@@ -29,11 +34,12 @@ class Disturbances(Protocol):
 
 @dataclass
 class Job:
-    """An order or a reload that waits, and whoever waits for its reply."""
+    """An order or a reload that waits, and whoever waits for its reply. `seen` is the moment up to which an order's alarm was read."""
 
     command: Order | Reload
     user: str | None
     reason: str | None
+    seen: int | None = None
     reply: asyncio.Future[Reply] = field(default_factory=asyncio.Future)
 
 
@@ -45,7 +51,15 @@ def reply(job: Job, answer: list[str]) -> None:
         job.reply.set_result(Reply(answer[0].partition(" ")[2], tuple(answer)))
 
 
-def fail(job: Job, fault: ServerGone | NoReload) -> None:
+def unread(job: Job, state: State) -> bool:
+    """Whether a job is an order whose alarm has come again since it was read. Who gave it is told then: it isn't to be given."""
+    if not isinstance(job.command, Order) or not state.came_again(job.command, job.seen):
+        return False
+    fail(job, CameAgain())
+    return True
+
+
+def fail(job: Job, fault: ServerGone | NoReload | CameAgain) -> None:
     """The order gets no reply."""
     if not job.reply.done():
         job.reply.set_exception(fault)

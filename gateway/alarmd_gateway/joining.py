@@ -3,6 +3,7 @@
 from __future__ import annotations
 
 import asyncio
+from collections.abc import Awaitable, Callable
 from pathlib import Path
 
 from . import kept
@@ -31,6 +32,8 @@ async def joined(config: Config, shared: SharedConfig, client: Etcd) -> tuple[Li
     link = Link(config, plant, server, log)
     try:
         link.book = await replayed(server, plant, log)
+        if shared.new_alarmd:  # it can play the log: those with the old one end
+            await answered(log.go_on)
     except BaseException:
         await link.close()
         raise
@@ -65,19 +68,19 @@ async def _begun(
     try:
         plant = plants.read(first)
         log = EtcdLog(client, Keys(shared.log), config.record, plant, config.alarmd)
-        await opened(log, shared.new_alarmd)
+        await answered(lambda: log.open(shared.new_alarmd))
     except BaseException:
         await server.kill()
         raise
     return server, plant, log
 
 
-async def opened(log: EtcdLog, new_program: bool) -> None:
-    """Opens the log; while etcd gives no answer it is tried again. Raises GatewayFault."""
+async def answered(ask: Callable[[], Awaitable[None]]) -> None:
+    """Asks the log for something; while etcd gives no answer it is tried again. Raises GatewayFault."""
     told = ""
     while True:
         try:
-            await log.open(new_program)
+            await ask()
             return
         except (NoEtcd, EtcdRefused) as fault:
             if told != str(fault):

@@ -51,6 +51,7 @@ class Candidate:
         self.name = name
         self.mark = uuid.uuid4().hex
         self.lease: str | None = None
+        self._lasts = 0.0  # by the loop's clock: until then the lease hasn't ended
         self._etcd = etcd
         self._key = key
         self._seconds = lease_seconds
@@ -66,19 +67,27 @@ class Candidate:
 
     async def beat(self) -> bool:
         """Asks for a lease where there is none, else for its whole time anew. Says whether it was given."""
+        begin = asyncio.get_running_loop().time()
         try:
             if self.lease is None:
                 answer = await self._etcd.post(GRANT, {"TTL": str(self._seconds)})
-                self.lease = str(answer["ID"])
+                self.lease, self._lasts = str(answer["ID"]), begin + self._seconds
                 return True
             answer = await self._etcd.post(KEEP, {"ID": self.lease})
             if int(answer.get("result", {}).get("TTL", "0")) <= 0:
                 self.lease = None
+            else:
+                self._lasts = begin + self._seconds
         except EtcdRefused:
             self.lease = None
         except NoEtcd:
             return False  # it may still be kept in time
         return self.lease is not None
+
+    def surely_has(self, lease: str | None) -> bool:
+        """Whether this is its lease, and can't have ended, however late this is asked: etcd has counted its time from later on."""
+        now = asyncio.get_running_loop().time()
+        return lease is not None and lease == self.lease and now < self._lasts
 
     async def stand(self) -> None:
         """Leads from now on where nobody does. Whether it does is seen by the key."""

@@ -14,11 +14,13 @@ from .texts import walk
 
 @dataclass(frozen=True)
 class Marked:
-    """An entry of the log, with the mark that its writer gave it, and the number of the parts of its texts."""
+    """An entry of the log, with the mark that its writer gave it, and the number of the parts of its texts. `seen` is the moment up to
+    which the alarm of an order that is handed on was read."""
 
     entry: Entry
     mark: str
     parts: int = 0
+    seen: int | None = None
 
 
 @dataclass(frozen=True)
@@ -75,17 +77,18 @@ class Keys:
         return f"{self.olds}{record:06}"
 
 
-def value_of(entry: Entry, mark: str, parts: int = 0) -> Body:
+def value_of(entry: Entry, mark: str, parts: int = 0, seen: int | None = None) -> Body:
     """An entry as its key has it; of a reload with the number of the parts of its texts."""
-    value = {"line": entry.line, "user": entry.user, "reason": entry.reason, "mark": mark}
-    return {**value, "parts": parts} if parts else value
+    value: Body = {"line": entry.line, "user": entry.user, "reason": entry.reason, "mark": mark}
+    value |= {"parts": parts} if parts else {}
+    return value if seen is None else {**value, "seen": seen}
 
 
 def marked(kept: Kept) -> Marked:
     """An entry by its key."""
     value = kept.value
     entry = Entry(value["line"], value["user"], value["reason"])
-    return Marked(entry, value["mark"], value.get("parts", 0))
+    return Marked(entry, value["mark"], value.get("parts", 0), value.get("seen"))
 
 
 def last_by(kept: Kept) -> Last:
@@ -100,9 +103,14 @@ def copy_path(record: Path, number: int) -> Path:
 
 def newest_copy(record: Path) -> Path:
     """The copy of the newest record that this gateway has; the first where it has none."""
+    return copy_path(record, newest_number(record))
+
+
+def newest_number(record: Path) -> int:
+    """The number of that record."""
     tails = (path.name.removeprefix(f"{record.name}.") for path in record.parent.glob("*"))
     numbers = [int(tail) for tail in tails if tail.isascii() and tail.isdigit()]
-    return copy_path(record, max(numbers, default=1))
+    return max(numbers, default=1)
 
 
 def last_of(path: Path) -> tuple[int, str]:

@@ -2,15 +2,21 @@
 
 from __future__ import annotations
 
+import math
 from collections.abc import Iterator
 
 from .etcd_log import EtcdLog
+from .leader import Candidate, Leader
+from .link import tell
 from .log_view import Last
 from .model import Figure
 from .troubles import TroubleKind, Troubles
 
 SILENT = 3.0  # seconds without an answer of etcd before that is a trouble
 GROWS = 6.0  # seconds in which the log of a plant that is scanned grows, where scans aren't fewer
+ALIKE = (
+    10.0  # seconds; the key of a process of this gateway's that has just ended may last for some
+)
 LOST = "etcd gives no answer: nothing is taken, and what is shown may be old"
 NOBODY = "no gateway scans: nothing comes into the log, and what is shown may be old"
 UNCOPIED = (
@@ -28,6 +34,7 @@ class LogWatch:
         self._grows = max(GROWS, 3 * period)
         self._known: Last | None = None
         self._grown = 0.0
+        self._alike: tuple[str, float] | None = None  # the mark of another that leads by this name
 
     def silence(self, now: float) -> float:
         """For how many seconds etcd has been silent."""
@@ -43,10 +50,21 @@ class LogWatch:
         fault = self._log.asks.fault
         words = f"etcd takes no command: {fault}" if fault else NOBODY
         uncopied = self._log.uncopied
-        self._set("", LOST if silent else "")
+        refusal = self._log.asks.refusal
+        self._set("", (f"{LOST} ({refusal})" if refusal else LOST) if silent else "")
         self._set("scans", words if still and not silent and not uncopied else "")
         self._set("copy", f"{UNCOPIED} ({uncopied})" if uncopied else "")
         return silent
+
+    def led_by(self, leader: Leader | None, own: Candidate, now: float) -> None:
+        """Tells where another gateway leads under this one's name: nobody could say which of them it is."""
+        if leader is None or leader.name != own.name or leader.mark == own.mark:
+            self._alike = None
+        elif self._alike is None or self._alike[0] != leader.mark:
+            self._alike = leader.mark, now
+        elif now - self._alike[1] > ALIKE:
+            self._alike = leader.mark, math.inf
+            tell(f"another gateway leads that is called {own.name!r} too: each wants its own name")
 
     def words(self) -> str:
         """Why nothing is taken."""

@@ -8,7 +8,7 @@ from collections.abc import Callable, Coroutine
 from typing import Any
 
 from .guard import Refused
-from .model import Json, Order, Verb
+from .model import LAST_MOMENT, Json, Order, Verb
 from .view import View
 
 LONGEST_REASON = 200  # characters
@@ -22,7 +22,7 @@ Given = tuple[dict[str, Json], asyncio.Task[Json]]  # an order's body, and what 
 
 def read_order(given: dict[str, Json]) -> tuple[Order, str | None]:
     """The order and the reason of a body; console 0 where none is given. Raises Refused (400)."""
-    unknown = set(given) - {"order", "target", "console", "milliseconds", "reason"}
+    unknown = set(given) - {"order", "target", "console", "milliseconds", "reason", "seen"}
     if unknown:
         raise Refused(400, f"'{sorted(unknown)[0][:40]}' is no key of an order")
     target, console = given.get("target"), given.get("console", 0)
@@ -68,6 +68,18 @@ def with_console(order: Order, view: View) -> Order:
     if console is None:
         raise Refused(403, "none of your consoles is for this alarm's area")
     return Order(order.verb, console.number, order.target, order.milliseconds)
+
+
+def read_seen(given: dict[str, Json]) -> int | None:
+    """The moment up to which whoever acknowledges an alarm has read it; None where none is given. Raises Refused (400)."""
+    seen = given.get("seen")
+    if seen is None:
+        return None
+    if given.get("order") != Verb.ACK.value:
+        raise Refused(400, "only ack has seen")
+    if type(seen) is not int or not 0 <= seen <= LAST_MOMENT:
+        raise Refused(400, "seen has to be a moment, as since of an alarm")
+    return seen
 
 
 def read_mark(given: Json) -> str | None:

@@ -64,6 +64,7 @@ class SharedCore(Core):
         self._watching = LogWatch(log, link.troubles, config.period_ms / 1000)
         self._latest = Latest(max(OLDER, 3 * config.period_ms / 1000))
         self._orders = SharedOrders(link, log, self._jobs, self._tell)
+        self._lease: str | None = None  # the one by which this gateway leads
         self._leader = ""
         self._end: Last | None = None  # the log's end at the last look
         self._looked = -1.0
@@ -106,14 +107,14 @@ class SharedCore(Core):
 
     # what others ask of the core
 
-    async def _submit(self, command: Order | Reload, user: str | None, reason: str | None) -> Reply:
+    async def _submit(self, job: Job) -> Reply:
         """See Core. ServerGone says whether the order may have been taken."""
-        asked = asyncio.ensure_future(super()._submit(command, user, reason))
-        patience = ORDER if isinstance(command, Order) else RELOAD
+        asked = asyncio.ensure_future(super()._submit(job))
+        patience = ORDER if isinstance(job.command, Order) else RELOAD
         done, _ = await asyncio.wait({asked}, timeout=patience)
         if done:
             return asked.result()
-        taken_back = await self._taken_back(command)
+        taken_back = await self._taken_back(job.command)
         if asked.done():
             return asked.result()
         asked.cancel()
@@ -137,6 +138,11 @@ class SharedCore(Core):
             await super().offer(sample)
         elif self.sampled is not None and sample.fresh:
             self.sampled(variable.name)
+
+    @property
+    def may_write(self) -> bool:
+        """See Core. Not where the lease may have ended: another gateway may have written something else by then."""
+        return self.leads and self._candidate.surely_has(self._lease)
 
     def snapshot(self) -> Snapshot:
         """See Core. `log` has who leads, and how long the log is that this gateway has."""
@@ -212,9 +218,10 @@ class SharedCore(Core):
             raise
 
     async def _may_lead(self, view: View) -> bool:
-        """Whether this gateway leads, and has the whole log. Else it stands where nobody does, or waits."""
+        """Whether this gateway leads, and has the whole log. Else it stands where nobody leads and it has that, or waits."""
         leader = view.leader
         self._leader = leader.name if leader else ""
+        self._watching.led_by(leader, self._candidate, self._looked)
         if leader is not None and self._own(view) and self._log.lead(leader, view.last):
             self._step_up()
             for request in view.requests:
@@ -224,7 +231,7 @@ class SharedCore(Core):
         if self.leads:
             self._step_down()
         await self._orders.hand_on(self._candidate.lease)
-        if leader is None and self._candidate.lease is not None:
+        if leader is None and self._candidate.lease is not None and self._log.has(view.last):
             await self._candidate.stand()
         elif not view.fresh:
             await self._pause()
@@ -239,7 +246,7 @@ class SharedCore(Core):
         """Scans begin, by the time of day or the log's last moment, with the last sample of each input."""
         if self.leads:
             return
-        self.leads = True
+        self.leads, self._lease = True, self._candidate.lease
         tell(f"{self._name} leads from now on")
         self._begin()
         self._due = 0.0
@@ -288,6 +295,7 @@ class SharedCore(Core):
             await self._go_over(view)
         if view.fresh:
             self._renewal.look_at_history()
+        self._orders.refused(view)
 
     async def _go_over(self, view: View) -> None:
         plant = await self._link.next_plant()

@@ -13,6 +13,7 @@
 
 from __future__ import annotations
 
+import ipaddress
 import re
 import ssl
 from dataclasses import dataclass
@@ -23,6 +24,9 @@ from .config import Config, Table
 from .model import GatewayFault
 
 _NAME: Final = re.compile(r"[A-Za-z0-9_.-]{1,64}", re.ASCII)
+_NODE: Final = re.compile(r"(https?)://(\[[^]]+\]|[^][:/]+)(?::([0-9]{1,5}))?/?", re.ASCII)
+_HOST: Final = re.compile(r"[a-z0-9_-]{1,63}(\.[a-z0-9_-]{1,63})*", re.ASCII | re.IGNORECASE)
+_NUMBERS: Final = re.compile(r"[0-9.]+", re.ASCII)
 
 
 @dataclass(frozen=True)
@@ -41,7 +45,7 @@ class SharedConfig:
 def shared_config(config: Config) -> SharedConfig:
     """The table as it stands in the configuration. Raises GatewayFault (status 2)."""
     table = config.table("etcd")
-    endpoints = tuple(table.texts("endpoints"))
+    endpoints = _nodes(table)
     log, gateway = table.text("log"), table.text("gateway")
     lease = table.number("lease_s", 2, 2, 60)
     seconds = table.number("timeout_ms", 1000, 100, 60_000) / 1000
@@ -51,6 +55,33 @@ def shared_config(config: Config) -> SharedConfig:
         if not _NAME.fullmatch(name):
             raise table.wrong(key, "a word of at most 64 letters, digits, `_`, `.` and `-`")
     return SharedConfig(endpoints, log, gateway, lease, seconds, config.new_alarmd, tls)
+
+
+def _nodes(table: Table) -> tuple[str, ...]:
+    """The addresses of the nodes, without a slash at their ends, each once. Raises GatewayFault."""
+    found: dict[tuple[str, int], str] = {}
+    for text in table.texts("endpoints"):
+        node = _NODE.fullmatch(text)
+        port = int(node[3] or (443 if node[1] == "https" else 80)) if node else 0
+        if node is None or not _is_host(node[2]) or not 1 <= port <= 65_535:
+            words = f"addresses like http://127.0.0.1:2379, and {text[:80]!r} is none"
+            raise table.wrong("endpoints", words)
+        if (node[2].lower(), port) in found:
+            raise table.wrong("endpoints", f"of different nodes, and {text[:80]!r} is there twice")
+        found[node[2].lower(), port] = text.rstrip("/")
+    return tuple(found.values())
+
+
+def _is_host(text: str) -> bool:
+    """Whether this may be a host: a name, four numbers, or an address of IPv6 in brackets."""
+    try:
+        if text.startswith("["):
+            return ipaddress.IPv6Address(text[1:-1]) is not None
+        if _NUMBERS.fullmatch(text):
+            return ipaddress.IPv4Address(text) is not None
+    except ValueError:
+        return False
+    return len(text) <= 253 and _HOST.fullmatch(text.removesuffix(".")) is not None
 
 
 def _tls(table: Table, endpoints: tuple[str, ...]) -> ssl.SSLContext | None:

@@ -11,11 +11,12 @@ from collections.abc import Callable
 from . import commands
 from .away import Away
 from .commands import Command, Reload, Scan
-from .jobs import UNKNOWN, Job, fail
-from .etcd import EtcdRefused, NoEtcd
+from .jobs import UNKNOWN, Job, fail, unread
+from .etcd import EtcdRefused, NoEtcd, NotNow
 from .etcd_log import EtcdLog
 from .link import Link, NoReload, entry_of, prepared
-from .log_view import Marked
+from .log_entries import PAGE
+from .log_view import Marked, View
 from .model import GatewayFault, Order
 from .record import Entry
 from .state import Happening
@@ -38,6 +39,8 @@ class SharedOrders:
     async def append(self, job: Job) -> None:
         """An order that was given here, where this gateway leads. Raises Deposed."""
         if not await self._ready(job) or job.reply.done():  # who gave it was told meanwhile
+            return
+        if unread(job, self._link.book.state):
             return
         mark = uuid.uuid4().hex
         entry = entry_of(job.command, job.user, job.reason)
@@ -77,7 +80,7 @@ class SharedOrders:
         if isinstance(order, Reload):
             with contextlib.suppress(NoReload):
                 await self._link.ready_for(order)
-        if order is None or isinstance(order, Scan):
+        if order is None or isinstance(order, Scan) or self._came_again(order, request.seen):
             await self._log.drop(request.mark)
             return True
         try:
@@ -88,6 +91,17 @@ class SharedOrders:
             return False
         await self._appended(request.mark, order, request.entry)
         return True
+
+    def _came_again(self, command: Command, seen: int | None) -> bool:
+        return isinstance(command, Order) and self._link.book.state.came_again(command, seen)
+
+    def refused(self, view: View) -> None:
+        """Tells of the orders whose alarms have come again since they were read, and which the leader hasn't taken: they wait no more,
+        and aren't in the log, all of which this gateway has."""
+        if self._log.has(view.last) and len(view.requests) < PAGE:
+            waiting = {request.mark for request in view.requests}
+            for job in self.away.gone(waiting, view.last.record):
+                unread(job, self._link.book.state)
 
     async def _appended(self, mark: str, order: Order | Reload, entry: Entry) -> None:
         try:
@@ -116,14 +130,18 @@ class SharedOrders:
                 continue
             if not await self._ready(job) or job.reply.done():
                 continue
+            if unread(job, self._link.book.state):
+                continue
             self.away.add(mark, job)
             entry = entry_of(job.command, job.user, job.reason)
             try:
-                await self._log.request(mark, entry, lease)
-            except EtcdRefused:
+                await self._log.request(mark, entry, lease, job.seen)
+            except (EtcdRefused, NotNow):
                 self.away.drop(mark)
-                self._jobs.appendleft(job)
+                if not job.reply.done():
+                    self._jobs.appendleft(job)
                 raise
+            self.away.handed_on(mark, self._log.known.record)
             if job.reply.done():  # who gave it was told meanwhile, and couldn't take it back yet
                 await self.withdraw(job.command)
         self.away.tidy()

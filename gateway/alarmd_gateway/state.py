@@ -25,7 +25,8 @@ class AlarmState:
     """An alarm with its code. `since` is the moment of the last change, None where there was none yet.
 
     `shelved_until` is the moment at which a shelving ends (a scan sees it), None where the alarm isn't shelved.
-    `user` and `reason` are those of the order that shelved it or took it out of service, as the record has them.
+    `user` and `reason` are those of the order that shelved it or took it out of service, as the record has them. `came` is the moment
+    at which it was annunciated last, None where it wasn't.
     """
 
     row: AlarmRow
@@ -34,6 +35,7 @@ class AlarmState:
     shelved_until: int | None = None
     user: str | None = None
     reason: str | None = None
+    came: int | None = None
 
     def json(self, plant: Plant) -> dict[str, Json]:
         """`tag`, `area`, `priority`, `text`, `code`, `since`, `since_time`, `shelved_until`, `shelved_until_time`, `user`,
@@ -173,6 +175,8 @@ class State:
 
     def _moved(self, moment: int, alarm: AlarmState, code: Code) -> AlarmMoved:
         before, alarm.code, alarm.since = alarm.code, code, moment
+        if code is Code.UNACK:
+            alarm.came = moment
         if code is not Code.SHELVED:
             alarm.shelved_until = None
         if code not in _ASIDE:
@@ -206,6 +210,11 @@ class State:
             alarm.user, alarm.reason = user, reason
         return [moved]
 
+    def came_again(self, order: Order, seen: int | None) -> bool:
+        """Whether the alarm of an order has been annunciated anew behind the moment up to which whoever gives it has read it."""
+        alarm = self.by_tag.get(order.target)
+        return seen is not None and alarm is not None and (alarm.came or 0) > seen
+
     def reloaded(self, plant: Plant, listing: Sequence[str]) -> State:
         """The state after a reload of this plant, with what the server has answered to `list` then. What is told of an alarm stays where
         its tag and its latch are the same; the server tells the codes. An input or an output keeps its value where its name, in any
@@ -220,7 +229,7 @@ class State:
             old = self.by_tag.get(alarm.row.tag)
             if old is not None and old.row.latch == alarm.row.latch:
                 alarm.since, alarm.shelved_until = old.since, old.shelved_until
-                alarm.user, alarm.reason = old.user, old.reason
+                alarm.user, alarm.reason, alarm.came = old.user, old.reason, old.came
             alarm.code = codes.get(alarm.row.tag, Code.NORM)
         new._keep_values(self)
         return new

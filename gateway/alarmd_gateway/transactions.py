@@ -5,7 +5,7 @@ from __future__ import annotations
 import asyncio
 from collections.abc import Sequence
 
-from .etcd import TXN, Body, Etcd, NoEtcd, get, transaction
+from .etcd import TXN, Body, Etcd, NoEtcd, NotNow, get, transaction
 from .model import GatewayFault
 
 AGAIN = 0.1  # seconds between two tries
@@ -32,13 +32,21 @@ class Transactions:
     def __init__(self, etcd: Etcd) -> None:
         self.etcd = etcd
         self.heard = 0.0  # when a transaction was answered last, by the loop's clock
+        self.refusal = (
+            ""  # what etcd says to all that is asked of it; empty where it answers, or says nothing
+        )
         self.fault = ""  # why the last one that had to hold at most once got no answer; empty where it got one
 
     async def ask(
         self, compare: Sequence[Body], success: Sequence[Body], failure: Sequence[Body] = ()
     ) -> Body:
         """A transaction that may be carried out twice. Raises NoEtcd, EtcdRefused."""
-        answer = await self.etcd.post(TXN, transaction(compare, success, failure))
+        try:
+            answer = await self.etcd.post(TXN, transaction(compare, success, failure))
+        except NoEtcd as fault:
+            self.refusal = str(fault) if isinstance(fault, NotNow) else self.refusal
+            raise
+        self.refusal = ""
         self.heard = asyncio.get_running_loop().time()
         return answer
 

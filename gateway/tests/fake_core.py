@@ -8,6 +8,7 @@ from pathlib import Path
 
 from alarmd_gateway.changes import Board, ChangeKind, Subscription
 from alarmd_gateway.core import Core, Question, Snapshot
+from alarmd_gateway.jobs import CameAgain
 from alarmd_gateway.journal import Journal
 from alarmd_gateway.model import (
     AlarmRow,
@@ -154,8 +155,14 @@ class FakeCore(Core):
         self._tell(ChangeKind.QUESTION, question.json())
 
     async def order(
-        self, order: Order, user: str | None = None, reason: str | None = None
+        self,
+        order: Order,
+        user: str | None = None,
+        reason: str | None = None,
+        seen: int | None = None,
     ) -> Reply:
+        if self.state.came_again(order, seen):
+            raise CameAgain
         self.orders.append((order, user, reason))
         lines = self._answer(order)
         happened = self.state.order(order, lines, user, reason)

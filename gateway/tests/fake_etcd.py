@@ -9,7 +9,7 @@ from collections.abc import Callable
 from dataclasses import dataclass
 from typing import Any
 
-from alarmd_gateway.etcd import GRANT, KEEP, REVOKE, TXN, Body, EtcdRefused, NoEtcd
+from alarmd_gateway.etcd import GRANT, KEEP, REVOKE, TXN, Body, EtcdRefused, NoEtcd, NotNow
 
 
 @dataclass
@@ -51,7 +51,7 @@ class FakeEtcd:
             self._under_way.append((path, body))
             raise NoEtcd("late")
         if self.refusal and path == TXN and writes(body["success"]):
-            raise NoEtcd(self.refusal)
+            raise NotNow(self.refusal)
         if self.deaf:
             self.deaf -= 1
             raise NoEtcd("deaf")

@@ -20,6 +20,7 @@ from whole_help import NoVerdict
 
 ENDLESS = float("inf")
 NOT_ANSWERED = (OSError, ValueError, http.client.HTTPException)
+UNREAD = 409  # of an alarm that has come again since it was read
 TAGS = ("LAH-101", "LAL-101", "FAL-103", "RAH-104")
 
 
@@ -59,6 +60,13 @@ def faults(history: Sequence[Given], rows: Sequence[dict[str, Any]]) -> list[str
             wrong.append(f"{one.mark} stands after an order that was given when it was answered")
         latest = max(latest, one.begin)
     return wrong
+
+
+def since(client: Client, tag: str) -> int | None:
+    """Since when an alarm stands as it does, on this page."""
+    alarms = client.ask("/api/state").json["alarms"]
+    found = next(one["since"] for one in alarms if one["tag"] == tag)
+    return found if isinstance(found, int) else None
 
 
 class Load:
@@ -140,11 +148,13 @@ class Load:
     def _give(self, client: Client, mark: str, chance: random.Random) -> bool:
         """Gives one order; says whether the session goes on."""
         word = chance.choice(("ack", "ack", "shelve", "unshelve", "remove", "return", "reset"))
-        more = {"milliseconds": 2000} if word == "shelve" else {}
-        given = Given(mark, time.monotonic())
-        self.history.append(given)
+        tag = chance.choice(TAGS)
+        more: dict[str, int | None] = {"milliseconds": 2000} if word == "shelve" else {}
         try:
-            answer = client.order(word, chance.choice(TAGS), reason=mark, console=1, **more)
+            more = {"seen": since(client, tag)} if word == "ack" else more
+            given = Given(mark, time.monotonic())
+            self.history.append(given)
+            answer = client.order(word, tag, reason=mark, console=1, **more)
             found = answer.json
         except NOT_ANSWERED:
             return False
@@ -152,7 +162,7 @@ class Load:
             given.reply, given.end = str(found["reply"]), time.monotonic()
         elif answer.status != 503 or "wasn't taken" in str(found):
             given.reply = "-"
-        return answer.status in (200, 503)
+        return answer.status in (200, UNREAD, 503)
 
     def close(self) -> None:
         """Nothing is given any more. Who waits for a gateway that does nothing is left alone."""

@@ -288,6 +288,21 @@ def test_an_order_that_was_refused_may_come_again_with_its_mark(
     assert len(guarded_plant.core.orders) == 1
 
 
+def test_what_has_come_again_since_it_was_read_is_not_acknowledged(guarded_plant: Served) -> None:
+    anna, core = as_user(guarded_plant, "anna"), guarded_plant.core
+    came = core.state.by_tag["A1"].since or 0
+    guarded_plant.do(lambda: core.scan(came + 1000, {"A1": Code.RTNUN}))
+    guarded_plant.do(lambda: core.scan(came + 2000, {"A1": Code.UNACK}))
+    for _ in range(2):  # an order that wasn't given may come again with its mark
+        unread = anna.order("ack", "A1", seen=came + 1000, mark="one")
+        assert error(unread) == (409, "it has come again since it was read")
+    assert core.orders == []
+    for seen in (-1, 1.5, "1", True, 4_000_000_000_001):
+        assert anna.order("ack", "A1", seen=seen).status == 400
+    assert error(anna.order("shelve", "A1", seen=1, **SHELVE)) == (400, "only ack has seen")
+    assert anna.order("ack", "A1", seen=came + 2000).json["taken"]
+
+
 def test_a_user_orders_from_the_users_own_consoles_alone(guarded_plant: Served) -> None:
     bert = as_user(guarded_plant, "bert")
     assert error(bert.order("ack", "A1")) == (403, "none of your consoles is for this alarm's area")

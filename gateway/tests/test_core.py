@@ -18,6 +18,7 @@ from around import config_for, plant_copy, until
 from alarmd_gateway.changes import Change, ChangeKind, CutOff
 from alarmd_gateway.config import Config
 from alarmd_gateway.core import Core
+from alarmd_gateway.jobs import CameAgain
 from alarmd_gateway.metrics import Annunciations
 from alarmd_gateway.model import BadSample, Code, GatewayFault, Order, Sample, ServerGone, Verb
 from alarmd_gateway.record import peek
@@ -78,6 +79,30 @@ def test_samples_alarms_and_orders(config: Config) -> None:
                 await core.order(Order(Verb.ACK, 1, "LAL-101\nscan 4000000000000"))
             row = next(row for row in core.journal.rows() if row.words[0] == "ORDER")
             assert (row.user, row.reason) == ("anna", "seen")
+
+    run(work())
+
+
+def test_an_alarm_that_has_come_again_since_it_was_read_is_not_acknowledged(config: Config) -> None:
+    async def work() -> None:
+        async with served(config) as core:
+            await give(core, RUNNING="true", level=250, flow=100)
+            await until(lambda: core.state.scanned)
+            came = core.state.by_tag["LAL-101"].since
+            await give(core, level=500)
+            await until(lambda: code_of(core, "LAL-101") == "RTNUN")
+            seen = core.state.by_tag["LAL-101"].since
+            assert came is not None and seen is not None and seen > came
+            await give(core, level=250)
+            await give(core, level=251)  # so a scan comes before the order
+            with pytest.raises(CameAgain):
+                await core.order(Order(Verb.ACK, 1, "LAL-101"), "anna", None, seen)
+            assert code_of(core, "LAL-101") == "UNACK"
+            assert not [row for row in core.journal.rows() if row.words[0] == "ORDER"]
+            seen = core.state.by_tag["LAL-101"].since
+            await give(core, level=500)  # it has returned meanwhile, and not come again
+            assert (await core.order(Order(Verb.ACK, 1, "LAL-101"), "anna", None, seen)).taken
+            assert (await core.order(Order(Verb.ACK, 1, "NONE"), "anna", None, 0)).code == "O1"
 
     run(work())
 

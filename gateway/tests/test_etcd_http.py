@@ -16,10 +16,11 @@ from aiohttp import web
 from certificates import Authority, Certificate
 
 from alarmd_gateway.config import Config
-from alarmd_gateway.etcd import TXN, EtcdRefused, NoEtcd
+from alarmd_gateway.etcd import TXN, EtcdRefused, NoEtcd, NotNow
 from alarmd_gateway.etcd_http import HttpEtcd
 from alarmd_gateway.model import GatewayFault
 from alarmd_gateway.shared_config import client_tls, shared_config
+from alarmd_gateway.transactions import Transactions
 
 Handler = Callable[[], Awaitable[web.Response]]
 CLOSED = "http://127.0.0.1:1"  # nobody listens there
@@ -355,3 +356,27 @@ def test_tls_in_the_configuration(tmp_path: Path) -> None:
         with pytest.raises(GatewayFault, match=words) as fault:
             shared_config(configured(tmp_path, **wrong))
         assert fault.value.status == 2
+
+
+@pytest.mark.parametrize(
+    ("status", "code", "words"),
+    [
+        (429, 8, "etcdserver: mvcc: database space exceeded"),
+        (400, 3, "etcdserver: user name is empty"),
+        (503, 14, "etcdserver: request timed out"),  # it may be done later
+    ],
+)
+def test_what_etcd_surely_has_not_done(status: int, code: int, words: str) -> None:
+    node = Node(status, {"error": words, "code": code, "message": words})
+
+    async def work() -> None:
+        async with nodes(node) as ends:
+            client = HttpEtcd(ends, 5.0)
+            asks = Transactions(client)
+            with pytest.raises(NoEtcd, match=words) as told:
+                await asks.ask([], [])
+            await client.close()
+            assert isinstance(told.value, NotNow) is (code != 14)
+            assert asks.refusal == ("" if code == 14 else words)
+
+    asked(work)

@@ -492,6 +492,27 @@ def test_a_copy_goes_on(tmp_path: Path, plant: Plant) -> None:
     trial(work, tmp_path, plant)
 
 
+def test_a_copy_of_a_record_that_is_still_to_come_is_refused(tmp_path: Path, plant: Plant) -> None:
+    """As those of a log whose etcd was lost: else all gateways would end at a new record, months later."""
+
+    async def work(etcd: FakeEtcd, side: Sides) -> None:
+        (tmp_path / "a").mkdir()
+        old = tmp_path / "a" / "record.2"
+        old.write_text("# of a log that was there before\n")
+        with pytest.raises(GatewayFault, match="record.2 is of no record of this log") as fault:
+            await side("a")
+        assert fault.value.status == 2
+        old.unlink()
+        a = await side("a")
+        await a.lead()
+        await a.log.succeed([Entry("scan 1")])
+        assert a.log.known.record == 2
+        a.log.close()
+        await side("a")
+
+    trial(work, tmp_path, plant)
+
+
 def test_another_plant_is_refused(tmp_path: Path, plant: Plant) -> None:
     async def work(etcd: FakeEtcd, side: Sides) -> None:
         await side("a")
@@ -587,6 +608,37 @@ def test_keys_and_values() -> None:
     assert Keys("tank").entry(1, 20) < Keys("tank").entry(1, 100) < Keys("tank").entry(2, 1)
 
 
+NODE = "http://127.0.0.1:2379"
+NO_NODES = [
+    "",
+    "127.0.0.1:2379",
+    "https://127.0.0.1:2380",  # the other one has http
+    "http://",
+    "http:///",
+    "http://:2379",
+    "http://127.0.0.1:",
+    "http://127.0.0.1:0",
+    "http://127.0.0.1:65536",
+    "http://127.0.0.1:2379x",
+    "http://127.0.0.300:2379",
+    "http://[::1:2379",
+    "http://[::x]:2379",
+    "http://::1:2379",
+    "http://a..b:2379",
+    "http://a b:2379",
+    " http://a:2379",
+    "http://a:2379 ",
+    "http://a:2379\n",
+    "http://a,http://b",
+    "http://anna:secret@a:2379",
+    "http://a:2379/etcd",
+    "http://a:2379?b",
+    "http://a:2379#b",
+    "http://127.0.0.1:2379/",  # it is there already
+    "http://127.0.0.1:02379",
+]
+
+
 @pytest.mark.parametrize(
     ("change", "words"),
     [
@@ -594,6 +646,7 @@ def test_keys_and_values() -> None:
         ({"gateway": ""}, "'gateway'"),
         ({"endpoints": []}, "'endpoints'"),
         ({"endpoints": ["ftp://x"]}, "'endpoints'"),
+        *(({"endpoints": [NODE, bad]}, "'endpoints'") for bad in NO_NODES),
         ({"lease_s": 1}, "'lease_s'"),
         ({"more": 1}, "'more'"),
     ],
@@ -606,3 +659,10 @@ def test_a_table_that_is_wrong(tmp_path: Path, change: dict[str, object], words:
     with pytest.raises(GatewayFault, match=words) as fault:
         shared_config(bad)
     assert fault.value.status == 2
+
+
+def test_addresses_of_nodes(tmp_path: Path) -> None:
+    ends = ["http://127.0.0.1:2379/", "http://127.0.0.1:2380", "http://[::1]:2379", "http://N1.a.b"]
+    table = {"endpoints": ends, "log": "tank", "gateway": "a"}
+    found = shared_config(Config(tmp_path, tmp_path, tmp_path, tmp_path, tables={"etcd": table}))
+    assert found.endpoints == ("http://127.0.0.1:2379", *ends[1:])

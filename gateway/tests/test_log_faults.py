@@ -208,6 +208,8 @@ def test_another_program(tmp_path: Path, plant: Plant) -> None:
             await b.log.open()
         assert fault.value.status == 2
         await b.log.open(new_program=True)
+        await a.log.look()
+        await b.log.go_on()
         with pytest.raises(Deposed) as deposed:
             await a.log.append(Entry("scan 1"))
         assert deposed.value.sure
@@ -306,9 +308,16 @@ def test_etcd_takes_no_command(
         await until(lambda: told(first, "scans") and told(second, "scans"), "both say so")
         texts = [one.text for one in first.troubles if one.subject == "scans"]
         assert texts == ["etcd takes no command: etcdserver: mvcc: database space exceeded"]
+        for core in (first, second):
+            with pytest.raises(ServerGone, match="the order wasn't taken"):
+                await core.order(Order(Verb.REMOVE, 1, "LAL-101"))
         pair.etcd.refusal = ""
         await until(lambda: not told(first, "scans") and not told(second, "scans"), "it ends")
+        assert (await second.order(Order(Verb.ACK, 1, "LAL-101"))).code == "OK"
+        rows = [row.words[2] for row in second.journal.rows() if row.words[0] == "ORDER"]
+        assert rows == ["ack"]
 
+    monkeypatch.setattr(shared, "ORDER", 1.0)
     monkeypatch.setattr(log_watch, "GROWS", 0.5)
     monkeypatch.setattr(transactions, "PATIENCE", 0.5)
     pair_trial(Pair(alarmd, tmp_path, tank), work)
@@ -340,5 +349,34 @@ def test_another_program_joins(alarmd: Path, tmp_path: Path) -> None:
         other.chmod(0o755)
         with pytest.raises(GatewayFault, match="another alarmd"):
             await pair.join("b", alarmd=other)
+
+    pair_trial(Pair(alarmd, tmp_path, tank), work)
+
+
+@pytest.mark.server
+def test_another_program_that_can_not_play_the_log_ends_no_other_gateway(
+    alarmd: Path, tmp_path: Path
+) -> None:
+    """As one that is older than a command in it."""
+
+    async def work(pair: Pair) -> None:
+        a = await pair.join("a")
+        await until(lambda: a.leads, "a leads")
+        await give(a, running=True, level=250, flow=100)
+        await until(lambda: a.state.events > 5, "scans")
+        other = tmp_path / "alarmd"
+        three = 'for line in 1 2 3; do read -r line; echo "$line"; done'
+        other.write_text(f'#!/bin/sh\n{three} | {alarmd} "$@"\n')
+        other.chmod(0o755)
+        with pytest.raises(GatewayFault, match="alarmd has ended"):
+            await pair.join("b", alarmd=other, new_alarmd=True)
+        events = a.state.events
+        await until(lambda: a._closing or a.state.events > events + 3, "it goes on")
+        assert not a._closing
+        other.write_text(f'#!/bin/sh\nexec {alarmd} "$@"\n')
+        c = await pair.join("c", alarmd=other, new_alarmd=True)
+        await until(lambda: c.leads, "the log goes on with the other one")
+        with pytest.raises(GatewayFault, match="another alarmd"):
+            await pair.served.pop(0).close()
 
     pair_trial(Pair(alarmd, tmp_path, tank), work)

@@ -16,6 +16,7 @@ import pytest
 from pymodbus.client import ModbusTcpClient
 
 from alarmd_gateway import plant as plants
+from alarmd_gateway.fields import modbus
 from alarmd_gateway.fields.modbus import ModbusClient, blocks
 from alarmd_gateway.mapping import Area, Form, ModbusSource, Point, Retry, Scale
 from alarmd_gateway.model import Plant, Value, Variable
@@ -128,6 +129,43 @@ def test_inputs_outputs_loss_and_return(examples: Path, device: Device) -> None:
             await until(lambda: not kept.standing() and len(now()) == 4)
             await until(lambda: field.read_coils(10, 1).bits[0])
             await until(lambda: field.read_holding_registers(20, 2).registers == [0, 5])
+        finally:
+            await running.close()
+
+    asyncio.run(body())
+
+
+def test_what_waits_is_not_written_where_another_gateway_may_lead_by_then(
+    examples: Path, device: Device, monkeypatch: pytest.MonkeyPatch
+) -> None:
+    """As behind a reading that takes long."""
+
+    async def body() -> None:
+        kept = Kept(tank(examples), outputs={"pump": True})
+        plc = ModbusClient(source(kept.plant, device.port), kept.intake())
+        running, field, read = Running(plc, kept), device.client, plc._read
+        reading, gate, reads = asyncio.Event(), asyncio.Event(), 0
+
+        async def slow(given: modbus.Device) -> None:
+            nonlocal reads
+            reading.set()
+            await gate.wait()
+            reads += 1
+            await read(given)
+
+        try:
+            await device.there()
+            await until(lambda: plc.is_up and field.read_coils(10, 1).bits[0])
+            monkeypatch.setattr(plc, "_read", slow)
+            await reading.wait()
+            plc.put_output("pump", False)
+            plc.may_write = lambda: False
+            gate.set()
+            await until(lambda: reads > 3)
+            assert field.read_coils(10, 1).bits[0]
+            plc.may_write = lambda: True
+            plc.put_output("pump", False)
+            await until(lambda: not field.read_coils(10, 1).bits[0])
         finally:
             await running.close()
 

@@ -118,7 +118,9 @@ def test_acknowledge_one(site: Served, page: Page) -> None:
 def test_an_order_that_is_under_way_isnt_given_again(site: Served, page: Page) -> None:
     core, door = site.core, threading.Event()
 
-    async def slow(order: Order, user: str | None = None, reason: str | None = None) -> Reply:
+    async def slow(
+        order: Order, user: str | None, reason: str | None, seen: int | None = None
+    ) -> Reply:
         core.orders.append((order, user, reason))
         await asyncio.to_thread(door.wait, 60)
         return Reply("OK", ())
@@ -142,7 +144,9 @@ def test_of_an_order_without_an_answer_it_isnt_said_that_it_wasnt_taken(
     core, take, door = site.core, site.core.order, threading.Event()
     gone = f"alarmd has ended, so {UNKNOWN}"
 
-    async def slow(order: Order, user: str | None = None, reason: str | None = None) -> Reply:
+    async def slow(
+        order: Order, user: str | None, reason: str | None, seen: int | None = None
+    ) -> Reply:
         await asyncio.to_thread(door.wait, 60)
         await take(order, user, reason)
         raise ServerGone(gone, 1)
@@ -683,6 +687,35 @@ def test_an_alarm_that_comes_again_is_to_be_read_anew(site: Served, page: Page) 
     time.sleep(0.5)
     page.keys("v")
     until(lambda: ("A4", "ACKED") in page.rows())
+
+
+def test_an_alarm_that_comes_again_while_others_are_acknowledged_is_not(
+    site: Served, page: Page
+) -> None:
+    core, take, door = site.core, site.core.order, threading.Event()
+
+    async def slow(
+        order: Order, user: str | None, reason: str | None, seen: int | None = None
+    ) -> Reply:
+        await asyncio.to_thread(door.wait, 60)
+        return await take(order, user, reason, seen)
+
+    site.do(lambda: core.scan(62_000, {"A2": Code.RTNUN}))
+    until(lambda: ("A2", "RTNUN") in page.rows())
+    site.do(lambda: setattr(core, "order", slow))
+    time.sleep(0.5)  # until the rows have been there for long enough
+    page.keys("v")  # A5, A1 and A2, one after another
+    until(lambda: page.run(AWAY))
+    site.do(lambda: core.scan(63_000, {"A2": Code.UNACK}))
+    until(lambda: ("A2", "UNACK") in page.rows())
+    door.set()
+    told = "2 acknowledged, 1 not: A2: it has come again since it was read"
+    until(lambda: page.text("#message") == told)
+    assert ("A2", "UNACK") in page.rows()
+    page.choose("A2")
+    page.keys("a")
+    until(lambda: ("A2", "ACKED") in page.rows())
+    page.faults()
 
 
 def test_what_came_while_the_tab_wasnt_shown_is_to_be_read_first(site: Served, page: Page) -> None:

@@ -51,6 +51,40 @@ async def taken_up(core: Core, variables: str, body: str) -> None:
     assert (await core.reload(texts)).lines[0].startswith("RELOADED")
 
 
+def test_outputs_that_were_left_out_are_written_once_they_may(
+    config: Config, monkeypatch: pytest.MonkeyPatch
+) -> None:
+    """As where this gateway leads, and wasn't sure of that for a while."""
+    sure = True
+    monkeypatch.setattr(Core, "may_write", property(lambda core: sure))
+
+    async def work() -> None:
+        nonlocal sure
+        async with served(config) as core:
+            part = await field.attach(core, config)
+            assert part is not None
+            put: list[tuple[str, Value]] = []
+            source = part._sources[0]
+            source.put_output = lambda name, value: put.append((name, value))  # type: ignore[assignment]
+            await give(core, a=5)
+            await until(lambda: {name for name, _ in put} == {"y", "z"})
+            sure, at, events = False, len(put), core.state.events
+            assert not source.may_write() and part._current() == {}
+            await until(lambda: core.state.events > events + 3)
+            assert len(put) == at
+            sure = True
+            await taken_up(core, BOTH, "c := a > 1;")  # so nothing changes any more
+            at = len(put)
+            sure = False
+            assert not source.may_write()
+            sure = True
+            await until(lambda: len(put) == at + 2)
+            assert dict(put[-2:]) == {"y": core.state.outputs["y"], "z": core.state.outputs["z"]}
+            await part.close()
+
+    asyncio.run(asyncio.wait_for(work(), 400))
+
+
 def test_outputs_are_written_by_the_names_and_kinds_of_the_map(config: Config) -> None:
     async def work() -> None:
         async with served(config) as core:

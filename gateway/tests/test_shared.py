@@ -15,9 +15,17 @@ from around import config_for, plant_copy, until, without_programs
 from core_help import Served
 from fake_etcd import FakeEtcd
 
-from alarmd_gateway import etcd_log, log_watch, new_record, rotation, shared, transactions
+from alarmd_gateway import (
+    etcd_log,
+    log_entries,
+    log_watch,
+    new_record,
+    rotation,
+    shared,
+    transactions,
+)
 from alarmd_gateway.etcd import NoEtcd
-from alarmd_gateway.jobs import Job
+from alarmd_gateway.jobs import CameAgain, Job
 from alarmd_gateway.log_view import Last, Marked, View
 from alarmd_gateway.metrics import Metrics
 from alarmd_gateway.model import Code, Order, Plant, Sample, ServerGone, Verb
@@ -39,15 +47,15 @@ class Pair:
         self._alarmd, self._folder, self._plant, self._more = alarmd, folder, plant, more
         self.served: list[Served] = []
 
-    async def join(self, name: str, **more: int | bool | Path) -> SharedCore:
-        """A gateway of this name, which is at work."""
-        (self._folder / name).mkdir()
+    async def join(self, place: str, name: str = "", **more: int | bool | Path) -> SharedCore:
+        """A gateway in a folder of this name, and of the same or another name, which is at work."""
+        (self._folder / place).mkdir()
         keys: dict[str, int | bool | Path] = {**self._more, **more}
         keys["yes"] = True
         program = keys.pop("alarmd", self._alarmd)
         assert isinstance(program, Path)
-        config = config_for(program, self._plant(self._folder / name), **keys)
-        told = SharedConfig((), "trial", name, 3, 1.0)
+        config = config_for(program, self._plant(self._folder / place), **keys)
+        told = SharedConfig((), "trial", name or place, 3, 1.0, config.new_alarmd)
         core = await SharedCore.join(config, told, self.etcd)
         self.served.append(Served(core))
         return core
@@ -247,6 +255,32 @@ def test_no_answer_of_etcd(alarmd: Path, tmp_path: Path, monkeypatch: pytest.Mon
         await a.order(Order(Verb.REMOVE, 1, "FAL-103"))
         rows = [row.words for row in a.journal.rows() if row.words[0] == "ORDER"]
         assert [row[2] for row in rows] == ["remove"]  # the one that wasn't taken isn't taken later
+
+    trial(Pair(alarmd, tmp_path, tank), work)
+
+
+def test_who_may_lead_no_more_writes_no_outputs(
+    alarmd: Path, tmp_path: Path, monkeypatch: pytest.MonkeyPatch
+) -> None:
+    """From the end of its lease on, by its own clock, which is before any other gateway may lead."""
+    monkeypatch.setattr(log_watch, "SILENT", 60.0)
+    monkeypatch.setattr(transactions, "PATIENCE", 60.0)
+
+    async def work(pair: Pair) -> None:
+        a = await pair.join("a")
+        await until(lambda: a.leads and a.may_write, "a leads")
+        b = await pair.join("b")
+        assert not b.may_write
+        lease = a._candidate.lease
+        pair.etcd.deaf = 10**9
+        await until(lambda: not a.may_write, "it isn't sure any more")
+        assert a.leads and a._candidate.lease == lease
+        pair.etcd.deaf = 0
+        await until(lambda: a.may_write, "it is again")
+        assert a.leads and lease is not None
+        pair.etcd.end(lease)
+        await until(lambda: a._candidate.lease not in (None, lease), "another lease")
+        assert not (a.leads and a.may_write) or a._lease == a._candidate.lease
 
     trial(Pair(alarmd, tmp_path, tank), work)
 
@@ -471,6 +505,65 @@ def test_the_old_record_is_whole_before_the_new_one_is_followed(
     trial(Pair(alarmd, tmp_path, without_programs, rotate_at=20), work)
 
 
+def test_two_gateways_of_one_name_are_told_of(
+    alarmd: Path, tmp_path: Path, monkeypatch: pytest.MonkeyPatch, capfd: pytest.CaptureFixture[str]
+) -> None:
+    monkeypatch.setattr(log_watch, "ALIKE", 0.3)
+    told = "another gateway leads that is called 'a' too"
+
+    async def work(pair: Pair) -> None:
+        a = await pair.join("a")
+        await until(lambda: a.leads, "a leads")
+        await pair.join("b")
+        b = await pair.join("other", name="a")
+        lines: list[str] = []
+
+        def said() -> bool:
+            lines.extend(line for line in capfd.readouterr().err.splitlines() if told in line)
+            return bool(lines)
+
+        await until(said, "it is told")
+        looked = b._looked
+        await until(lambda: b._looked > looked + 1, "a second")
+        said()
+        assert len(lines) == 1
+
+    trial(Pair(alarmd, tmp_path, tank), work)
+
+
+def test_who_lacks_a_part_of_the_log_does_not_stand(
+    alarmd: Path, tmp_path: Path, monkeypatch: pytest.MonkeyPatch
+) -> None:
+    """As one that was cut off for an hour: while it reads what it lacks nobody would scan, though another one could."""
+    monkeypatch.setattr(log_entries, "PAGE", 2)
+
+    async def work(pair: Pair) -> None:
+        a = await pair.join("a")
+        await until(lambda: a.leads, "a leads")
+        b = await pair.join("b")
+        gate, keep, stand = asyncio.Event(), b._log.keep, b._candidate.stand
+        stood: list[int] = []
+
+        async def held(one: Marked) -> None:
+            await gate.wait()
+            await keep(one)
+
+        async def stands() -> None:
+            stood.append(b._log.known.entries)
+            await stand()
+
+        monkeypatch.setattr(b._log, "keep", held)
+        monkeypatch.setattr(b._candidate, "stand", stands)
+        await give(a, running=True, level=250, flow=100)
+        await until(lambda: a.state.events > 12, "scans")
+        await pair.served.pop(0).close()
+        gate.set()
+        await until(lambda: b.leads, "b leads")
+        assert set(stood) == {a._log.known.entries}
+
+    trial(Pair(alarmd, tmp_path, tank), work)
+
+
 def test_a_request_that_is_no_order_goes(alarmd: Path, tmp_path: Path) -> None:
     async def work(pair: Pair) -> None:
         a, b = await pair.join("a"), await pair.join("b")
@@ -502,9 +595,9 @@ def test_an_order_whose_lease_has_ended_is_handed_on_with_the_next(
             await hold.wait()
             await beat()
 
-        async def tried(mark: str, entry: Entry, lease: str) -> None:
+        async def tried(mark: str, entry: Entry, lease: str, seen: int | None = None) -> None:
             tries.append(lease)
-            await request(mark, entry, lease)
+            await request(mark, entry, lease, seen)
 
         monkeypatch.setattr(follower._candidate, "beat", late)
         monkeypatch.setattr(follower._log, "request", tried)
@@ -516,6 +609,46 @@ def test_an_order_whose_lease_has_ended_is_handed_on_with_the_next(
         hold.set()
         assert (await asked).code == "OK"
         assert tries[0] == old != tries[-1]
+
+    trial(Pair(alarmd, tmp_path, tank), work)
+
+
+@pytest.mark.parametrize("here", [True, False])
+def test_an_alarm_that_has_come_again_since_it_was_read_is_not_acknowledged(
+    alarmd: Path, tmp_path: Path, monkeypatch: pytest.MonkeyPatch, here: bool
+) -> None:
+    """By an order at the leader, or at the other gateway, which hasn't seen it yet when it hands the order on."""
+
+    async def work(pair: Pair) -> None:
+        a = await pair.join("a")
+        await until(lambda: a.leads, "a leads")
+        b = await pair.join("b")
+        request = b._log.request
+        await give(a, running=True, level=250, flow=100)
+        await give(a, level=500)
+        await until(lambda: b.state.by_tag["LAL-101"].code is Code.RTNUN, "the alarm, and its end")
+        seen, handed = b.state.by_tag["LAL-101"].since, list[int | None]()
+
+        async def comes_again(mark: str, entry: Entry, lease: str, seen: int | None = None) -> None:
+            handed.append(seen)
+            await give(a, level=250)
+            await until(lambda: a.state.by_tag["LAL-101"].code is Code.UNACK, "it comes again")
+            await request(mark, entry, lease, seen)
+
+        monkeypatch.setattr(b._log, "request", comes_again)
+        core = a if here else b
+        if here:
+            await give(a, level=250)
+            await until(lambda: a.state.by_tag["LAL-101"].code is Code.UNACK, "it comes again")
+        with pytest.raises(CameAgain):
+            await core.order(Order(Verb.ACK, 1, "LAL-101"), "anna", None, seen)
+        assert handed == ([] if here else [seen])
+        await until(lambda: b.state.by_tag["LAL-101"].code is Code.UNACK, "it waits")
+        monkeypatch.setattr(b._log, "request", request)
+        seen = b.state.by_tag["LAL-101"].since
+        assert (await core.order(Order(Verb.ACK, 1, "LAL-101"), "anna", None, seen)).taken
+        rows = [row for row in a.journal.rows() if row.words[0] == "ORDER"]
+        assert len(rows) == 1 and not b._orders.away._jobs
 
     trial(Pair(alarmd, tmp_path, tank), work)
 
@@ -574,9 +707,9 @@ def test_an_order_that_was_told_of_while_it_was_handed_on_is_not_taken_later(
             waiting.set()
             await gate.wait()
 
-        async def slow(mark: str, entry: Entry, lease: str) -> None:
+        async def slow(mark: str, entry: Entry, lease: str, seen: int | None = None) -> None:
             await told.wait()
-            await request(mark, entry, lease)
+            await request(mark, entry, lease, seen)
 
         monkeypatch.setattr(b._log, "request", slow)
         a.before_scan = held

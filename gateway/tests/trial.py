@@ -115,6 +115,16 @@ def leader_halted(trial: Trial) -> None:
     trial.goes_on()
 
 
+def leader_halted_about_its_lease(trial: Trial) -> None:
+    """It goes on just before another one may lead, or just behind that, with what it was about to do."""
+    cluster, old = trial.cluster, trial.cluster.leader()
+    cluster.gateways[old].signal(signal.SIGSTOP)
+    time.sleep(LEASE + trial.chance.uniform(-0.4, 0.8))
+    cluster.gateways[old].signal(signal.SIGCONT)
+    cluster.leader()
+    trial.answered_by_each(list(cluster.gateways))
+
+
 def leader_cut_off(trial: Trial) -> None:
     cluster, old = trial.cluster, trial.cluster.leader()
     cluster.cut(old, True)
@@ -284,6 +294,7 @@ def node_disk_full(trial: Trial) -> None:
 FAULTS: tuple[Callable[[Trial], None], ...] = (
     leader_killed,
     leader_halted,
+    leader_halted_about_its_lease,
     leader_cut_off,
     leader_cut_from_others,
     leader_cut_from_both,

@@ -189,7 +189,7 @@ class ModbusClient(Source):
     async def _write(self, device: Device, name: str, value: Value) -> None:
         """Writes an output wherever the map has it."""
         for point in self._given.outputs:
-            if point.variable.name == name:
+            if point.variable.name == name and self.may_write():
                 await self._write_point(device, point, value)
 
     async def _write_point(self, device: Device, point: Point, value: Value) -> None:

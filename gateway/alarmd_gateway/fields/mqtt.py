@@ -130,7 +130,7 @@ class MqttClient(Source):
 
     def _publish(self, client: paho.Client, name: str, value: Value) -> None:
         for topic in self._given.outputs:
-            if topic.variable.name == name:
+            if topic.variable.name == name and self.may_write():
                 payload = payload_of(topic.scale, value)
                 client.publish(topic.topic, payload, self._given.quality, topic.retain)
 

@@ -124,6 +124,7 @@ class Source(abc.ABC):
         self.intake = intake
         self._backoff = Backoff(retry)
         self._outputs: asyncio.Queue[tuple[str, Value]] = asyncio.Queue()
+        self.may_write: Callable[[], bool] = lambda: True  # asked right before each output
         self.is_up = False
 
     @abc.abstractmethod

@@ -18,6 +18,9 @@ const ACTIONS = {
   return: ["T", "Return"],
 };
 
+// Up to when an alarm is read that is acknowledged now: where it comes again until the order is taken, that isn't acknowledged.
+const seenOf = (alarm) => (alarm.since === null ? {} : { seen: alarm.since });
+
 function takes(verb, alarm) {
   return alarm !== undefined && TAKES[verb].has(alarm.code) && (verb !== "shelve" || alarm.longest > 0);
 }
@@ -136,14 +139,14 @@ export class AlarmScreen {
 
   async give(verb, alarm) {
     const asks = ACTIONS[verb][2];
-    const given = asks ? await asks(alarm) : {};
+    const given = asks ? await asks(alarm) : verb === "ack" ? seenOf(alarm) : {};
     if (given) await order(this.store, verb, alarm.tag, given);
   }
 
   async ackSeen() {
     if (!this.store.live || !this.all) return;
-    const tags = this.list.seen(READ).filter((alarm) => WAITING.has(alarm.code)).map((alarm) => alarm.tag);
-    if (tags.length) await orderAll(this.store, "ack", tags);
+    const seen = this.list.seen(READ).filter((alarm) => WAITING.has(alarm.code)).map((alarm) => [alarm.tag, seenOf(alarm)]);
+    if (seen.length) await orderAll(this.store, "ack", seen);
     if (document.activeElement === document.body || document.activeElement?.disabled) this.list.focus();
   }
 

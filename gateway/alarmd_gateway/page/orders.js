@@ -82,11 +82,11 @@ export async function order(store, verb, target, more = {}) {
   return why === null;
 }
 
-// One order for several alarms, one after another.
+// One order for several alarms, one after another. `targets` are their tags, each with what its order has beside that.
 export async function orderAll(store, verb, targets) {
   const faults = [];
-  for (const target of targets) {
-    const why = await give(store, verb, target, {});
+  for (const [target, more] of targets) {
+    const why = await give(store, verb, target, more);
     if (why !== null) faults.push(`${target}: ${why}`);
   }
   const done = targets.length - faults.length;
