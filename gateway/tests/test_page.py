@@ -667,6 +667,35 @@ def test_what_nobody_can_have_read_isnt_acknowledged_with_the_others(page: Page)
     page.faults()
 
 
+def seen(page: Page, screen: str = "#alarms") -> list[str]:
+    """The tags of the rows that are wholly seen, from above."""
+    found = page.run(
+        "const box = document.querySelector(`${arguments[0]} .rows`), place = box.getBoundingClientRect();"
+        "return [...box.querySelectorAll('.row')].map((row) => [row.getBoundingClientRect(), row.dataset.tag])"
+        ".filter(([at]) => at.top >= place.top - 1 && at.bottom <= place.bottom + 1)"
+        ".sort((a, b) => a[0].top - b[0].top).map(([, tag]) => tag)",
+        screen,
+    )
+    return [str(tag) for tag in found]
+
+
+def test_what_is_read_stays_in_its_place_where_the_row_above_goes_elsewhere(page: Page) -> None:
+    with served(FakeCore(fake_plant(60))) as site:
+        core = site.core
+        site.do(lambda: core.scan(1000, {f"A{number}": Code.UNACK for number in range(60)}))
+        page.open(site.url)
+        page.until_live()
+        until(lambda: len(page.rows()) > 10)
+        page.run("document.querySelector('#alarms .rows').scrollTop = 200")
+        until(lambda: seen(page)[0] == "A20")
+        before = seen(page)
+        site.run(core.order(Order(Verb.ACK, 1, "A20"), None, None))  # by somebody else
+        until(lambda: seen(page)[0] != "A20")
+        assert seen(page)[1:] == before[1:]  # one from above has taken its place
+        assert page.text("#alarms .above") == "▲ 4 unacknowledged above"
+    page.faults()
+
+
 def test_an_alarm_that_comes_again_is_to_be_read_anew(site: Served, page: Page) -> None:
     site.do(lambda: site.core.scan(62_000, {"A4": Code.LATAK}))
     until(lambda: ("A4", "LATAK") in page.rows())

@@ -31,24 +31,25 @@ export class VirtualList {
   }
 
   show(items) {
-    const anchor = this.body.scrollTop > 0 ? this.anchor() : null;
+    const top = this.body.scrollTop;
+    const read = top > 0 ? this.read() : [];
     this.items = items;
     this.places = null;
     this.spacer.style.height = `${items.length * this.height}px`;
     this.grid.setAttribute("aria-rowcount", items.length + 1);
     this.nothing.hidden = items.length > 0;
-    if (anchor) {
-      // who has scrolled down keeps what was read in its place
-      const place = this.place(anchor.key);
-      if (place >= 0) this.body.scrollTop = place * this.height - anchor.offset;
-    }
+    // who has scrolled down keeps what was read in its place: by the first row that tells what it did, since one that doesn't may stand elsewhere now
+    const anchor = read.find((row) => this.place(row.key) >= 0 && this.told(this.item(row.key)) === row.told);
+    if (anchor) this.body.scrollTop = top + (this.place(anchor.key) - anchor.place) * this.height;
     this.draw();
   }
 
-  anchor() {
-    const first = Math.ceil(this.body.scrollTop / this.height);
-    const item = this.items[first];
-    return item === undefined ? null : { key: this.key(item), offset: first * this.height - this.body.scrollTop };
+  // The rows that are wholly seen, from above, with what they tell.
+  read() {
+    return [...this.drawn.entries()]
+      .map(([key, { place, told }]) => ({ key, place, told }))
+      .filter(({ place }) => place * this.height >= this.body.scrollTop && (place + 1) * this.height <= this.body.scrollTop + this.body.clientHeight)
+      .sort((a, b) => a.place - b.place);
   }
 
   place(key) {
