@@ -21,7 +21,18 @@ from alarmd_gateway.api import Api
 from alarmd_gateway.core import Question
 from alarmd_gateway.jobs import UNKNOWN
 from alarmd_gateway.live import Live
-from alarmd_gateway.model import MOST_EVENTS, Code, Json, Order, Reply, ServerGone, Verb
+from alarmd_gateway.model import (
+    MOST_EVENTS,
+    Code,
+    Json,
+    Kind,
+    Order,
+    Region,
+    Reply,
+    ServerGone,
+    Variable,
+    Verb,
+)
 from alarmd_gateway.troubles import TroubleKind
 from alarmd_gateway.view import View
 
@@ -536,6 +547,24 @@ def test_the_plant_the_journal_and_the_figures(site: Served, page: Page) -> None
     ):
         assert title in told
     assert "80 %" in told and "less than 1 %" in told
+
+
+def test_a_time_is_shown_to_its_last_digit(page: Page) -> None:
+    """A browser's numbers are exact up to 2^53 alone."""
+    ran = Variable("ran", Kind.TIME, Region.OUTPUT, 0, "points.st", 4)
+    plant = fake_plant()
+    with served(FakeCore(replace(plant, outputs={**plant.outputs, "ran": ran}))) as site:
+        site.do(lambda: site.core.scan(1000, ran=2**63 - 1))
+        page.open(site.url)
+        page.until_live()
+        page.keys("4")
+        shown = "#plant .outputs .row[data-name=ran] .value"
+        until(lambda: page.text(shown) == "9223372036854775807")
+        site.do(lambda: site.core.scan(2000, ran=-(2**53) - 1))
+        until(lambda: page.text(shown) == "-9007199254740993")
+        site.do(lambda: site.core.scan(3000, ran=2**53 - 1))
+        until(lambda: page.text(shown) == "9007199254740991")
+    page.faults()
 
 
 def test_a_journal_of_many_pages(site: Served, page: Page) -> None:
