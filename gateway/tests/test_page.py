@@ -587,6 +587,38 @@ def test_a_journal_of_many_pages(site: Served, page: Page) -> None:
     until(lambda: page.text("#journal .where") == "rows 250 to 449 of 506")
 
 
+def test_a_page_of_the_journal_begins_with_its_first_row_and_goes_on(
+    site: Served, page: Page
+) -> None:
+    core = site.core
+
+    def fill(first: int) -> None:
+        for scan in range(first, first + 300):
+            core.scan(70_000 + scan, {"A9": Code.UNACK if scan % 2 else Code.RTNUN})
+
+    where = "#journal .where"
+    site.do(lambda: fill(1))
+    page.click("#tab-journal")
+    until(lambda: page.text(where) == "rows 107 to 306 of 306, the newest first")
+    page.run("document.querySelector('#journal .rows').scrollTop = 3000")
+    page.run(
+        "for (const id of ['newest', 'oldest']) document.getElementById(`journal-${id}`).click()"
+    )
+    until(lambda: page.text(where) == "rows 1 to 200 of 306")
+    assert page.run("return document.querySelector('#journal .rows').scrollTop") == 0
+    page.click("#journal-later")
+    until(lambda: page.text(where) == "rows 201 to 306 of 306")
+    site.do(lambda: fill(301))  # the page isn't full: it goes on
+    until(lambda: page.text(where) == "rows 201 to 400 of 606")
+    page.click("#journal-later")
+    until(lambda: page.text(where) == "rows 401 to 600 of 606")
+    page.run("const from = document.getElementById('journal-from'); from.value = -5; from.focus()")
+    page.keys(Keys.ENTER)
+    until(lambda: page.text(where) == "rows 1 to 200 of 606")
+    site.do(core.anew)  # nothing of the record before is shown as one of the new one
+    until(lambda: page.text(where) == "no rows of 0")
+
+
 def test_a_journal_whose_newest_rows_are_of_others(page: Page) -> None:
     """What Bert may not see doesn't look as if there were no rows."""
     with served(users=two_users()) as site:
