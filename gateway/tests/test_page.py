@@ -619,6 +619,14 @@ def test_a_page_of_the_journal_begins_with_its_first_row_and_goes_on(
     until(lambda: page.text(where) == "no rows of 0")
 
 
+def test_times_of_another_year_are_told_with_their_hour(site: Served, page: Page) -> None:
+    since = "#alarms .row[data-tag='A5'] .since"
+    year = 365 * 86_400_000
+    for moment, wanted in ((year, "11-23 06:01"), (year + 61_000, "2026-11-23")):
+        site.do(lambda: site.core.scan(moment, {}))
+        until(lambda: page.text(since) == wanted, wanted)
+
+
 def test_a_journal_whose_newest_rows_are_of_others(page: Page) -> None:
     """What Bert may not see doesn't look as if there were no rows."""
     with served(users=two_users()) as site:
