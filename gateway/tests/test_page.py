@@ -627,6 +627,26 @@ def test_times_of_another_year_are_told_with_their_hour(site: Served, page: Page
         until(lambda: page.text(since) == wanted, wanted)
 
 
+def test_a_search_finds_a_letter_however_its_mark_is_written(page: Page) -> None:
+    plant = fake_plant()
+    texts = {"A0": "Za\u0308hler zu hoch", "A1": "Z\u00e4hler zu tief"}
+    rows = tuple(replace(row, text=texts.get(row.tag, row.text)) for row in plant.alarms)
+    with served(
+        FakeCore(replace(plant, alarms=rows, by_tag={row.tag: row for row in rows}))
+    ) as site:
+        page.open(site.url)
+        page.until_live()
+        page.keys("3")
+        for word in ("Z\u00c4HLER", "Za\u0308hler"):
+            page.run(
+                "const search = document.getElementById('search'); search.value = arguments[0];"
+                "search.dispatchEvent(new Event('input'))",
+                word,
+            )
+            until(lambda: page.rows("#all") == [("A0", "NORM"), ("A1", "NORM")], word)
+    page.faults()
+
+
 def test_a_journal_whose_newest_rows_are_of_others(page: Page) -> None:
     """What Bert may not see doesn't look as if there were no rows."""
     with served(users=two_users()) as site:

@@ -223,17 +223,20 @@ export function asideScreen(store) {
 
 const order_of = (alarm) => ["SHELVED", "OOS", "SUPPR"].indexOf(alarm.code);
 
+// A text to be searched in, or for: a letter with its mark may be one character or two.
+const plain = (text) => text.normalize("NFC").toLowerCase();
+
 export function allScreen(store) {
   let words = [];
   return new AlarmScreen(store, "all", {
     verbs: ["ack", "shelve", "unshelve", "reset", "remove", "return"],
-    choose: (alarm) => words.every((word) => `${alarm.tag} ${alarm.text} ${alarm.area} ${STATES[alarm.code]}`.toLowerCase().includes(word)),
+    choose: (alarm) => words.every((word) => plain(`${alarm.tag} ${alarm.text} ${alarm.area} ${STATES[alarm.code]}`).includes(word)),
     order: (alarms) => alarms,
     label: "All alarms",
     empty: "No alarm has these words.",
     extra: (screen) => {
       const input = el("input", { type: "search", id: "search", placeholder: "Search ( / )", "aria-label": "Search in tag, text, area and state", maxLength: 100, oninput: () => {
-        words = input.value.toLowerCase().split(/\s+/).filter(Boolean);
+        words = plain(input.value).split(/\s+/).filter(Boolean);
         screen.show();
       } });
       input.addEventListener("keydown", (event) => {
