@@ -896,6 +896,28 @@ def test_a_session_that_has_ended_asks_for_the_password(page: Page) -> None:
     page.faults()
 
 
+def test_who_has_logged_out_leaves_nothing_of_the_plant_behind(page: Page) -> None:
+    with served(users=two_users()) as site:
+        page.open(site.url)
+        page.login("anna")
+        page.until_live()
+        site.do(lambda: site.core.stops("fill"))
+        until(lambda: page.text("#troubles"))
+        page.click("#log-out")
+        until(lambda: page.text("#login-message") == "Logged out.")
+        page.run("document.dispatchEvent(new Event('visibilitychange'))")  # of another tab
+        time.sleep(0.5)
+        shown = page.run(
+            "return [...document.body.children].filter((e) => e.getClientRects().length)"
+        )
+        assert [one.get_attribute("id") for one in shown] == ["login"]
+        assert page.driver.title == "Alarms"
+        page.login("anna")
+        page.until_live()
+        until(lambda: page.text("#troubles"))
+    page.faults()
+
+
 def test_who_couldnt_log_out_is_told(page: Page) -> None:
     """As where the cable is out: the session lasts, and whoever opens the page next would have it."""
     cut: dict[str, Any] = {

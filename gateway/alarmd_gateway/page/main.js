@@ -191,6 +191,7 @@ function showScreen(name) {
 }
 
 function draw() {
+  if ($("screens").hidden) return; // nobody is logged in
   store.connected = lostAt === null && live !== null && live.alive;
   const alive = store.connected && !isDead(store);
   if (alive !== store.live) {
