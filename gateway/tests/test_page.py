@@ -803,6 +803,31 @@ def test_an_alarm_that_comes_again_is_to_be_read_anew(site: Served, page: Page) 
     until(lambda: ("A4", "ACKED") in page.rows())
 
 
+def test_what_comes_again_while_others_are_acknowledged_is_to_be_read(
+    site: Served, page: Page, monkeypatch: pytest.MonkeyPatch
+) -> None:
+    core, door, give = site.core, threading.Event(), site.core.order
+
+    async def slow(order: Order, user: str | None = None, reason: str | None = None) -> Reply:
+        while not door.is_set():
+            await asyncio.sleep(0.01)
+        return await give(order, user, reason)
+
+    monkeypatch.setattr(core, "order", slow)
+    time.sleep(0.5)  # until the rows have been there for long enough
+    page.keys("v")
+    until(lambda: page.text("#alarms .row.away .tag") == "A5")
+    site.do(lambda: core.scan(62_000, {"A1": Code.RTNUN, "A2": Code.RTNUN}))
+    site.do(lambda: core.scan(63_000, {"A2": Code.UNACK}))
+    until(lambda: page.text("#alarms .row[data-tag='A2'] .since") == "06:01:03")
+    door.set()
+    until(lambda: page.text("#message") == "2 acknowledged, 1 not: A2: it has come again")
+    assert [order.target for order, _, _ in core.orders] == ["A5", "A1"]
+    time.sleep(0.5)
+    page.keys("v")
+    until(lambda: page.text("#message") == "1 acknowledged")
+
+
 def test_what_came_while_the_tab_wasnt_shown_is_to_be_read_first(site: Served, page: Page) -> None:
     show = "Object.defineProperty(document, 'hidden', { value: arguments[0], configurable: true });"
     show += "document.dispatchEvent(new Event('visibilitychange'));"

@@ -2,7 +2,7 @@
 
 import { $, el, setText, sign } from "./dom.js";
 import { askRemoval, askShelving } from "./dialogs.js";
-import { isAway, order, orderAll, tell } from "./orders.js";
+import { acknowledgeAll, isAway, order, tell } from "./orders.js";
 import { VirtualList } from "./rows.js";
 import { ASIDE, STATES, STANDING, TAKES, WAITING, duration, longTime, shortTime } from "./words.js";
 
@@ -142,8 +142,8 @@ export class AlarmScreen {
 
   async ackSeen() {
     if (!this.store.live || !this.all) return;
-    const tags = this.list.seen(READ).filter((alarm) => WAITING.has(alarm.code)).map((alarm) => alarm.tag);
-    if (tags.length) await orderAll(this.store, "ack", tags);
+    const alarms = this.list.seen(READ).filter((alarm) => WAITING.has(alarm.code));
+    if (alarms.length) await acknowledgeAll(this.store, alarms);
     if (document.activeElement === document.body || document.activeElement?.disabled) this.list.focus();
   }
 

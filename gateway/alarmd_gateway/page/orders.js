@@ -82,14 +82,17 @@ export async function order(store, verb, target, more = {}) {
   return why === null;
 }
 
-// One order for several alarms, one after another.
-export async function orderAll(store, verb, targets) {
+// Acknowledges several alarms, one after another. It may take a while: one that has come again by then isn't what was read.
+export async function acknowledgeAll(store, alarms) {
   const faults = [];
-  for (const target of targets) {
-    const why = await give(store, verb, target, {});
-    if (why !== null) faults.push(`${target}: ${why}`);
+  const read = alarms.map(({ tag, since }) => ({ tag, since }));
+  for (const { tag, since } of read) {
+    const now = store.alarms.get(tag);
+    const again = now?.code === "UNACK" && now.since !== since;
+    const why = again ? "it has come again" : await give(store, "ack", tag, {});
+    if (why !== null) faults.push(`${tag}: ${why}`);
   }
-  const done = targets.length - faults.length;
+  const done = read.length - faults.length;
   const not = faults.every(sure) ? "not" : "perhaps not";
-  tell(`${done} ${DONE[verb]}${faults.length ? `, ${faults.length} ${not}: ${faults[0]}` : ""}`, faults.length > 0);
+  tell(`${done} ${DONE.ack}${faults.length ? `, ${faults.length} ${not}: ${faults[0]}` : ""}`, faults.length > 0);
 }
