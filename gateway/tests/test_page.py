@@ -733,6 +733,7 @@ def test_before_all_that_stands_is_there_nothing_looks_live(
     page.faults()
 
 
+WHOLE = {"width": 1280, "height": 800, "deviceScaleFactor": 1}
 PRESS = "document.dispatchEvent(new KeyboardEvent('keydown', { key: 'v', bubbles: true }))"
 
 
@@ -782,6 +783,37 @@ def test_what_is_read_stays_in_its_place_where_the_row_above_goes_elsewhere(page
         until(lambda: seen(page)[0] != "A20")
         assert seen(page)[1:] == before[1:]  # one from above has taken its place
         assert page.text("#alarms .above") == "▲ 4 unacknowledged above"
+    page.faults()
+
+
+def test_at_twice_the_size_rows_are_seen_and_no_other_one_is_acknowledged(page: Page) -> None:
+    """At 1280 x 800 that is a page of 640 x 400, of which a part is seen."""
+    command = page.driver.execute_cdp_cmd
+    half = {"width": 640, "height": 400, "deviceScaleFactor": 2, "mobile": False}
+    with served(FakeCore(fake_plant(60))) as site:
+        core = site.core
+        site.do(lambda: core.scan(1000, {f"A{number}": Code.UNACK for number in range(60)}))
+        page.open(site.url)
+        page.until_live()
+        button = "#alarms [data-order=ack-seen]"
+        until(lambda: page.text(button).endswith("(13)"))
+        try:
+            command("Emulation.setDeviceMetricsOverride", half)
+            on_screen = (
+                "return [...document.querySelectorAll('#alarms .rows .row')].filter((row) => "
+                "row.getBoundingClientRect().bottom <= innerHeight + 1).length"
+            )
+            until(lambda: 1 <= page.run(on_screen) < 6)
+            count = page.run(on_screen)
+            until(lambda: page.text(button).endswith(f"({count})"))  # without a scan
+            assert page.run("return link.getBoundingClientRect().right <= innerWidth")
+            time.sleep(0.5)
+            page.keys("v")
+            until(lambda: page.text("#message") == f"{count} acknowledged")
+            page.run("scrollTo(0, 10000)")
+            until(lambda: int(page.text(button).split("(")[1].rstrip(")")) > count)
+        finally:
+            command("Emulation.setDeviceMetricsOverride", {**WHOLE, "mobile": False})
     page.faults()
 
 

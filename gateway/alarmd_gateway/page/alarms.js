@@ -109,7 +109,7 @@ export class AlarmScreen {
 
   // Says how many unacknowledged ones stand above what is seen.
   showAbove() {
-    const hidden = Math.floor((this.list.body.scrollTop + 2) / this.list.height);
+    const hidden = Math.floor((this.list.sight().top + 2) / this.list.height);
     const waiting = this.list.items.slice(0, hidden).filter((alarm) => WAITING.has(alarm.code)).length;
     this.above.hidden = waiting === 0;
     setText(this.above, waiting ? `▲ ${waiting} unacknowledged above` : "");
