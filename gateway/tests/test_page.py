@@ -817,6 +817,31 @@ def test_at_twice_the_size_rows_are_seen_and_no_other_one_is_acknowledged(page: 
     page.faults()
 
 
+def test_with_colours_of_the_system_the_chosen_one_is_seen(site: Served, page: Page) -> None:
+    def ground(css: str) -> str:
+        return str(
+            page.run(
+                "return getComputedStyle(document.querySelector(arguments[0])).backgroundColor", css
+            )
+        )
+
+    try:
+        media = [{"name": "forced-colors", "value": "active"}]
+        page.driver.execute_cdp_cmd("Emulation.setEmulatedMedia", {"features": media})
+        page.choose("A1")
+        until(lambda: ground("#alarms .row[data-tag=A1]") != ground("#alarms .row[data-tag=A2]"))
+        assert ground("#tab-alarms") != ground("#tab-aside")
+        page.keys("2")
+        until(lambda: ground("#aside [data-code='']") != ground("#aside [data-code=OOS]"))
+        site.do(lambda: site.core.troubles.raises(TroubleKind.SERVER, "", "it has ended"))
+        stripes = (
+            "return getComputedStyle(document.querySelector('main'), '::after').backgroundImage"
+        )
+        until(lambda: "gradient" in str(page.run(stripes)))
+    finally:
+        page.driver.execute_cdp_cmd("Emulation.setEmulatedMedia", {"features": []})
+
+
 def test_an_alarm_that_comes_again_is_to_be_read_anew(site: Served, page: Page) -> None:
     site.do(lambda: site.core.scan(62_000, {"A4": Code.LATAK}))
     until(lambda: ("A4", "LATAK") in page.rows())
