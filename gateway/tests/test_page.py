@@ -532,7 +532,7 @@ def test_the_plant_the_journal_and_the_figures(site: Served, page: Page) -> None
     site.do(lambda: site.core.scan(64_000, {"A8": Code.UNACK}))  # a new row comes by itself
     until(lambda: "rows 1 to 7 of 7" in page.text("#journal .where"))
     assert page.run("return document.querySelector('#journal-csv').href").endswith(
-        "/api/journal.csv"
+        "/api/journal.csv?spreadsheet=1"
     )
     page.click("#tab-figures")
     until(lambda: "Console 2" in page.text("#figures"))

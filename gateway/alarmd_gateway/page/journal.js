@@ -49,7 +49,7 @@ export class JournalScreen {
     this.from = el("input", { type: "number", min: 1, id: "journal-from", "aria-label": "Row to begin with" });
     this.from.addEventListener("keydown", (event) => event.key === "Enter" && this.open(Math.min(1e12, Math.max(1, Math.floor(Number(this.from.value)) || 1))));
     this.where = el("span", { class: "where", role: "status" });
-    this.csv = el("a", { id: "journal-csv", class: "button", href: "/api/journal.csv", download: "journal.csv" }, "CSV");
+    this.csv = el("a", { id: "journal-csv", class: "button", href: "/api/journal.csv?spreadsheet=1", download: "journal.csv" }, "CSV");
     this.bar = el(
       "div",
       { class: "bar", role: "toolbar", "aria-label": "Pages of the journal" },
