@@ -733,7 +733,7 @@ def test_before_all_that_stands_is_there_nothing_looks_live(
     page.faults()
 
 
-WHOLE = {"width": 1280, "height": 800, "deviceScaleFactor": 1}
+WHOLE: dict[str, Any] = {"width": 1280, "height": 800, "deviceScaleFactor": 1}
 PRESS = "document.dispatchEvent(new KeyboardEvent('keydown', { key: 'v', bubbles: true }))"
 
 
@@ -962,6 +962,23 @@ def test_a_lost_connection_is_told_and_comes_back(page: Page) -> None:
         page.keys("a")  # by a session of the new server
         until(lambda: page.rows() == [("A3", "ACKED")])
     page.faults()
+
+
+def test_after_a_sleep_of_the_machine_nothing_looks_live(site: Served, page: Page) -> None:
+    """Its clocks may stand still meanwhile, but for the time of day; and that may be wrong."""
+    page.run(
+        "window.told = []; const lost = document.getElementById('lost');"
+        "new MutationObserver(() => { if (!lost.hidden) window.told.push(lost.textContent) })"
+        ".observe(lost, { attributes: true, childList: true });"
+        "const now = Date.now; Date.now = () => now() + 7 * 3600000"
+    )
+    before = datetime.now(timezone.utc)
+    told = until(lambda: page.run("return window.told"))[-1]
+    assert told.startswith("CONNECTION LOST since ")
+    since = datetime.strptime(told[22:30], "%H:%M:%S").replace(tzinfo=timezone.utc)
+    since = since.replace(year=before.year, month=before.month, day=before.day)
+    assert abs((since - before).total_seconds()) % 86_400 < 3600  # the gateway's time
+    page.until_live()
 
 
 def test_a_session_that_has_ended_asks_for_the_password(page: Page) -> None:

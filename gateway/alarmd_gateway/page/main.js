@@ -114,7 +114,7 @@ function begin(who) {
       for (const change of list) if (change.kind === "alarm") settled(change.data.tag);
     },
     alive: () => setLost(null),
-    lost: () => setLost(lostAt ?? new Date()),
+    lost: (since) => setLost(lostAt ?? since),
     ready,
     plant: () => get("/api/plant").catch(() => null),
   });
