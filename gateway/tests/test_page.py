@@ -547,6 +547,7 @@ def test_the_plant_the_journal_and_the_figures(site: Served, page: Page) -> None
     ):
         assert title in told
     assert "80 %" in told and "less than 1 %" in told
+    assert "all of these\t5\t▲ 100.0 %" in told  # the recommendation is for all ten
 
 
 def test_a_time_is_shown_to_its_last_digit(page: Page) -> None:
@@ -897,6 +898,32 @@ def test_what_came_while_the_tab_wasnt_shown_is_to_be_read_first(site: Served, p
     assert site.core.orders == []
     page.keys("v")
     until(lambda: page.text("#message") == "4 acknowledged")
+
+
+def test_the_keys_are_where_they_are_with_letters_that_arent_latin(
+    site: Served, page: Page
+) -> None:
+    def press(key: str, code: str) -> None:
+        given = {"key": key, "code": code, "text": key}
+        for kind in ("keyDown", "keyUp"):
+            page.driver.execute_cdp_cmd("Input.dispatchKeyEvent", {"type": kind, **given})
+
+    page.choose("A5")
+    press("\u00e6", "KeyQ")  # Q isn't among the keys
+    press("\u0444", "KeyA")  # Cyrillic
+    until(lambda: page.text("#message") == "A5: acknowledged")
+    page.choose("A2")
+    page.run(
+        "document.dispatchEvent(new KeyboardEvent('keydown', "
+        "{ key: '\\u00e6', code: 'KeyA', modifierAltGraph: true, bubbles: true }))"
+    )
+    press("\u03c3", "KeyS")  # Greek
+    until(lambda: page.text("#shelve .subject").startswith("A2"))
+    page.keys(Keys.ESCAPE)
+    until(lambda: not page.text("#shelve"))
+    assert [order.target for order, _, _ in site.core.orders] == ["A5"]
+    press("a", "KeyQ")  # what is written on the keys counts where it is Latin
+    until(lambda: page.text("#message") == "A2: acknowledged")
 
 
 def test_a_stuck_key_acknowledges_once(site: Served, page: Page) -> None:

@@ -51,6 +51,8 @@ function priorities(report) {
 
 function frequent(report) {
   const rows = report.frequent.map((one) => row(one.share > 0.05, one.tag, one.count, over(one.share, 0.05, percent(one.share))));
+  const [count, share] = ["count", "share"].map((name) => report.frequent.reduce((sum, one) => sum + one[name], 0));
+  if (rows.length > 1) rows.push(row(share > 0.05, "all of these", count, over(share, 0.05, percent(share)))); // the recommendation is for these
   return table("Ten most frequent", ["Tag", "Alarms", "Share"], rows, `Recommended: ${report.recommended.frequent}.`);
 }
 

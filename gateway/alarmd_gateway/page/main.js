@@ -221,6 +221,12 @@ function drawCounts() {
   box.replaceChildren(...parts, counts.hidden ? el("span", { class: "hidden-count" }, `${counts.hidden} unacknowledged in other areas`) : "");
 }
 
+// What a key stands for: with letters that aren't Latin, what stands in its place on a Latin keyboard.
+function keyOf(event) {
+  const latin = /^[\x20-\x7e]+$/.test(event.key) || event.getModifierState("AltGraph") || event.isComposing;
+  return (!latin && /^Key([A-Z])$/.exec(event.code)?.[1] || event.key).toLowerCase();
+}
+
 document.addEventListener("keydown", (event) => {
   if (event.repeat && event.key === "Enter" && event.target.matches?.("button")) event.preventDefault(); // else it is pressed each time
   if (event.ctrlKey || event.altKey || event.metaKey || anyOpen() || $("screens").hidden) return;
@@ -230,7 +236,7 @@ document.addEventListener("keydown", (event) => {
     return;
   }
   if (field || event.repeat) return; // a key that is held, or stuck, would acknowledge whatever comes
-  const key = event.key.toLowerCase();
+  const key = keyOf(event);
   const screen = NAMES["123456".indexOf(key)];
   if (screen && key) showScreen(screen);
   else if (key === "f") $("area").focus();
