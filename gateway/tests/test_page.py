@@ -1069,6 +1069,19 @@ def test_who_couldnt_log_out_is_told(page: Page) -> None:
     page.faults()
 
 
+@pytest.mark.parametrize("users", [False, True])
+def test_a_browser_that_takes_no_cookies_is_told_so(users: bool) -> None:
+    words = "this browser takes no cookies"
+    with browser(cookies=False) as page, served(users=two_users() if users else None) as site:
+        page.open(site.url)
+        if users:
+            page.login("anna")
+        until(lambda: words in page.text("#login-message" if users else "#lost"))
+        begun = len(site.web.guard.sessions)
+        time.sleep(3)
+        assert len(site.web.guard.sessions) == begun  # it begins no other ones
+
+
 def test_a_page_names_who_its_orders_are_of(page: Page) -> None:
     """Pages of one browser have one session: where Bert logs in by another one, this one is his too."""
     with served(users=two_users()) as site:

@@ -57,7 +57,29 @@ async function start() {
     return undefined;
   }
   $("lost").hidden = true;
-  return begin(who);
+  const own = await kept(who);
+  if (own) return begin(own);
+  document.body.className = "plain";
+  $("lost").hidden = false;
+  setText($("lost"), `The page can't begin: ${NO_COOKIES}.`); // nor does it try again: each try would begin another session
+  return undefined;
+}
+
+const NO_COOKIES = "this browser takes no cookies here, and a session is one";
+
+// The session whose cookie the browser has kept, null where it keeps none. It doesn't tell that by itself: navigator.cookieEnabled may be true all the same.
+async function kept(who) {
+  let known = who;
+  for (let tries = 0; tries < 3; tries += 1) {
+    try {
+      const again = await get("/api/session");
+      if (again.token === known.token) return again;
+      known = again; // another tab may have begun one at the same time
+    } catch (fault) {
+      return fault.status === 401 ? null : known; // the connection says what else there is
+    }
+  }
+  return null;
 }
 
 function askLogin(words = "") {
@@ -79,7 +101,9 @@ $("login").onsubmit = async (event) => {
   try {
     const who = await post("/api/login", { name: name.value, password: password.value });
     password.value = "";
-    begin(who);
+    const own = await kept(who);
+    if (own) begin(own);
+    else setText($("login-message"), NO_COOKIES);
   } catch (fault) {
     setText($("login-message"), fault.message);
     password.value = "";
