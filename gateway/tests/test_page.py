@@ -797,7 +797,7 @@ def test_at_twice_the_size_rows_are_seen_and_no_other_one_is_acknowledged(page: 
         page.open(site.url)
         page.until_live()
         button = "#alarms [data-order=ack-seen]"
-        until(lambda: page.text(button).endswith("(13)"))
+        until(lambda: "(" in page.text(button))
         try:
             command("Emulation.setDeviceMetricsOverride", half)
             on_screen = (
