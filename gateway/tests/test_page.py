@@ -262,9 +262,11 @@ def test_shelve_with_a_time_and_a_reason(site: Served, page: Page) -> None:
         "2026-11-23T05:59:59.999Z",
         "2026-11-24T00:16:00.000Z",
         "2027-01-01T00:00:00.000Z",
+        "2027-11-25T00:00:00.000Z",
         None,
     ]
-    assert page.run(short, times) == ["05:59:59", "11-24 00:16", "2027-01-01", ""]
+    wanted = ["05:59:59", "11-24 00:16", "01-01 00:00", "2027-11-25", ""]
+    assert page.run(short, times) == wanted
     assert page.text("#aside .row[data-tag='A2'] .why") == reason
     page.choose("A2", "#aside")
     page.click("#aside [data-order=unshelve]")
