@@ -3,6 +3,7 @@
 from __future__ import annotations
 
 import asyncio
+import codecs
 import csv
 import io
 import time
@@ -146,8 +147,10 @@ class Api:
         view = self.view(self.guard.reading(request))
         first = number(request, "from", 1, 1, 10**12)
         count = number(request, "count", 10**9, 1, 10**9)
+        begin = beginning(request)
         response = web.StreamResponse(headers=download("journal.csv"))
         await response.prepare(request)
+        await response.write(begin)
         async for text in csv_parts(self.core, view, first, count):
             await response.write(text.encode())
         await response.write_eof()
@@ -207,10 +210,11 @@ class Api:
 
     async def report_csv(self, request: web.Request) -> web.Response:
         """The same as CSV."""
-        text = io.StringIO()
+        text, begin = io.StringIO(), beginning(request)
         lines = table(self.core.plant, await self.make_report(request))
         csv.writer(text).writerows([guarded(cell) for cell in line] for line in lines)
-        return web.Response(body=text.getvalue().encode(), headers=download("figures.csv"))
+        body = begin + text.getvalue().encode()
+        return web.Response(body=body, headers=download("figures.csv"))
 
     async def make_report(self, request: web.Request) -> Report:
         """The figures of the last `hours` (0: from the journal's beginning), worked out in a thread, and kept for a while."""
@@ -233,6 +237,11 @@ class Api:
                 self._reports.clear()
             self._reports[key] = time.monotonic(), made
             return made
+
+
+def beginning(request: web.Request) -> bytes:
+    """What a table begins with: for a spreadsheet (`spreadsheet=1`) the mark by which it knows UTF-8."""
+    return codecs.BOM_UTF8 if number(request, "spreadsheet", 0, 0, 1) else b""
 
 
 def download(name: str) -> dict[str, str]:

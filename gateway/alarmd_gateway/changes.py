@@ -8,7 +8,7 @@ from collections import deque
 from collections.abc import AsyncIterator, Mapping
 from dataclasses import dataclass
 
-from .model import Json, Plant
+from .model import Json, Plant, exact
 from .state import AlarmMoved, Happening, Restarted, Stopped, ValueMoved, time_of
 
 
@@ -40,14 +40,10 @@ class Change:
     data: Mapping[str, Json]
 
     def json(self) -> dict[str, Json]:
-        """`number`, `kind`, `moment`, `time`, and `data` with the fields of its kind."""
-        return {
-            "number": self.number,
-            "kind": self.kind.value,
-            "moment": self.moment,
-            "time": self.time,
-            "data": dict(self.data),
-        }
+        """`number`, `kind`, `time`, and `data` with the fields of its kind, in which a value stands as `exact` has it."""
+        value = self.data.get("value")
+        data = {**self.data, "value": exact(value)} if isinstance(value, int) else dict(self.data)
+        return {"number": self.number, "kind": self.kind.value, "time": self.time, "data": data}
 
 
 class CutOff(Exception):

@@ -39,6 +39,8 @@ _LEVELS: Final[tuple[dict[str, Operator], ...]] = (  # those further down bind t
     {"*": lambda left, right: left * right, "/": _quotient, "MOD": _rest},
 )
 
+_LEVEL_OF: Final = {word: level for level, group in enumerate(_LEVELS) for word in group}
+
 
 class _Reader:
     """Goes through the tokens of one expression."""
@@ -52,13 +54,13 @@ class _Reader:
         return self._tokens[self._at].word if self._at < len(self._tokens) else ""
 
     def chain(self, level: int) -> Value:
-        """Operators of one line group from the left."""
-        if level == len(_LEVELS):
-            return self.unary()
-        value = self.chain(level + 1)
-        while (operator := _LEVELS[level].get(self.next())) is not None:
+        """Operands with operators of this level and of those that bind tighter; those of one level group from the left. Of parentheses
+        each takes two calls: a constant may have 127 of them, one in another."""
+        value = self.unary()
+        while (found := _LEVEL_OF.get(self.next(), -1)) >= level:
+            operator = _LEVELS[found][self.next()]
             self._at += 1
-            value = operator(value, self.chain(level + 1))
+            value = operator(value, self.chain(found + 1))
         return value
 
     def unary(self) -> Value:

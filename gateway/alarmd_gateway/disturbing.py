@@ -6,7 +6,7 @@ from aiohttp import web
 
 from .core import Core
 from .guard import Guard, Refused, answer, body
-from .model import BadSample, Json
+from .model import BadSample, Json, exact
 
 
 class Disturbing:
@@ -25,7 +25,8 @@ class Disturbing:
         found = self._core.disturbances
         values = [] if found is None else found.values()
         rows: list[Json] = [
-            {"name": one.name, "kind": one.kind.value, "value": value} for one, value in values
+            {"name": one.name, "kind": one.kind.value, "value": exact(value)}
+            for one, value in values
         ]
         return answer({"disturbances": rows})
 

@@ -79,8 +79,10 @@ class Live:
         await asyncio.gather(*goodbyes, return_exceptions=True)
 
     async def _write(self, socket: web.WebSocketResponse, session: Session) -> None:
-        """Sends snapshots and what changes after them, until the core closes or the session ends."""
-        while self._guard.sessions.lasts(session):
+        """Sends snapshots and what changes after them, until the core closes, the session ends, or another plant is served: it may be
+        that the page was cut off, or began anew, before it heard of that one."""
+        plant = self._core.plant
+        while self._guard.sessions.lasts(session) and self._core.plant is plant:
             subscription = self._core.subscribe(ROOM)
             try:
                 if not await self._follow(socket, session, subscription):

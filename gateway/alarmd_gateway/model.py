@@ -23,6 +23,9 @@ LAST_MOMENT: Final = 4_000_000_000_000
 MOST_EVENTS: Final = 1_000_000
 """How many events a run takes."""
 
+EXACT: Final = 2**53 - 1
+"""The largest number that every reader of JSON takes exactly: a browser rounds what is beyond."""
+
 
 class Kind(enum.Enum):
     """The kind of a variable."""
@@ -146,6 +149,11 @@ class Plant:
     def moment(self, time: datetime) -> int:
         """The moment of a civil time with its zone; below 0 where it is before the epoch."""
         return (time - self.epoch) // timedelta(milliseconds=1)
+
+
+def exact(value: Value) -> Json:
+    """A value for JSON: one that readers may round, as a TIME can be, is a text."""
+    return value if abs(value) <= EXACT else str(value)
 
 
 def civil(time: datetime) -> str:

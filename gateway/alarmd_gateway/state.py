@@ -8,7 +8,19 @@ from dataclasses import dataclass
 from typing import Final, TypeAlias
 
 from . import statements
-from .model import MOST_EVENTS, AlarmRow, Code, Json, Order, Plant, Value, Variable, Verb, civil
+from .model import (
+    MOST_EVENTS,
+    AlarmRow,
+    Code,
+    Json,
+    Order,
+    Plant,
+    Value,
+    Variable,
+    Verb,
+    civil,
+    exact,
+)
 from .tokens import BadSource
 
 _CODES: Final = {code.value: code for code in Code}
@@ -263,13 +275,13 @@ class State:
         return [*lines, f"END {len(lines)}"]
 
     def json(self) -> dict[str, Json]:
-        """`alarms`, `stopped`, `inputs`, `outputs`, `events`, `events_left`, `moment`, `time`; the last is null before the
-        first scan."""
+        """`alarms`, `stopped`, `inputs`, `outputs` (as `exact` has them), `events`, `events_left`, `moment`, `time`; the last is null
+        before the first scan."""
         return {
             "alarms": [alarm.json(self.plant) for alarm in self.alarms],
             "stopped": [stopped.json(self.plant) for stopped in self.stopped.values()],
-            "inputs": dict(self.inputs),
-            "outputs": dict(self.outputs),
+            "inputs": {name: exact(value) for name, value in self.inputs.items()},
+            "outputs": {name: exact(value) for name, value in self.outputs.items()},
             "events": self.events,
             "events_left": self.events_left,
             "moment": self.moment,

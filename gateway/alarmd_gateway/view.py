@@ -113,12 +113,11 @@ class Texts:
         self._kept: OrderedDict[int, str] = OrderedDict()
 
     def of(self, change: Change) -> str:
-        """A change with its `number`, by which it is known again, `kind` and `time`, and its fields in `data`."""
+        """A change as JSON; by its number it is known again."""
         kept = self._kept.get(change.number)
         if kept is not None:
             return kept
-        fields = {"number": change.number, "kind": change.kind.value, "time": change.time}
-        text = json.dumps({**fields, "data": dict(change.data)}, separators=(",", ":"))
+        text = json.dumps(change.json(), separators=(",", ":"))
         self._kept[change.number] = text
         while len(self._kept) > self._room:
             self._kept.popitem(last=False)

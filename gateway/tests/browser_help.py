@@ -139,11 +139,14 @@ return e && !e.disabled && e.getClientRects().length > 0"""
 
 
 @contextmanager
-def browser() -> Iterator[Page]:
-    """Starts a browser, and ends it."""
+def browser(cookies: bool = True) -> Iterator[Page]:
+    """Starts a browser, which takes cookies or doesn't, and ends it."""
     options: Any = webdriver.ChromeOptions()
     for word in WORDS:
         options.add_argument(word)
+    if not cookies:
+        blocked = {"profile.default_content_setting_values.cookies": 2}
+        options.add_experimental_option("prefs", blocked)
     options.binary_location = "/usr/bin/chromium"
     options.set_capability("goog:loggingPrefs", {"browser": "ALL"})
     service = webdriver.chrome.service.Service("/usr/bin/chromedriver")

@@ -24,6 +24,7 @@ from alarmd_gateway.model import (
     Sample,
     Variable,
     Verb,
+    civil,
 )
 from alarmd_gateway.state import Happening, State, Stopped
 from alarmd_gateway.troubles import Trouble, Troubles
@@ -196,6 +197,7 @@ class FakeCore(Core):
     def snapshot(self) -> Snapshot:
         data: dict[str, Json] = {
             "plant": {"name": self.plant.name},
+            "now": civil(datetime.now(timezone.utc)),
             **self.state.json(),
             "journal": len(self.journal),
             "troubles": [trouble.json() for trouble in self.troubles],

@@ -376,6 +376,17 @@ def test_the_journal_by_pages(open_plant: Served) -> None:
         assert client.ask(f"/api/journal?{wrong}").status == 400, wrong
 
 
+def test_a_table_for_a_spreadsheet_begins_with_its_mark(open_plant: Served) -> None:
+    client = Client(open_plant.url)
+    for path in ("journal.csv?", "journal.csv?from=2&count=3&", "report.csv?hours=0&"):
+        assert text(client, f"{path}spreadsheet=1") == "\ufeff" + text(
+            client, f"{path}spreadsheet=0"
+        )
+        assert not text(client, path).startswith("\ufeff")
+    assert client.ask("/api/journal.csv?spreadsheet=2").status == 400
+    assert client.ask("/api/report.csv?spreadsheet=x").status == 400
+
+
 def test_a_long_journal_as_csv(open_plant: Served) -> None:
     open_plant.do(lambda: come_and_go(open_plant.core, 2000))
     client = Client(open_plant.url)

@@ -130,6 +130,34 @@ def test_a_page_asks_for_a_plant_that_was_taken_up() -> None:
         play(work())
 
 
+@pytest.mark.parametrize("anew", [False, True])
+def test_who_hears_nothing_of_another_plant_connects_anew_all_the_same(
+    monkeypatch: pytest.MonkeyPatch, anew: bool
+) -> None:
+    """By a snapshot of that plant alone a page would never show an alarm that is new in it."""
+    if not anew:
+        monkeypatch.setattr(live, "ROOM", 5)
+    with served() as site:
+        core, client = site.core, entered(site)
+
+        def much() -> None:
+            if anew:
+                core.anew()
+            for number in range(live.MOST_AT_ONCE):
+                core.scan(1000 + number)  # more than wait for the page, or go into its next message
+            core.reload(fake_plant(12, "Another tank"))
+            core.scan(5000, {"A11": Code.UNACK})
+
+        async def work() -> None:
+            async with opened(client) as page:
+                await page.until(lambda: page.snapshots == 1)
+                site.do(much)
+                while await page.read():
+                    assert "A11" not in page.codes
+
+        play(work())
+
+
 def test_a_user_hears_of_the_users_own_areas_alone() -> None:
     with served(users=two_users()) as site:
         client = entered(site, "bert")

@@ -21,7 +21,18 @@ from alarmd_gateway.api import Api
 from alarmd_gateway.core import Question
 from alarmd_gateway.jobs import UNKNOWN
 from alarmd_gateway.live import Live
-from alarmd_gateway.model import MOST_EVENTS, Code, Json, Order, Reply, ServerGone, Verb
+from alarmd_gateway.model import (
+    MOST_EVENTS,
+    Code,
+    Json,
+    Kind,
+    Order,
+    Region,
+    Reply,
+    ServerGone,
+    Variable,
+    Verb,
+)
 from alarmd_gateway.troubles import TroubleKind
 from alarmd_gateway.view import View
 
@@ -255,9 +266,11 @@ def test_shelve_with_a_time_and_a_reason(site: Served, page: Page) -> None:
         "2026-11-23T05:59:59.999Z",
         "2026-11-24T00:16:00.000Z",
         "2027-01-01T00:00:00.000Z",
+        "2027-11-25T00:00:00.000Z",
         None,
     ]
-    assert page.run(short, times) == ["05:59:59", "11-24 00:16", "2027-01-01", ""]
+    wanted = ["05:59:59", "11-24 00:16", "01-01 00:00", "2027-11-25", ""]
+    assert page.run(short, times) == wanted
     assert page.text("#aside .row[data-tag='A2'] .why") == reason
     page.choose("A2", "#aside")
     page.click("#aside [data-order=unshelve]")
@@ -525,7 +538,7 @@ def test_the_plant_the_journal_and_the_figures(site: Served, page: Page) -> None
     site.do(lambda: site.core.scan(64_000, {"A8": Code.UNACK}))  # a new row comes by itself
     until(lambda: "rows 1 to 7 of 7" in page.text("#journal .where"))
     assert page.run("return document.querySelector('#journal-csv').href").endswith(
-        "/api/journal.csv"
+        "/api/journal.csv?spreadsheet=1"
     )
     page.click("#tab-figures")
     until(lambda: "Console 2" in page.text("#figures"))
@@ -540,6 +553,25 @@ def test_the_plant_the_journal_and_the_figures(site: Served, page: Page) -> None
     ):
         assert title in told
     assert "80 %" in told and "less than 1 %" in told
+    assert "all of these\t5\t▲ 100.0 %" in told  # the recommendation is for all ten
+
+
+def test_a_time_is_shown_to_its_last_digit(page: Page) -> None:
+    """A browser's numbers are exact up to 2^53 alone."""
+    ran = Variable("ran", Kind.TIME, Region.OUTPUT, 0, "points.st", 4)
+    plant = fake_plant()
+    with served(FakeCore(replace(plant, outputs={**plant.outputs, "ran": ran}))) as site:
+        site.do(lambda: site.core.scan(1000, ran=2**63 - 1))
+        page.open(site.url)
+        page.until_live()
+        page.keys("4")
+        shown = "#plant .outputs .row[data-name=ran] .value"
+        until(lambda: page.text(shown) == "9223372036854775807")
+        site.do(lambda: site.core.scan(2000, ran=-(2**53) - 1))
+        until(lambda: page.text(shown) == "-9007199254740993")
+        site.do(lambda: site.core.scan(3000, ran=2**53 - 1))
+        until(lambda: page.text(shown) == "9007199254740991")
+    page.faults()
 
 
 def test_a_journal_of_many_pages(site: Served, page: Page) -> None:
@@ -560,6 +592,66 @@ def test_a_journal_of_many_pages(site: Served, page: Page) -> None:
     page.run("document.querySelector('#journal-from').focus()")
     page.keys("250", Keys.ENTER)
     until(lambda: page.text("#journal .where") == "rows 250 to 449 of 506")
+
+
+def test_a_page_of_the_journal_begins_with_its_first_row_and_goes_on(
+    site: Served, page: Page
+) -> None:
+    core = site.core
+
+    def fill(first: int) -> None:
+        for scan in range(first, first + 300):
+            core.scan(70_000 + scan, {"A9": Code.UNACK if scan % 2 else Code.RTNUN})
+
+    where = "#journal .where"
+    site.do(lambda: fill(1))
+    page.click("#tab-journal")
+    until(lambda: page.text(where) == "rows 107 to 306 of 306, the newest first")
+    page.run("document.querySelector('#journal .rows').scrollTop = 3000")
+    page.run(
+        "for (const id of ['newest', 'oldest']) document.getElementById(`journal-${id}`).click()"
+    )
+    until(lambda: page.text(where) == "rows 1 to 200 of 306")
+    assert page.run("return document.querySelector('#journal .rows').scrollTop") == 0
+    page.click("#journal-later")
+    until(lambda: page.text(where) == "rows 201 to 306 of 306")
+    site.do(lambda: fill(301))  # the page isn't full: it goes on
+    until(lambda: page.text(where) == "rows 201 to 400 of 606")
+    page.click("#journal-later")
+    until(lambda: page.text(where) == "rows 401 to 600 of 606")
+    page.run("const from = document.getElementById('journal-from'); from.value = -5; from.focus()")
+    page.keys(Keys.ENTER)
+    until(lambda: page.text(where) == "rows 1 to 200 of 606")
+    site.do(core.anew)  # nothing of the record before is shown as one of the new one
+    until(lambda: page.text(where) == "no rows of 0")
+
+
+def test_times_of_another_year_are_told_with_their_hour(site: Served, page: Page) -> None:
+    since = "#alarms .row[data-tag='A5'] .since"
+    year = 365 * 86_400_000
+    for moment, wanted in ((year, "11-23 06:01"), (year + 61_000, "2026-11-23")):
+        site.do(lambda: site.core.scan(moment, {}))
+        until(lambda: page.text(since) == wanted, wanted)
+
+
+def test_a_search_finds_a_letter_however_its_mark_is_written(page: Page) -> None:
+    plant = fake_plant()
+    texts = {"A0": "Za\u0308hler zu hoch", "A1": "Z\u00e4hler zu tief"}
+    rows = tuple(replace(row, text=texts.get(row.tag, row.text)) for row in plant.alarms)
+    with served(
+        FakeCore(replace(plant, alarms=rows, by_tag={row.tag: row for row in rows}))
+    ) as site:
+        page.open(site.url)
+        page.until_live()
+        page.keys("3")
+        for word in ("Z\u00c4HLER", "Za\u0308hler"):
+            page.run(
+                "const search = document.getElementById('search'); search.value = arguments[0];"
+                "search.dispatchEvent(new Event('input'))",
+                word,
+            )
+            until(lambda: page.rows("#all") == [("A0", "NORM"), ("A1", "NORM")], word)
+    page.faults()
 
 
 def test_a_journal_whose_newest_rows_are_of_others(page: Page) -> None:
@@ -648,6 +740,7 @@ def test_before_all_that_stands_is_there_nothing_looks_live(
     page.faults()
 
 
+WHOLE: dict[str, Any] = {"width": 1280, "height": 800, "deviceScaleFactor": 1}
 PRESS = "document.dispatchEvent(new KeyboardEvent('keydown', { key: 'v', bubbles: true }))"
 
 
@@ -671,6 +764,91 @@ def test_what_nobody_can_have_read_isnt_acknowledged_with_the_others(page: Page)
     page.faults()
 
 
+def seen(page: Page, screen: str = "#alarms") -> list[str]:
+    """The tags of the rows that are wholly seen, from above."""
+    found = page.run(
+        "const box = document.querySelector(`${arguments[0]} .rows`), place = box.getBoundingClientRect();"
+        "return [...box.querySelectorAll('.row')].map((row) => [row.getBoundingClientRect(), row.dataset.tag])"
+        ".filter(([at]) => at.top >= place.top - 1 && at.bottom <= place.bottom + 1)"
+        ".sort((a, b) => a[0].top - b[0].top).map(([, tag]) => tag)",
+        screen,
+    )
+    return [str(tag) for tag in found]
+
+
+def test_what_is_read_stays_in_its_place_where_the_row_above_goes_elsewhere(page: Page) -> None:
+    with served(FakeCore(fake_plant(60))) as site:
+        core = site.core
+        site.do(lambda: core.scan(1000, {f"A{number}": Code.UNACK for number in range(60)}))
+        page.open(site.url)
+        page.until_live()
+        until(lambda: len(page.rows()) > 10)
+        page.run("document.querySelector('#alarms .rows').scrollTop = 200")
+        until(lambda: seen(page)[0] == "A20")
+        before = seen(page)
+        site.run(core.order(Order(Verb.ACK, 1, "A20"), None, None))  # by somebody else
+        until(lambda: seen(page)[0] != "A20")
+        assert seen(page)[1:] == before[1:]  # one from above has taken its place
+        assert page.text("#alarms .above") == "▲ 4 unacknowledged above"
+    page.faults()
+
+
+def test_at_twice_the_size_rows_are_seen_and_no_other_one_is_acknowledged(page: Page) -> None:
+    """At 1280 x 800 that is a page of 640 x 400, of which a part is seen."""
+    command = page.driver.execute_cdp_cmd
+    half = {"width": 640, "height": 400, "deviceScaleFactor": 2, "mobile": False}
+    with served(FakeCore(fake_plant(60))) as site:
+        core = site.core
+        site.do(lambda: core.scan(1000, {f"A{number}": Code.UNACK for number in range(60)}))
+        page.open(site.url)
+        page.until_live()
+        button = "#alarms [data-order=ack-seen]"
+        until(lambda: "(" in page.text(button))
+        try:
+            command("Emulation.setDeviceMetricsOverride", half)
+            on_screen = (
+                "return [...document.querySelectorAll('#alarms .rows .row')].filter((row) => "
+                "row.getBoundingClientRect().bottom <= innerHeight + 1).length"
+            )
+            until(lambda: 1 <= page.run(on_screen) < 6)
+            count = page.run(on_screen)
+            until(lambda: page.text(button).endswith(f"({count})"))  # without a scan
+            assert page.run("return link.getBoundingClientRect().right <= innerWidth")
+            time.sleep(0.5)
+            page.keys("v")
+            until(lambda: page.text("#message") == f"{count} acknowledged")
+            page.run("scrollTo(0, 10000)")
+            until(lambda: int(page.text(button).split("(")[1].rstrip(")")) > count)
+        finally:
+            command("Emulation.setDeviceMetricsOverride", {**WHOLE, "mobile": False})
+    page.faults()
+
+
+def test_with_colours_of_the_system_the_chosen_one_is_seen(site: Served, page: Page) -> None:
+    def ground(css: str) -> str:
+        return str(
+            page.run(
+                "return getComputedStyle(document.querySelector(arguments[0])).backgroundColor", css
+            )
+        )
+
+    try:
+        media = [{"name": "forced-colors", "value": "active"}]
+        page.driver.execute_cdp_cmd("Emulation.setEmulatedMedia", {"features": media})
+        page.choose("A1")
+        until(lambda: ground("#alarms .row[data-tag=A1]") != ground("#alarms .row[data-tag=A2]"))
+        assert ground("#tab-alarms") != ground("#tab-aside")
+        page.keys("2")
+        until(lambda: ground("#aside [data-code='']") != ground("#aside [data-code=OOS]"))
+        site.do(lambda: site.core.troubles.raises(TroubleKind.SERVER, "", "it has ended"))
+        stripes = (
+            "return getComputedStyle(document.querySelector('main'), '::after').backgroundImage"
+        )
+        until(lambda: "gradient" in str(page.run(stripes)))
+    finally:
+        page.driver.execute_cdp_cmd("Emulation.setEmulatedMedia", {"features": []})
+
+
 def test_an_alarm_that_comes_again_is_to_be_read_anew(site: Served, page: Page) -> None:
     site.do(lambda: site.core.scan(62_000, {"A4": Code.LATAK}))
     until(lambda: ("A4", "LATAK") in page.rows())
@@ -689,33 +867,36 @@ def test_an_alarm_that_comes_again_is_to_be_read_anew(site: Served, page: Page) 
     until(lambda: ("A4", "ACKED") in page.rows())
 
 
-def test_an_alarm_that_comes_again_while_others_are_acknowledged_is_not(
-    site: Served, page: Page
+def test_what_comes_again_while_others_are_acknowledged_is_to_be_read(
+    site: Served, page: Page, monkeypatch: pytest.MonkeyPatch
 ) -> None:
-    core, take, door = site.core, site.core.order, threading.Event()
+    core, door, give = site.core, threading.Event(), site.core.order
+    since = {alarm.row.tag: alarm.since for alarm in core.state.alarms}
+    read: list[int | None] = []
 
     async def slow(
         order: Order, user: str | None, reason: str | None, seen: int | None = None
     ) -> Reply:
-        await asyncio.to_thread(door.wait, 60)
-        return await take(order, user, reason, seen)
+        while not door.is_set():
+            await asyncio.sleep(0.01)
+        read.append(seen)
+        return await give(order, user, reason, seen)
 
-    site.do(lambda: core.scan(62_000, {"A2": Code.RTNUN}))
-    until(lambda: ("A2", "RTNUN") in page.rows())
-    site.do(lambda: setattr(core, "order", slow))
+    monkeypatch.setattr(core, "order", slow)
     time.sleep(0.5)  # until the rows have been there for long enough
-    page.keys("v")  # A5, A1 and A2, one after another
-    until(lambda: page.run(AWAY))
+    page.keys("v")
+    until(lambda: page.text("#alarms .row.away .tag") == "A5")
+    site.do(lambda: core.scan(62_000, {"A1": Code.RTNUN, "A2": Code.RTNUN}))
     site.do(lambda: core.scan(63_000, {"A2": Code.UNACK}))
-    until(lambda: ("A2", "UNACK") in page.rows())
+    until(lambda: page.text("#alarms .row[data-tag='A2'] .since") == "06:01:03")
     door.set()
     told = "2 acknowledged, 1 not: A2: it has come again since it was read"
     until(lambda: page.text("#message") == told)
-    assert ("A2", "UNACK") in page.rows()
-    page.choose("A2")
-    page.keys("a")
-    until(lambda: ("A2", "ACKED") in page.rows())
-    page.faults()
+    assert [order.target for order, _, _ in core.orders] == ["A5", "A1"]
+    assert read == [since["A5"], since["A1"]]
+    time.sleep(0.5)
+    page.keys("v")
+    until(lambda: page.text("#message") == "1 acknowledged")
 
 
 def test_what_came_while_the_tab_wasnt_shown_is_to_be_read_first(site: Served, page: Page) -> None:
@@ -730,6 +911,32 @@ def test_what_came_while_the_tab_wasnt_shown_is_to_be_read_first(site: Served, p
     assert site.core.orders == []
     page.keys("v")
     until(lambda: page.text("#message") == "4 acknowledged")
+
+
+def test_the_keys_are_where_they_are_with_letters_that_arent_latin(
+    site: Served, page: Page
+) -> None:
+    def press(key: str, code: str) -> None:
+        given = {"key": key, "code": code, "text": key}
+        for kind in ("keyDown", "keyUp"):
+            page.driver.execute_cdp_cmd("Input.dispatchKeyEvent", {"type": kind, **given})
+
+    page.choose("A5")
+    press("\u00e6", "KeyQ")  # Q isn't among the keys
+    press("\u0444", "KeyA")  # Cyrillic
+    until(lambda: page.text("#message") == "A5: acknowledged")
+    page.choose("A2")
+    page.run(
+        "document.dispatchEvent(new KeyboardEvent('keydown', "
+        "{ key: '\\u00e6', code: 'KeyA', modifierAltGraph: true, bubbles: true }))"
+    )
+    press("\u03c3", "KeyS")  # Greek
+    until(lambda: page.text("#shelve .subject").startswith("A2"))
+    page.keys(Keys.ESCAPE)
+    until(lambda: not page.text("#shelve"))
+    assert [order.target for order, _, _ in site.core.orders] == ["A5"]
+    press("a", "KeyQ")  # what is written on the keys counts where it is Latin
+    until(lambda: page.text("#message") == "A2: acknowledged")
 
 
 def test_a_stuck_key_acknowledges_once(site: Served, page: Page) -> None:
@@ -797,6 +1004,23 @@ def test_a_lost_connection_is_told_and_comes_back(page: Page) -> None:
     page.faults()
 
 
+def test_after_a_sleep_of_the_machine_nothing_looks_live(site: Served, page: Page) -> None:
+    """Its clocks may stand still meanwhile, but for the time of day; and that may be wrong."""
+    page.run(
+        "window.told = []; const lost = document.getElementById('lost');"
+        "new MutationObserver(() => { if (!lost.hidden) window.told.push(lost.textContent) })"
+        ".observe(lost, { attributes: true, childList: true });"
+        "const now = Date.now; Date.now = () => now() + 7 * 3600000"
+    )
+    before = datetime.now(timezone.utc)
+    told = until(lambda: page.run("return window.told"))[-1]
+    assert told.startswith("CONNECTION LOST since ")
+    since = datetime.strptime(told[22:30], "%H:%M:%S").replace(tzinfo=timezone.utc)
+    since = since.replace(year=before.year, month=before.month, day=before.day)
+    assert abs((since - before).total_seconds()) % 86_400 < 3600  # the gateway's time
+    page.until_live()
+
+
 def test_a_session_that_has_ended_asks_for_the_password(page: Page) -> None:
     with served(users=two_users()) as site:
         page.open(site.url)
@@ -808,6 +1032,28 @@ def test_a_session_that_has_ended_asks_for_the_password(page: Page) -> None:
         page.login("bert")
         page.until_live()
         assert page.text("#user-name") == "bert"
+    page.faults()
+
+
+def test_who_has_logged_out_leaves_nothing_of_the_plant_behind(page: Page) -> None:
+    with served(users=two_users()) as site:
+        page.open(site.url)
+        page.login("anna")
+        page.until_live()
+        site.do(lambda: site.core.stops("fill"))
+        until(lambda: page.text("#troubles"))
+        page.click("#log-out")
+        until(lambda: page.text("#login-message") == "Logged out.")
+        page.run("document.dispatchEvent(new Event('visibilitychange'))")  # of another tab
+        time.sleep(0.5)
+        shown = page.run(
+            "return [...document.body.children].filter((e) => e.getClientRects().length)"
+        )
+        assert [one.get_attribute("id") for one in shown] == ["login"]
+        assert page.driver.title == "Alarms"
+        page.login("anna")
+        page.until_live()
+        until(lambda: page.text("#troubles"))
     page.faults()
 
 
@@ -834,6 +1080,19 @@ def test_who_couldnt_log_out_is_told(page: Page) -> None:
         until(lambda: page.text("#login-message") == "Logged out.")
         assert site.do(lambda: len(site.web.guard.sessions)) == 0
     page.faults()
+
+
+@pytest.mark.parametrize("users", [False, True])
+def test_a_browser_that_takes_no_cookies_is_told_so(users: bool) -> None:
+    words = "this browser takes no cookies"
+    with browser(cookies=False) as page, served(users=two_users() if users else None) as site:
+        page.open(site.url)
+        if users:
+            page.login("anna")
+        until(lambda: words in page.text("#login-message" if users else "#lost"))
+        begun = len(site.web.guard.sessions)
+        time.sleep(3)
+        assert len(site.web.guard.sessions) == begun  # it begins no other ones
 
 
 def test_a_page_names_who_its_orders_are_of(page: Page) -> None:

@@ -37,6 +37,9 @@ from alarmd_gateway.tokens import cut
         ("TIME#-1d2h", -93_600_000),
         ("t#5ms + T#1s", 1005),
         ("-2147483648", -2147483648),
+        ("(" * 127 + "TRUE" + ")" * 127, True),  # as deep as alarmd takes it
+        ("1 + (" * 64 + "2" + ")" * 64, 66),
+        ("FALSE OR FALSE XOR TRUE & 1 + 2 * 3 - 4 < 5 - 1 = TRUE", True),
     ],
 )
 def test_constants(text: str, wanted: bool | int) -> None:

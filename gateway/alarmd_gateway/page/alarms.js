@@ -2,7 +2,7 @@
 
 import { $, el, setText, sign } from "./dom.js";
 import { askRemoval, askShelving } from "./dialogs.js";
-import { isAway, order, orderAll, tell } from "./orders.js";
+import { acknowledgeAll, isAway, order, seenOf, tell } from "./orders.js";
 import { VirtualList } from "./rows.js";
 import { ASIDE, STATES, STANDING, TAKES, WAITING, duration, longTime, shortTime } from "./words.js";
 
@@ -17,9 +17,6 @@ const ACTIONS = {
   remove: ["O", "Out of service …", askRemoval],
   return: ["T", "Return"],
 };
-
-// Up to when an alarm is read that is acknowledged now: where it comes again until the order is taken, that isn't acknowledged.
-const seenOf = (alarm) => (alarm.since === null ? {} : { seen: alarm.since });
 
 function takes(verb, alarm) {
   return alarm !== undefined && TAKES[verb].has(alarm.code) && (verb !== "shelve" || alarm.longest > 0);
@@ -112,7 +109,7 @@ export class AlarmScreen {
 
   // Says how many unacknowledged ones stand above what is seen.
   showAbove() {
-    const hidden = Math.floor((this.list.body.scrollTop + 2) / this.list.height);
+    const hidden = Math.floor((this.list.sight().top + 2) / this.list.height);
     const waiting = this.list.items.slice(0, hidden).filter((alarm) => WAITING.has(alarm.code)).length;
     this.above.hidden = waiting === 0;
     setText(this.above, waiting ? `▲ ${waiting} unacknowledged above` : "");
@@ -145,8 +142,8 @@ export class AlarmScreen {
 
   async ackSeen() {
     if (!this.store.live || !this.all) return;
-    const seen = this.list.seen(READ).filter((alarm) => WAITING.has(alarm.code)).map((alarm) => [alarm.tag, seenOf(alarm)]);
-    if (seen.length) await orderAll(this.store, "ack", seen);
+    const alarms = this.list.seen(READ).filter((alarm) => WAITING.has(alarm.code));
+    if (alarms.length) await acknowledgeAll(this.store, alarms);
     if (document.activeElement === document.body || document.activeElement?.disabled) this.list.focus();
   }
 
@@ -226,17 +223,20 @@ export function asideScreen(store) {
 
 const order_of = (alarm) => ["SHELVED", "OOS", "SUPPR"].indexOf(alarm.code);
 
+// A text to be searched in, or for: a letter with its mark may be one character or two.
+const plain = (text) => text.normalize("NFC").toLowerCase();
+
 export function allScreen(store) {
   let words = [];
   return new AlarmScreen(store, "all", {
     verbs: ["ack", "shelve", "unshelve", "reset", "remove", "return"],
-    choose: (alarm) => words.every((word) => `${alarm.tag} ${alarm.text} ${alarm.area} ${STATES[alarm.code]}`.toLowerCase().includes(word)),
+    choose: (alarm) => words.every((word) => plain(`${alarm.tag} ${alarm.text} ${alarm.area} ${STATES[alarm.code]}`).includes(word)),
     order: (alarms) => alarms,
     label: "All alarms",
     empty: "No alarm has these words.",
     extra: (screen) => {
       const input = el("input", { type: "search", id: "search", placeholder: "Search ( / )", "aria-label": "Search in tag, text, area and state", maxLength: 100, oninput: () => {
-        words = input.value.toLowerCase().split(/\s+/).filter(Boolean);
+        words = plain(input.value).split(/\s+/).filter(Boolean);
         screen.show();
       } });
       input.addEventListener("keydown", (event) => {

@@ -51,6 +51,8 @@ function priorities(report) {
 
 function frequent(report) {
   const rows = report.frequent.map((one) => row(one.share > 0.05, one.tag, one.count, over(one.share, 0.05, percent(one.share))));
+  const [count, share] = ["count", "share"].map((name) => report.frequent.reduce((sum, one) => sum + one[name], 0));
+  if (rows.length > 1) rows.push(row(share > 0.05, "all of these", count, over(share, 0.05, percent(share)))); // the recommendation is for these
   return table("Ten most frequent", ["Tag", "Alarms", "Share"], rows, `Recommended: ${report.recommended.frequent}.`);
 }
 
@@ -92,7 +94,7 @@ export class FiguresScreen {
   constructor() {
     this.period = el("select", { id: "period", "aria-label": "Time", onchange: () => this.load() }, ...PERIODS.map(([hours, text]) => el("option", { value: hours, selected: hours === 24 }, text)));
     this.where = el("span", { class: "where", role: "status" });
-    this.csv = el("a", { class: "button", id: "figures-csv", download: "figures.csv", href: "/api/report.csv?hours=24" }, "CSV");
+    this.csv = el("a", { class: "button", id: "figures-csv", download: "figures.csv", href: "/api/report.csv?spreadsheet=1&hours=24" }, "CSV");
     const again = el("button", { type: "button", id: "figures-again", onclick: () => this.load() }, "Work out anew");
     this.body = el("div", { class: "figures-body", tabIndex: 0, role: "region", "aria-label": "Figures" });
     $("figures").append(el("div", { class: "bar", role: "toolbar", "aria-label": "Figures" }, el("label", {}, "Time ", this.period), again, this.where, this.csv), this.body);
@@ -110,7 +112,7 @@ export class FiguresScreen {
     if (this.loading) return;
     this.loading = this.loaded = true;
     const hours = this.period.value;
-    this.csv.href = `/api/report.csv?hours=${hours}`;
+    this.csv.href = `/api/report.csv?spreadsheet=1&hours=${hours}`;
     setText(this.where, "working it out …");
     try {
       const report = await get(`/api/report?hours=${hours}`, 180000);

@@ -47,9 +47,9 @@ export class JournalScreen {
     this.list.height = 32;
     const button = (id, text, act) => el("button", { type: "button", id, onclick: act }, text);
     this.from = el("input", { type: "number", min: 1, id: "journal-from", "aria-label": "Row to begin with" });
-    this.from.addEventListener("keydown", (event) => event.key === "Enter" && this.open(Number(this.from.value) || 1));
+    this.from.addEventListener("keydown", (event) => event.key === "Enter" && this.open(Math.min(1e12, Math.max(1, Math.floor(Number(this.from.value)) || 1))));
     this.where = el("span", { class: "where", role: "status" });
-    this.csv = el("a", { id: "journal-csv", class: "button", href: "/api/journal.csv", download: "journal.csv" }, "CSV");
+    this.csv = el("a", { id: "journal-csv", class: "button", href: "/api/journal.csv?spreadsheet=1", download: "journal.csv" }, "CSV");
     this.bar = el(
       "div",
       { class: "bar", role: "toolbar", "aria-label": "Pages of the journal" },
@@ -69,26 +69,35 @@ export class JournalScreen {
     return this.first ?? Math.max(1, this.store.rows - PAGE + 1);
   }
 
+  // Another page, from its beginning.
   open(first) {
     this.first = first;
-    this.load(true);
+    this.jump = true;
+    this.load();
+  }
+
+  // Whether the page is another one by now: the newest one, one that isn't full, and any where a new record has begun.
+  get grows() {
+    const [rows, shown] = [this.store.rows, this.shownLength];
+    return rows < shown || (rows !== shown && (this.first === null || this.next === null));
   }
 
   show() {
-    if (this.first === null && this.store.rows !== this.shownLength) this.load(false);
+    if (this.grows) this.load();
   }
 
-  async load(jump) {
+  async load() {
     if (this.loading) {
       this.again = true;
       return;
     }
     this.loading = true;
-    const newest = this.first === null;
+    const [newest, jump, length] = [this.first === null, this.jump, this.store.rows];
+    this.jump = false;
     try {
       const begin = this.begin;
       const found = await get(`/api/journal?from=${begin}&count=${PAGE}`);
-      this.shownLength = newest ? this.store.rows : null;
+      this.shownLength = length;
       this.next = found.next;
       this.list.show(newest ? found.rows.reverse() : found.rows);
       if (jump) this.list.body.scrollTop = 0;
@@ -104,9 +113,9 @@ export class JournalScreen {
     // not more often than twice a second, however fast rows come
     setTimeout(() => {
       this.loading = false;
-      if (this.again || (this.first === null && this.shownLength !== this.store.rows && !$("journal").hidden)) {
+      if (this.again || (this.grows && !$("journal").hidden)) {
         this.again = false;
-        this.load(false);
+        this.load();
       }
     }, 500);
   }

@@ -5,12 +5,14 @@ const OPENING = 30000; // ms in which a new connection has to bring its first me
 const WAITS = [300, 600, 1000, 2000, 3000]; // ms before the next try
 
 export class Live {
-  // `told` has the functions table(data), snapshot(data), changes(list), alive(), lost(), and two that promise: ready(), whether to connect,
+  // `told` has the functions table(data), snapshot(data), changes(list), alive(), lost(since), and two that promise: ready(), whether to connect,
   // and plant(), the plant's table, or null
   constructor(told) {
     this.told = told;
     this.socket = null;
-    this.heard = null; // when the last message came, by the browser's clock
+    this.heard = null; // when the last message came, by a clock that nobody sets, but which may stand still while the machine sleeps
+    this.heardAt = null; // the same by the browser's time of day
+    this.time = null; // the same by the gateway's time of day, where it has told that since; all of them in ms
     this.alive = false;
     this.tries = 0;
     this.number = null; // of the last change
@@ -41,6 +43,8 @@ export class Live {
   // it might not be the one of the snapshot, and an alarm that is new in that one would never be shown.
   async hear(socket, message) {
     this.heard = performance.now();
+    this.heardAt = Date.now();
+    this.time = Date.parse(message.time ?? message.snapshot?.now) || this.time;
     if (this.held === null) {
       this.take(message);
       return;
@@ -76,7 +80,7 @@ export class Live {
 
   look() {
     const now = performance.now();
-    if (this.alive && now - this.heard > SILENCE) this.drop();
+    if (this.alive && Math.max(now - this.heard, Date.now() - this.heardAt) > SILENCE) this.drop();
     else if (!this.alive && this.socket && now - this.opened > OPENING) this.drop();
   }
 
@@ -91,7 +95,7 @@ export class Live {
     this.socket = null;
     this.number = null;
     this.alive = false;
-    this.told.lost();
+    this.told.lost(new Date(this.time ?? Date.now())); // the browser's clock may be wrong
     this.later();
   }
 

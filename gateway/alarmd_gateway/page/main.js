@@ -57,7 +57,29 @@ async function start() {
     return undefined;
   }
   $("lost").hidden = true;
-  return begin(who);
+  const own = await kept(who);
+  if (own) return begin(own);
+  document.body.className = "plain";
+  $("lost").hidden = false;
+  setText($("lost"), `The page can't begin: ${NO_COOKIES}.`); // nor does it try again: each try would begin another session
+  return undefined;
+}
+
+const NO_COOKIES = "this browser takes no cookies here, and a session is one";
+
+// The session whose cookie the browser has kept, null where it keeps none. It doesn't tell that by itself: navigator.cookieEnabled may be true all the same.
+async function kept(who) {
+  let known = who;
+  for (let tries = 0; tries < 3; tries += 1) {
+    try {
+      const again = await get("/api/session");
+      if (again.token === known.token) return again;
+      known = again; // another tab may have begun one at the same time
+    } catch (fault) {
+      return fault.status === 401 ? null : known; // the connection says what else there is
+    }
+  }
+  return null;
 }
 
 function askLogin(words = "") {
@@ -79,7 +101,9 @@ $("login").onsubmit = async (event) => {
   try {
     const who = await post("/api/login", { name: name.value, password: password.value });
     password.value = "";
-    begin(who);
+    const own = await kept(who);
+    if (own) begin(own);
+    else setText($("login-message"), NO_COOKIES);
   } catch (fault) {
     setText($("login-message"), fault.message);
     password.value = "";
@@ -114,7 +138,7 @@ function begin(who) {
       for (const change of list) if (change.kind === "alarm") settled(change.data.tag);
     },
     alive: () => setLost(null),
-    lost: () => setLost(lostAt ?? new Date()),
+    lost: (since) => setLost(lostAt ?? since),
     ready,
     plant: () => get("/api/plant").catch(() => null),
   });
@@ -191,6 +215,7 @@ function showScreen(name) {
 }
 
 function draw() {
+  if ($("screens").hidden) return; // nobody is logged in
   store.connected = lostAt === null && live !== null && live.alive;
   const alive = store.connected && !isDead(store);
   if (alive !== store.live) {
@@ -220,6 +245,12 @@ function drawCounts() {
   box.replaceChildren(...parts, counts.hidden ? el("span", { class: "hidden-count" }, `${counts.hidden} unacknowledged in other areas`) : "");
 }
 
+// What a key stands for: with letters that aren't Latin, what stands in its place on a Latin keyboard.
+function keyOf(event) {
+  const latin = /^[\x20-\x7e]+$/.test(event.key) || event.getModifierState("AltGraph") || event.isComposing;
+  return (!latin && /^Key([A-Z])$/.exec(event.code)?.[1] || event.key).toLowerCase();
+}
+
 document.addEventListener("keydown", (event) => {
   if (event.repeat && event.key === "Enter" && event.target.matches?.("button")) event.preventDefault(); // else it is pressed each time
   if (event.ctrlKey || event.altKey || event.metaKey || anyOpen() || $("screens").hidden) return;
@@ -229,7 +260,7 @@ document.addEventListener("keydown", (event) => {
     return;
   }
   if (field || event.repeat) return; // a key that is held, or stuck, would acknowledge whatever comes
-  const key = event.key.toLowerCase();
+  const key = keyOf(event);
   const screen = NAMES["123456".indexOf(key)];
   if (screen && key) showScreen(screen);
   else if (key === "f") $("area").focus();

@@ -82,14 +82,20 @@ export async function order(store, verb, target, more = {}) {
   return why === null;
 }
 
-// One order for several alarms, one after another. `targets` are their tags, each with what its order has beside that.
-export async function orderAll(store, verb, targets) {
+// Up to when an alarm is read that is acknowledged now: where it comes again until the order is taken, that isn't acknowledged.
+export const seenOf = (alarm) => (alarm.since === null ? {} : { seen: alarm.since });
+
+// Acknowledges several alarms, one after another. It may take a while: one that has come again by then isn't what was read.
+export async function acknowledgeAll(store, alarms) {
   const faults = [];
-  for (const [target, more] of targets) {
-    const why = await give(store, verb, target, more);
-    if (why !== null) faults.push(`${target}: ${why}`);
+  const read = alarms.map((alarm) => ({ tag: alarm.tag, since: alarm.since, seen: seenOf(alarm) }));
+  for (const { tag, since, seen } of read) {
+    const now = store.alarms.get(tag);
+    const again = now?.code === "UNACK" && now.since !== since;
+    const why = again ? "it has come again since it was read" : await give(store, "ack", tag, seen);
+    if (why !== null) faults.push(`${tag}: ${why}`);
   }
-  const done = targets.length - faults.length;
+  const done = read.length - faults.length;
   const not = faults.every(sure) ? "not" : "perhaps not";
-  tell(`${done} ${DONE[verb]}${faults.length ? `, ${faults.length} ${not}: ${faults[0]}` : ""}`, faults.length > 0);
+  tell(`${done} ${DONE.ack}${faults.length ? `, ${faults.length} ${not}: ${faults[0]}` : ""}`, faults.length > 0);
 }

@@ -27,28 +27,46 @@ export class VirtualList {
     this.body = el("div", { class: "rows", tabIndex: 0, role: "rowgroup", "aria-label": label, onscroll: () => this.draw() }, this.spacer, this.nothing);
     this.grid = el("div", { class: "grid", role: "grid", "aria-label": label, "aria-readonly": "true" }, el("div", { role: "rowgroup" }, this.head), this.body);
     this.body.addEventListener("keydown", (event) => this.onKey(event));
-    new ResizeObserver(() => this.draw()).observe(this.body);
+    const other = () => {
+      this.draw();
+      this.chosen(this.current()); // others are seen by now
+    };
+    new ResizeObserver(other).observe(this.body);
+    window.addEventListener("scroll", other);
+    for (const kind of ["scroll", "resize"]) visualViewport.addEventListener(kind, other);
   }
 
   show(items) {
-    const anchor = this.body.scrollTop > 0 ? this.anchor() : null;
+    const top = this.body.scrollTop;
+    const read = top > 0 ? this.read() : [];
     this.items = items;
     this.places = null;
     this.spacer.style.height = `${items.length * this.height}px`;
     this.grid.setAttribute("aria-rowcount", items.length + 1);
     this.nothing.hidden = items.length > 0;
-    if (anchor) {
-      // who has scrolled down keeps what was read in its place
-      const place = this.place(anchor.key);
-      if (place >= 0) this.body.scrollTop = place * this.height - anchor.offset;
-    }
+    // who has scrolled down keeps what was read in its place: by the first row that tells what it did, since one that doesn't may stand elsewhere now
+    const anchor = read.find((row) => this.place(row.key) >= 0 && this.told(this.item(row.key)) === row.told);
+    if (anchor) this.body.scrollTop = top + (this.place(anchor.key) - anchor.place) * this.height;
     this.draw();
   }
 
-  anchor() {
-    const first = Math.ceil(this.body.scrollTop / this.height);
-    const item = this.items[first];
-    return item === undefined ? null : { key: this.key(item), offset: first * this.height - this.body.scrollTop };
+  // The rows that are wholly seen, from above, with what they tell.
+  read() {
+    const sight = this.sight();
+    return [...this.drawn.entries()]
+      .map(([key, { place, told }]) => ({ key, place, told }))
+      .filter((row) => this.whole(row, sight))
+      .sort((a, b) => a.place - b.place);
+  }
+
+  // From where until where the list is on the screen, in px from its first row: less than its box where the page is scrolled, or made larger
+  // by two fingers. In a tab that isn't shown nothing is.
+  sight() {
+    if (document.hidden) return { top: 0, end: -Infinity };
+    const { scrollTop, clientHeight } = this.body;
+    const at = this.body.getBoundingClientRect().top + this.body.clientTop;
+    const { offsetTop, height } = visualViewport;
+    return { top: scrollTop + Math.max(0, offsetTop - at), end: scrollTop + Math.min(clientHeight, offsetTop + height - at) };
   }
 
   place(key) {
@@ -73,6 +91,7 @@ export class VirtualList {
     const first = Math.max(0, Math.floor(this.body.scrollTop / this.height) - MORE);
     const last = Math.min(this.items.length, Math.ceil((this.body.scrollTop + seen) / this.height) + MORE);
     const kept = new Set();
+    const sight = this.sight();
     for (let place = first; place < last; place += 1) {
       const item = this.items[place];
       const key = this.key(item);
@@ -81,7 +100,7 @@ export class VirtualList {
       row.element.style.transform = `translateY(${place * this.height}px)`;
       row.element.setAttribute("aria-rowindex", place + 2);
       row.place = place;
-      this.look(row, this.told(item));
+      this.look(row, this.told(item), sight);
       this.fill(row.cells, item, row.element);
       this.mark(row, key);
     }
@@ -105,16 +124,14 @@ export class VirtualList {
     return row;
   }
 
-  // Whether a row is wholly seen; in a tab that isn't shown none is.
-  whole(row) {
-    if (document.hidden) return false;
-    const top = this.body.scrollTop;
-    return row.place * this.height >= top - 1 && (row.place + 1) * this.height <= top + this.body.clientHeight + 1;
+  // Whether a row is wholly seen.
+  whole(row, { top, end }) {
+    return row.place * this.height >= top - 1 && (row.place + 1) * this.height <= end + 1;
   }
 
   // Since when a row tells what it does, wholly seen: `since`, null where it isn't.
-  look(row, told) {
-    if (!this.whole(row)) row.since = null;
+  look(row, told, sight) {
+    if (!this.whole(row, sight)) row.since = null;
     else if (row.since === null || row.told !== told) row.since = performance.now();
     row.told = told;
   }
@@ -139,8 +156,9 @@ export class VirtualList {
   // The items whose rows are wholly seen, and have been so for at least so many ms, with what they tell.
   seen(age = 0) {
     const now = performance.now();
+    const sight = this.sight();
     return [...this.drawn.values()]
-      .filter((row) => this.whole(row) && row.since !== null && now - row.since >= age)
+      .filter((row) => this.whole(row, sight) && row.since !== null && now - row.since >= age)
       .sort((a, b) => a.place - b.place)
       .map((row) => this.items[row.place])
       .filter((item) => item !== undefined);

@@ -36,12 +36,14 @@ export const DONE = {
 };
 export const TRAPS = { DIVZERO: "division by zero", INDEX: "index out of bounds", OVERFLOW: "overflow" };
 
+const YEAR = 365 * 86400000; // ms
+
 // A civil time as short as it can be beside another one: the time of day, where that is another day the date and minutes, and the date
-// alone where it is another year.
-export function shortTime(time, now = "") {
+// alone where it is a year or more away.
+export function shortTime(time, now) {
   if (!time) return "";
   if (now?.slice(0, 10) === time.slice(0, 10)) return time.slice(11, 19);
-  if (now?.slice(0, 4) === time.slice(0, 4)) return `${time.slice(5, 10)} ${time.slice(11, 16)}`;
+  if (now && Math.abs(Date.parse(now) - Date.parse(time)) < YEAR) return `${time.slice(5, 10)} ${time.slice(11, 16)}`;
   return time.slice(0, 10);
 }
 
