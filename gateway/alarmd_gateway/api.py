@@ -102,7 +102,7 @@ class Api:
         if user is None:
             raise Refused(403, "the name or the password is wrong")
         self._tries.succeeded(address, name)
-        self.guard.sessions.end(request.cookies.get(self.guard.cookie))
+        self.guard.end(request)
         response = answer(None)
         session = self.guard.begin(response, user.name, user.consoles)
         response.text = answer(self.who(session)).text
@@ -111,7 +111,7 @@ class Api:
     async def logout(self, request: web.Request) -> web.Response:
         """Ends the session."""
         self.guard.changing(request)
-        self.guard.sessions.end(request.cookies.get(self.guard.cookie))
+        self.guard.end(request)
         response = answer({"user": None})
         self.guard.forget(response)
         return response

@@ -81,10 +81,11 @@ class Guard:
 
     def session(self, request: web.Request) -> Session:
         """The session of a request. Raises Refused (401)."""
-        session = self.sessions.find(request.cookies.get(self.cookie))
-        if session is None:
-            raise Refused(401, "nobody is logged in")
-        return session
+        for value in cookies(request, self.cookie):
+            session = self.sessions.find(value)
+            if session is not None:
+                return session
+        raise Refused(401, "nobody is logged in")
 
     def reading(self, request: web.Request) -> Session:
         """The session of a request that only reads. Where nobody has to log in, it needs none. Raises Refused (401)."""
@@ -111,6 +112,11 @@ class Guard:
             self.cookie, cookie, path="/", httponly=True, samesite="Strict", secure=self.tls
         )
         return session
+
+    def end(self, request: web.Request) -> None:
+        """Ends the session of a request, where it has one."""
+        for value in cookies(request, self.cookie):
+            self.sessions.end(value)
 
     def forget(self, response: web.StreamResponse) -> None:
         """Makes the browser forget the cookie."""
@@ -162,6 +168,17 @@ class Guard:
     async def headers(self, request: web.Request, response: web.StreamResponse) -> None:
         """Sets them, before it is sent."""
         response.headers.update(self.all_headers)
+
+
+def cookies(request: web.Request, name: str) -> list[str]:
+    """The values of the cookies of this name. Those of other names may be spelled anyhow: a browser brings what any program on any port
+    of this host has set, and none of these may hide ours, as they do where all have to be understood."""
+    pairs = (
+        pair.strip(" \t").partition("=")
+        for line in request.headers.getall("Cookie", ())
+        for pair in line.split(";")
+    )
+    return [value for key, _, value in pairs if key == name]
 
 
 def this_machine(host: str) -> bool:

@@ -130,6 +130,47 @@ def test_a_whole_shift_may_log_in_from_one_address(guarded_plant: Served) -> Non
         assert Client(guarded_plant.url).login(("anna", "bert")[number % 2]).status == 200
 
 
+COOKIES = [
+    'state={"open":true}',
+    "name=a b",
+    "path=/x",
+    "version=1",
+    "a,b=c",
+    "a@b=1",
+    "list[0]=1",
+    "größe=1",
+    'x="unclosed',
+    "=nothing",
+    "nothing",
+]
+
+
+@pytest.mark.parametrize("other", COOKIES)
+def test_a_cookie_of_another_program_on_this_host_hides_no_session(
+    guarded_plant: Served, caplog: pytest.LogCaptureFixture, other: str
+) -> None:
+    """A browser brings the cookies of all ports of a host."""
+    anna = as_user(guarded_plant, "anna")
+    own = anna.cookie
+    for anna.cookie in (f"{other}; {own}", f"{own}; {other}", f"{own};{other};{own}"):
+        sent = {"Cookie": anna.cookie.encode().decode("latin-1")}
+        assert anna.ask("/api/state", headers=sent).status == 200
+        order = {"order": "ack", "target": "A99"}
+        assert error(anna.post("/api/order", order, **sent))[0] == 404
+    assert anna.post("/api/logout", {}, **sent).status == 200
+    anna.cookie = own
+    assert anna.ask("/api/state").status == 401
+    assert caplog.records == []
+
+
+def test_a_cookie_of_the_same_name_that_is_no_session_hides_none(guarded_plant: Served) -> None:
+    anna = as_user(guarded_plant, "anna")
+    own = anna.cookie
+    foreign = f"{own.partition('=')[0]}=guessed"
+    for anna.cookie in (f"{foreign}; {own}", f"{own}; {foreign}"):
+        assert anna.ask("/api/session").json["user"] == "anna"
+
+
 def test_an_order_wants_the_sessions_own_token(guarded_plant: Served) -> None:
     anna, bert = as_user(guarded_plant, "anna"), as_user(guarded_plant, "bert")
     right = anna.token
