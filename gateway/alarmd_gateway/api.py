@@ -13,7 +13,7 @@ from aiohttp import web
 from .cells import guarded
 from .core import Core
 from .guard import Guard, Refused, answer, body, number
-from .journal import Row
+from .journal import Journal
 from .model import Json
 from .ordering import Marks, read_mark, read_order, with_console
 from .report_table import as_json, table
@@ -25,6 +25,8 @@ MOST_ROWS = 1000
 HOUR = 3_600_000
 REPORT_LASTS = 10.0  # seconds for which a report is kept
 SCRYPTS = 2  # so many passwords are tried at once
+READERS = 2  # so many requests read the journal at once, each in a thread
+CSV_PART = 500  # rows of the journal
 
 
 class Api:
@@ -38,6 +40,7 @@ class Api:
         self._pace = Pace()
         self._marks = Marks()
         self._scrypts = asyncio.Semaphore(SCRYPTS)
+        self._readers = asyncio.Semaphore(READERS)
         self._reports: dict[tuple[tuple[int, ...], int], tuple[float, Report]] = {}
         self._reporting = asyncio.Lock()
 
@@ -134,20 +137,20 @@ class Api:
         view = self.view(self.guard.reading(request))
         first = number(request, "from", 1, 1, 10**12)
         count = number(request, "count", 100, 1, MOST_ROWS)
-        journal = self.core.journal
-        rows = await asyncio.to_thread(lambda: list(view.rows(journal, first, count + 1)))
-        shown: list[Json] = [one for row in rows[:count] for one in journal.json(row.number, 1)]
-        after = rows[count].number if len(rows) > count else None
-        return answer({"length": len(journal), "rows": shown, "next": after})
+        async with self._readers:
+            page = await asyncio.to_thread(journal_page, self.core.journal, view, first, count)
+        return answer(page)
 
     async def journal_csv(self, request: web.Request) -> web.StreamResponse:
         """The journal as CSV, from a number on."""
         view = self.view(self.guard.reading(request))
         first = number(request, "from", 1, 1, 10**12)
         count = number(request, "count", 10**9, 1, 10**9)
+        if request.method == "HEAD":  # what stands behind its answer is taken for the next one
+            return web.Response(headers=download("journal.csv"))
         response = web.StreamResponse(headers=download("journal.csv"))
         await response.prepare(request)
-        async for text in csv_parts(self.core, view, first, count):
+        async for text in csv_parts(self.core.journal, view, first, count, self._readers):
             await response.write(text.encode())
         await response.write_eof()
         return response
@@ -240,21 +243,31 @@ def download(name: str) -> dict[str, str]:
     }
 
 
-async def csv_parts(core: Core, view: View, first: int, count: int) -> AsyncIterator[str]:
-    """The header, and then the rows to be shown, some hundred at a time; others run in between."""
-    journal = core.journal
-    header, length = True, len(journal)
-    while header or (first <= length and count > 0):
-        wanted: list[Row] = list(journal.rows(first, min(500, length - first + 1)))
-        shown = [row for row in wanted if view.shows_row(row)][:count]
-        parts: list[str] = []
-        if header:
-            parts += list(journal.csv(1, 1))[:1]
-        if len(shown) == len(wanted):
-            parts += list(journal.csv(first, len(wanted)))[1:] if wanted else []
-        else:
-            parts += [list(journal.csv(row.number, 1))[1] for row in shown]
-        yield "".join(parts)
-        header, count = False, count - len(shown)
-        first += len(wanted)
-        await asyncio.sleep(0)
+def journal_page(journal: Journal, view: View, first: int, count: int) -> Json:
+    """Rows from a number on, and which comes after them. Takes its time: call it in a thread."""
+    rows = list(view.rows(journal, first, count + 1))
+    shown: list[Json] = [one for row in rows[:count] for one in journal.json(row.number, 1)]
+    after = rows[count].number if len(rows) > count else None
+    return {"length": len(journal), "rows": shown, "next": after}
+
+
+async def csv_parts(
+    journal: Journal, view: View, first: int, count: int, readers: asyncio.Semaphore
+) -> AsyncIterator[str]:
+    """The header, and then the rows to be shown, some hundred at a time, each part made by a thread: scans and beats go on."""
+    length = len(journal)
+    yield "".join(list(journal.csv(1, 0)))
+    while first <= length and count > 0:
+        most = min(CSV_PART, length - first + 1)
+        async with readers:
+            text, shown = await asyncio.to_thread(csv_part, journal, view, first, most, count)
+        yield text
+        first, count = first + most, count - shown
+
+
+def csv_part(journal: Journal, view: View, first: int, most: int, count: int) -> tuple[str, int]:
+    """As CSV those of `most` rows that are to be shown, at most `count`; and how many these are."""
+    lines = list(journal.csv(first, most))[1:]
+    rows = zip(journal.rows(first, most), lines)
+    shown = [line for row, line in rows if view.shows_row(row)][:count]
+    return "".join(shown), len(shown)

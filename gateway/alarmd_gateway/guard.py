@@ -155,7 +155,9 @@ class Guard:
             return answer({"error": fault.words}, 503)
         except asyncio.CancelledError:
             raise
-        except Exception:
+        except Exception as fault:
+            if isinstance(fault, ConnectionError) and gone(request):
+                return answer(None, 400)  # to nobody: a table that isn't read to its end is no fault
             log.exception("a request to %s failed", request.path)
             return answer({"error": "a fault in the gateway: its log has more"}, 500)
 
@@ -168,6 +170,11 @@ class Guard:
     async def headers(self, request: web.Request, response: web.StreamResponse) -> None:
         """Sets them, before it is sent."""
         response.headers.update(self.all_headers)
+
+
+def gone(request: web.Request) -> bool:
+    """Whether nobody is at the other end any more."""
+    return request.transport is None or request.transport.is_closing()
 
 
 def cookies(request: web.Request, name: str) -> list[str]:

@@ -2,11 +2,16 @@
 
 from __future__ import annotations
 
+import asyncio
 import csv
 import gzip
+import http.client
 import io
 import socket
-from collections.abc import Iterator
+import threading
+import time
+from collections.abc import Callable, Iterator
+from concurrent.futures import ThreadPoolExecutor
 from datetime import datetime, timezone
 
 import pytest
@@ -17,6 +22,7 @@ from served import Served, served
 from alarmd_gateway import connections, sessions
 from alarmd_gateway.core import Question
 from alarmd_gateway.guard import HEADERS
+from alarmd_gateway.journal import Journal
 from alarmd_gateway.model import Code, Order, Verb
 from alarmd_gateway.sessions import Pace
 
@@ -412,6 +418,76 @@ def test_a_long_journal_as_csv(open_plant: Served) -> None:
     assert [int(row["number"]) for row in some] == list(range(100, 1200))
     assert text(client, "report.csv?hours=0").startswith("figure,of,value,recommended\r\n")
     assert client.ask("/api/report?hours=0").json["rates"][0]["count"] == 1002
+
+
+def test_a_table_holds_up_nobody(open_plant: Served, monkeypatch: pytest.MonkeyPatch) -> None:
+    """Scans, orders and beats go on while the rows of a long journal become text."""
+    open_plant.do(lambda: come_and_go(open_plant.core, 2000))
+    goes_on, begun, whole = threading.Event(), threading.Event(), Journal.csv
+
+    def slow(journal: Journal, first: int = 1, count: int | None = None) -> Iterator[str]:
+        if count is None or count > 1:
+            begun.set()
+            assert goes_on.wait(60)
+        return whole(journal, first, count)
+
+    monkeypatch.setattr(Journal, "csv", slow)
+    with ThreadPoolExecutor(1) as pool:
+        try:
+            table = pool.submit(text, Client(open_plant.url), "journal.csv")
+            assert begun.wait(60)
+            other = Client(open_plant.url)
+            other.patience = 30.0
+            other.enter()
+            assert other.order("ack", "A1").json["taken"]
+        finally:
+            goes_on.set()
+        assert len(table.result(60).splitlines()) == 2003
+
+
+def test_a_table_that_is_given_up_is_no_fault(
+    open_plant: Served, monkeypatch: pytest.MonkeyPatch, caplog: pytest.LogCaptureFixture
+) -> None:
+    open_plant.do(lambda: come_and_go(open_plant.core, 2000))
+    tasks, goes_on, whole = count_tasks(open_plant), threading.Event(), Journal.csv
+
+    def slow(journal: Journal, first: int = 1, count: int | None = None) -> Iterator[str]:
+        assert first == 1 or goes_on.wait(60)
+        return whole(journal, first, count)
+
+    monkeypatch.setattr(Journal, "csv", slow)
+    with socket.create_connection(("127.0.0.1", open_plant.web.port), 60) as channel:
+        channel.sendall(b"GET /api/journal.csv HTTP/1.1\r\nHost: localhost\r\n\r\n")
+        assert channel.recv(65536)
+    wait_until(lambda: len(open_plant.web.limit) == 0)
+    goes_on.set()
+    wait_until(lambda: count_tasks(open_plant) == tasks)
+    assert caplog.records == []
+
+
+def count_tasks(site: Served) -> int:
+    return site.do(lambda: len(asyncio.all_tasks(site.loop)))
+
+
+def wait_until(holds: Callable[[], bool]) -> None:
+    """Waits for something for a minute."""
+    end = time.monotonic() + 60
+    while not holds():
+        assert time.monotonic() < end, "what is waited for doesn't come"
+        time.sleep(0.01)
+
+
+def test_who_asks_for_a_head_alone_gets_no_body(open_plant: Served) -> None:
+    """What stood behind it would be taken for the next answer of the connection."""
+    connection = http.client.HTTPConnection("127.0.0.1", open_plant.web.port, timeout=60)
+    for path in ("journal.csv", "report.csv", "journal", "state"):
+        connection.request("HEAD", f"/api/{path}")
+        head = connection.getresponse()
+        assert (head.status, head.read()) == (200, b""), path
+        connection.request("GET", "/api/session")
+        answer = connection.getresponse()
+        assert answer.status == 200 and b"token" in answer.read(), path
+    connection.close()
 
 
 def test_what_was_annunciated_by_an_alarm_that_is_gone_counts(open_plant: Served) -> None:
