@@ -109,7 +109,11 @@ class Connection(RequestHandler):
         super().connection_lost(exc)
 
     def data_received(self, data: bytes) -> None:
-        super().data_received(data)
+        try:
+            super().data_received(data)
+        except ValueError:  # a request's target that is no URL, which the parser doesn't answer
+            cast(asyncio.Transport, self.transport).abort()
+            return
         if len(self._messages) > MOST_AHEAD and self.transport is not None:
             self.transport.abort()  # each takes memory until it is answered
 

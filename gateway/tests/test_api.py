@@ -659,6 +659,7 @@ def test_what_is_no_http(open_plant: Served, caplog: pytest.LogCaptureFixture) -
         b"GET / HTTP/9.9\r\n\r\n",
         b"GET " + b"x" * 100_000,
         b"\x16\x03\x01\x02",
+        b"GET http://[::1 HTTP/1.1\r\nHost: localhost\r\n\r\n",
         b"A: b\r\n" * 50_000,
     ):
         with socket.create_connection(("127.0.0.1", open_plant.web.port), 60) as channel:
