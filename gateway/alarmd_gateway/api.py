@@ -186,10 +186,12 @@ class Api:
         """Answers a question of the gateway."""
         session = self.guard.changing(request)
         given = await body(request)
-        asked, yes, console = given.get("number"), given.get("yes"), given.get("console")
+        asked, yes = given.get("number"), given.get("yes")
+        own = given.get("console", next(iter(session.consoles), 0))
         if type(asked) is not int or type(yes) is not bool:
             raise Refused(400, "number has to be a whole number, and yes a truth")
-        own = console if type(console) is int else next(iter(session.consoles), 0)
+        if type(own) is not int:
+            raise Refused(400, "console has to be a number")
         if own not in session.consoles:
             raise Refused(403, "the console isn't yours")
         try:

@@ -637,6 +637,9 @@ def test_a_question_is_answered_once(guarded_plant: Served) -> None:
     assert bert.post("/api/answer", {"number": 8, "yes": True}).status == 404
     assert bert.post("/api/answer", {"number": 7, "yes": True, "console": 1}).status == 403
     assert bert.post("/api/answer", {"number": 7, "yes": 1}).status == 400
+    for console in ("2", 2.0, True, None, [2]):
+        given = {"number": 7, "yes": True, "console": console}
+        assert error(bert.post("/api/answer", given)) == (400, "console has to be a number")
     assert bert.post("/api/answer", {"number": 7, "yes": True}).status == 200
     assert bert.post("/api/answer", {"number": 7, "yes": True}).status == 404
     assert guarded_plant.core.answers == [(7, True, 2, "bert")]
