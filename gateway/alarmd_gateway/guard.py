@@ -133,7 +133,10 @@ class Guard:
         origin = request.headers.get("Origin")
         if self.users is None and not this_machine(host):
             raise Refused(421, "without users the page is served to this machine alone")
-        if origin is not None and origin.partition("://")[2] != host:
+        if origin is None:
+            return
+        scheme, _, site = origin.partition("://")
+        if site != host or (self.tls and scheme != "https"):  # without TLS of ours a proxy may have it
             raise Refused(403, "the request comes from another site")
 
     @web.middleware

@@ -117,6 +117,12 @@ def test_tls(certificate: Path) -> None:
         assert answer.headers["Strict-Transport-Security"]
         answer.read()
         connection.close()
+        own = f"//127.0.0.1:{site.web.port}"
+        for origin, wanted in ((f"https:{own}", 200), (f"http:{own}", 403)):
+            sent = {"Cookie": cookie.partition(";")[0], "Origin": origin}
+            connection.request("GET", "/api/session", headers=sent)
+            answer = connection.getresponse()
+            assert answer.status == wanted and answer.read()
         # a thousand that never begin to speak hold nobody up
         idle = [socket.create_connection(("127.0.0.1", site.web.port), 60) for _ in range(1000)]
         connection.request("GET", "/api/session", headers={"Cookie": cookie.partition(";")[0]})
