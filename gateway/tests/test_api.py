@@ -706,6 +706,19 @@ def test_who_brings_no_request_is_closed(monkeypatch: pytest.MonkeyPatch) -> Non
         assert Client(site.url).enter().status == 200
 
 
+def test_who_reads_no_answer_is_closed(monkeypatch: pytest.MonkeyPatch) -> None:
+    """It would keep its place among the connections, and its answer in memory."""
+    monkeypatch.setattr(connections, "STUCK", 0.3)
+    asked = b"GET /api/plant HTTP/1.1\r\nHost: localhost\r\n\r\n"
+    with served(FakeCore(fake_plant(20_000))) as site, socket.socket() as channel:
+        channel.setsockopt(socket.SOL_SOCKET, socket.SO_RCVBUF, 4096)
+        channel.connect(("127.0.0.1", site.web.port))
+        channel.sendall(asked * 20)
+        assert channel.recv(100)
+        wait_until(lambda: len(site.web.limit) == 0)
+        assert Client(site.url).ask("/api/plant").status == 200
+
+
 def test_the_limit_of_connections() -> None:
     limit = connections.Limit(4)
     assert [limit.enter(address) for address in "aaabbbc"] == [
