@@ -157,8 +157,7 @@ class Api:
 
     async def order(self, request: web.Request) -> web.Response:
         """Gives an order, and answers what the server replied."""
-        session = self.guard.changing(request)
-        given = await body(request)
+        session, given = await self.guard.asked(request)
         mark = read_mark(given.pop("mark", None))
         if mark is None:
             return answer(await self._give(session, given))
@@ -184,8 +183,7 @@ class Api:
 
     async def answer(self, request: web.Request) -> web.Response:
         """Answers a question of the gateway."""
-        session = self.guard.changing(request)
-        given = await body(request)
+        session, given = await self.guard.asked(request)
         asked, yes = given.get("number"), given.get("yes")
         own = given.get("console", next(iter(session.consoles), 0))
         if type(asked) is not int or type(yes) is not bool:

@@ -103,6 +103,13 @@ class Guard:
             raise Refused(403, "the token is missing or isn't this session's")
         return session
 
+    async def asked(self, request: web.Request) -> tuple[Session, dict[str, Json]]:
+        """The session of a request that changes something, and its body; a session that has ended when the body comes is none. Raises
+        Refused (400 to 415)."""
+        self.changing(request)
+        given = await body(request)
+        return self.changing(request), given
+
     def begin(
         self, response: web.StreamResponse, user: str | None, consoles: tuple[int, ...]
     ) -> Session:

@@ -282,6 +282,28 @@ def test_a_large_body_and_another_kind_of_body(open_plant: Served) -> None:
     assert open_plant.core.orders == []
 
 
+def test_an_order_whose_body_comes_after_the_logout_isnt_taken(guarded_plant: Served) -> None:
+    anna = as_user(guarded_plant, "anna")
+    body = b'{"order":"ack","target":"A1"}'
+    head = (
+        "POST /api/order HTTP/1.1",
+        "Host: localhost",
+        f"Cookie: {anna.cookie}",
+        f"X-Alarmd-Token: {anna.token}",
+        "Content-Type: application/json",
+        f"Content-Length: {len(body)}",
+        "Connection: close",
+    )
+    with socket.create_connection(("127.0.0.1", guarded_plant.web.port), 60) as channel:
+        tasks = count_tasks(guarded_plant)
+        channel.sendall("\r\n".join((*head, "", "")).encode())
+        wait_until(lambda: count_tasks(guarded_plant) > tasks)  # it waits for its body
+        assert anna.post("/api/logout", {}).status == 200
+        channel.sendall(body)
+        told = b"".join(iter(lambda: channel.recv(65536), b""))
+    assert told.split()[1] == b"401" and guarded_plant.core.orders == []
+
+
 def test_an_order_has_its_user_and_reason_and_a_console_that_may(guarded_plant: Served) -> None:
     anna, bert = as_user(guarded_plant, "anna"), as_user(guarded_plant, "bert")
     assert anna.order("shelve", "A0", **SHELVE).json["taken"]
