@@ -12,13 +12,14 @@ from aiohttp import web
 
 from .cells import guarded
 from .core import Core
-from .guard import Guard, Refused, answer, body, number
+from .guard import Guard, Refused, answer, answered, body, number
 from .journal import Journal
 from .model import Json
 from .ordering import Marks, read_mark, read_order, with_console
 from .report_table import as_json, table
 from .reports import Report, begun, report
 from .sessions import Pace, Session, Tries
+from .shown import Shown
 from .view import View
 
 MOST_ROWS = 1000
@@ -38,6 +39,7 @@ class Api:
         self.orders: dict[tuple[str, str], int] = {}  # how many by verb and reply
         self._tries = Tries()
         self._pace = Pace()
+        self._shown = Shown(core)
         self._marks = Marks()
         self._scrypts = asyncio.Semaphore(SCRYPTS)
         self._readers = asyncio.Semaphore(READERS)
@@ -121,14 +123,15 @@ class Api:
 
     async def plant(self, request: web.Request) -> web.Response:
         """What doesn't change while the plant is served."""
-        response = answer(self.view(self.guard.reading(request)).table())
+        view = self.view(self.guard.reading(request))
+        response = answered(self._shown.table(view))
         response.enable_compression()
         return response
 
     async def state(self, request: web.Request) -> web.Response:
         """All that stands at one moment."""
         view = self.view(self.guard.reading(request))
-        response = answer(view.snapshot(self.core.snapshot(), normal=True))
+        response = answered(self._shown.snapshot(view, normal=True)[1])
         response.enable_compression()
         return response
 

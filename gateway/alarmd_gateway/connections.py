@@ -142,12 +142,11 @@ class Connection(RequestHandler):
 
     def _look(self, before: int | None) -> None:
         """Ends the connection where none of what waited `before`, in bytes, has left; else looks again in a while."""
-        transport = cast(asyncio.Transport | None, self.transport)
-        if transport is None:
+        if self.transport is None:
             return
-        waits = transport.get_write_buffer_size()
+        waits = self.transport.get_write_buffer_size()
         if before is not None and waits >= before:
-            transport.abort()
+            self.transport.abort()
         else:
             self._stuck = asyncio.get_running_loop().call_later(STUCK, self._look, waits)
 

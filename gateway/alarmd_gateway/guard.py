@@ -44,8 +44,13 @@ class Refused(Exception):
 
 def answer(data: Json, status: int = 200) -> web.Response:
     """JSON that no cache keeps."""
+    return answered(compact(data), status)
+
+
+def answered(text: str, status: int = 200) -> web.Response:
+    """The same of what is JSON already."""
     return web.Response(
-        text=compact(data),
+        text=text,
         status=status,
         content_type="application/json",
         headers={"Cache-Control": "no-store"},
@@ -143,7 +148,9 @@ class Guard:
         if origin is None:
             return
         scheme, _, site = origin.partition("://")
-        if site != host or (self.tls and scheme != "https"):  # without TLS of ours a proxy may have it
+        if site != host or (
+            self.tls and scheme != "https"
+        ):  # without TLS of ours a proxy may have it
             raise Refused(403, "the request comes from another site")
 
     @web.middleware
@@ -167,7 +174,9 @@ class Guard:
             raise
         except Exception as fault:
             if isinstance(fault, ConnectionError) and gone(request):
-                return answer(None, 400)  # to nobody: a table that isn't read to its end is no fault
+                return answer(
+                    None, 400
+                )  # to nobody: a table that isn't read to its end is no fault
             log.exception("a request to %s failed", request.path)
             return answer({"error": "a fault in the gateway: its log has more"}, 500)
 
@@ -189,7 +198,8 @@ def gone(request: web.Request) -> bool:
 
 def cookies(request: web.Request, name: str) -> list[str]:
     """The values of the cookies of this name. Those of other names may be spelled anyhow: a browser brings what any program on any port
-    of this host has set, and none of these may hide ours, as they do where all have to be understood."""
+    of this host has set, and none of these may hide ours, as they do where all have to be understood.
+    """
     pairs = (
         pair.strip(" \t").partition("=")
         for line in request.headers.getall("Cookie", ())

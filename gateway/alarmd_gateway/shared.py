@@ -138,9 +138,9 @@ class SharedCore(Core):
         elif self.sampled is not None and sample.fresh:
             self.sampled(variable.name)
 
-    def snapshot(self) -> Snapshot:
+    def snapshot(self, normal: bool = True) -> Snapshot:
         """See Core. `log` has who leads, and how long the log is that this gateway has."""
-        whole, known = super().snapshot(), self._log.known
+        whole, known = super().snapshot(normal), self._log.known
         log: dict[str, Json] = {
             "gateway": self._name,
             "leads": self.leads,

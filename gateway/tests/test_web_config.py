@@ -65,7 +65,14 @@ def test_what_is_taken(certificate: Path) -> None:
     assert found is not None and found.tls is not None
     found = read(certificate, listen="0.0.0.0:443", metrics_token="t", connections=9, **SECURE)
     assert found is not None and found.metrics_token == "t" and found.connections == 9
-    for host in ("plant", "plant.example", "plant.example.", "pl-1_a.example", "größe.example", "*"):
+    for host in (
+        "plant",
+        "plant.example",
+        "plant.example.",
+        "pl-1_a.example",
+        "größe.example",
+        "*",
+    ):
         found = read(certificate, listen=f"{host}:443", **SECURE)
         assert found is not None and found.host == host
 
