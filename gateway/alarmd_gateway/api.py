@@ -13,20 +13,23 @@ from aiohttp import web
 
 from .cells import guarded
 from .core import Core
-from .guard import Guard, Refused, answer, body, number
-from .journal import Row
+from .guard import Guard, Refused, answer, answered, body, number
 from .jobs import CameAgain
+from .journal import Journal
 from .model import Json
 from .ordering import Marks, read_mark, read_order, read_seen, with_console
 from .report_table import as_json, table
 from .reports import Report, begun, report
 from .sessions import Pace, Session, Tries
+from .shown import Shown
 from .view import View
 
 MOST_ROWS = 1000
 HOUR = 3_600_000
 REPORT_LASTS = 10.0  # seconds for which a report is kept
 SCRYPTS = 2  # so many passwords are tried at once
+READERS = 2  # so many requests read the journal at once, each in a thread
+CSV_PART = 500  # rows of the journal
 
 
 class Api:
@@ -38,8 +41,10 @@ class Api:
         self.orders: dict[tuple[str, str], int] = {}  # how many by verb and reply
         self._tries = Tries()
         self._pace = Pace()
+        self._shown = Shown(core)
         self._marks = Marks()
         self._scrypts = asyncio.Semaphore(SCRYPTS)
+        self._readers = asyncio.Semaphore(READERS)
         self._reports: dict[tuple[tuple[int, ...], int], tuple[float, Report]] = {}
         self._reporting = asyncio.Lock()
 
@@ -104,7 +109,7 @@ class Api:
         if user is None:
             raise Refused(403, "the name or the password is wrong")
         self._tries.succeeded(address, name)
-        self.guard.sessions.end(request.cookies.get(self.guard.cookie))
+        self.guard.end(request)
         response = answer(None)
         session = self.guard.begin(response, user.name, user.consoles)
         response.text = answer(self.who(session)).text
@@ -113,21 +118,22 @@ class Api:
     async def logout(self, request: web.Request) -> web.Response:
         """Ends the session."""
         self.guard.changing(request)
-        self.guard.sessions.end(request.cookies.get(self.guard.cookie))
+        self.guard.end(request)
         response = answer({"user": None})
         self.guard.forget(response)
         return response
 
     async def plant(self, request: web.Request) -> web.Response:
         """What doesn't change while the plant is served."""
-        response = answer(self.view(self.guard.reading(request)).table())
+        view = self.view(self.guard.reading(request))
+        response = answered(self._shown.table(view))
         response.enable_compression()
         return response
 
     async def state(self, request: web.Request) -> web.Response:
         """All that stands at one moment."""
         view = self.view(self.guard.reading(request))
-        response = answer(view.snapshot(self.core.snapshot(), normal=True))
+        response = answered(self._shown.snapshot(view, normal=True)[1])
         response.enable_compression()
         return response
 
@@ -136,11 +142,9 @@ class Api:
         view = self.view(self.guard.reading(request))
         first = number(request, "from", 1, 1, 10**12)
         count = number(request, "count", 100, 1, MOST_ROWS)
-        journal = self.core.journal
-        rows = await asyncio.to_thread(lambda: list(view.rows(journal, first, count + 1)))
-        shown: list[Json] = [one for row in rows[:count] for one in journal.json(row.number, 1)]
-        after = rows[count].number if len(rows) > count else None
-        return answer({"length": len(journal), "rows": shown, "next": after})
+        async with self._readers:
+            page = await asyncio.to_thread(journal_page, self.core.journal, view, first, count)
+        return answer(page)
 
     async def journal_csv(self, request: web.Request) -> web.StreamResponse:
         """The journal as CSV, from a number on."""
@@ -148,18 +152,19 @@ class Api:
         first = number(request, "from", 1, 1, 10**12)
         count = number(request, "count", 10**9, 1, 10**9)
         begin = beginning(request)
+        if request.method == "HEAD":  # what stands behind its answer is taken for the next one
+            return web.Response(headers=download("journal.csv"))
         response = web.StreamResponse(headers=download("journal.csv"))
         await response.prepare(request)
         await response.write(begin)
-        async for text in csv_parts(self.core, view, first, count):
+        async for text in csv_parts(self.core.journal, view, first, count, self._readers):
             await response.write(text.encode())
         await response.write_eof()
         return response
 
     async def order(self, request: web.Request) -> web.Response:
         """Gives an order, and answers what the server replied."""
-        session = self.guard.changing(request)
-        given = await body(request)
+        session, given = await self.guard.asked(request)
         mark = read_mark(given.pop("mark", None))
         if mark is None:
             return answer(await self._give(session, given))
@@ -188,12 +193,13 @@ class Api:
 
     async def answer(self, request: web.Request) -> web.Response:
         """Answers a question of the gateway."""
-        session = self.guard.changing(request)
-        given = await body(request)
-        asked, yes, console = given.get("number"), given.get("yes"), given.get("console")
+        session, given = await self.guard.asked(request)
+        asked, yes = given.get("number"), given.get("yes")
+        own = given.get("console", next(iter(session.consoles), 0))
         if type(asked) is not int or type(yes) is not bool:
             raise Refused(400, "number has to be a whole number, and yes a truth")
-        own = console if type(console) is int else next(iter(session.consoles), 0)
+        if type(own) is not int:
+            raise Refused(400, "console has to be a number")
         if own not in session.consoles:
             raise Refused(403, "the console isn't yours")
         try:
@@ -253,21 +259,31 @@ def download(name: str) -> dict[str, str]:
     }
 
 
-async def csv_parts(core: Core, view: View, first: int, count: int) -> AsyncIterator[str]:
-    """The header, and then the rows to be shown, some hundred at a time; others run in between."""
-    journal = core.journal
-    header, length = True, len(journal)
-    while header or (first <= length and count > 0):
-        wanted: list[Row] = list(journal.rows(first, min(500, length - first + 1)))
-        shown = [row for row in wanted if view.shows_row(row)][:count]
-        parts: list[str] = []
-        if header:
-            parts += list(journal.csv(1, 1))[:1]
-        if len(shown) == len(wanted):
-            parts += list(journal.csv(first, len(wanted)))[1:] if wanted else []
-        else:
-            parts += [list(journal.csv(row.number, 1))[1] for row in shown]
-        yield "".join(parts)
-        header, count = False, count - len(shown)
-        first += len(wanted)
-        await asyncio.sleep(0)
+def journal_page(journal: Journal, view: View, first: int, count: int) -> Json:
+    """Rows from a number on, and which comes after them. Takes its time: call it in a thread."""
+    rows = list(view.rows(journal, first, count + 1))
+    shown: list[Json] = [one for row in rows[:count] for one in journal.json(row.number, 1)]
+    after = rows[count].number if len(rows) > count else None
+    return {"length": len(journal), "rows": shown, "next": after}
+
+
+async def csv_parts(
+    journal: Journal, view: View, first: int, count: int, readers: asyncio.Semaphore
+) -> AsyncIterator[str]:
+    """The header, and then the rows to be shown, some hundred at a time, each part made by a thread: scans and beats go on."""
+    length = len(journal)
+    yield "".join(list(journal.csv(1, 0)))
+    while first <= length and count > 0:
+        most = min(CSV_PART, length - first + 1)
+        async with readers:
+            text, shown = await asyncio.to_thread(csv_part, journal, view, first, most, count)
+        yield text
+        first, count = first + most, count - shown
+
+
+def csv_part(journal: Journal, view: View, first: int, most: int, count: int) -> tuple[str, int]:
+    """As CSV those of `most` rows that are to be shown, at most `count`; and how many these are."""
+    lines = list(journal.csv(first, most))[1:]
+    rows = zip(journal.rows(first, most), lines)
+    shown = [line for row, line in rows if view.shows_row(row)][:count]
+    return "".join(shown), len(shown)

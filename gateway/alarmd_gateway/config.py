@@ -140,7 +140,10 @@ def read(path: Path) -> Config:
             values = tomllib.load(file)
     except OSError as fault:
         raise GatewayFault(f"{path}: {fault.strerror}", WORDS_STATUS) from None
-    except (tomllib.TOMLDecodeError, UnicodeDecodeError) as fault:
+    except (
+        ValueError,
+        RecursionError,
+    ) as fault:  # also of bytes that are no UTF-8, and of too many digits
         raise GatewayFault(f"{path}: no TOML: {fault}", WORDS_STATUS) from None
     folder = path.resolve().parent
     others = {key: value for key, value in values.items() if isinstance(value, dict | list)}

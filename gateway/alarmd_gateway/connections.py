@@ -15,6 +15,7 @@ from aiohttp.web_protocol import RequestHandler
 
 FIRST_REQUEST = 20.0  # seconds in which a connection has to bring a whole request
 IDLE = 75.0  # seconds that a connection may rest between two requests
+STUCK = 60.0  # seconds in which some of an answer has to leave
 LONGEST_LINE = 8190  # bytes of a request's first line, or of a header
 MOST_AHEAD = 100  # requests that may wait behind one that is under way; browsers send none ahead
 
@@ -61,9 +62,9 @@ class Limit:
 
 
 class Connection(RequestHandler):
-    """A connection of aiohttp's that is closed at once where there are too many, and later where it brings no request."""
+    """A connection of aiohttp's that is closed at once where there are too many, and later where it brings no request, or reads no answer."""
 
-    __slots__ = ("_limit", "_headers", "_address", "_timer", "served")
+    __slots__ = ("_limit", "_headers", "_address", "_timer", "_stuck", "served")
 
     def __init__(
         self,
@@ -87,6 +88,7 @@ class Connection(RequestHandler):
         self._headers = headers
         self._address: str | None = None
         self._timer: asyncio.TimerHandle | None = None
+        self._stuck: asyncio.TimerHandle | None = None
         self.served = False  # whether it has brought a request
 
     def connection_made(self, transport: asyncio.BaseTransport) -> None:
@@ -104,12 +106,26 @@ class Connection(RequestHandler):
             return
         self._limit.leave(self._address)
         self._address = None
-        if self._timer is not None:
-            self._timer.cancel()
+        for timer in (self._timer, self._stuck):
+            if timer is not None:
+                timer.cancel()
         super().connection_lost(exc)
 
+    def pause_writing(self) -> None:
+        super().pause_writing()
+        self._look(None)
+
+    def resume_writing(self) -> None:
+        if self._stuck is not None:
+            self._stuck.cancel()
+        super().resume_writing()
+
     def data_received(self, data: bytes) -> None:
-        super().data_received(data)
+        try:
+            super().data_received(data)
+        except ValueError:  # a request's target that is no URL, which the parser doesn't answer
+            cast(asyncio.Transport, self.transport).abort()
+            return
         if len(self._messages) > MOST_AHEAD and self.transport is not None:
             self.transport.abort()  # each takes memory until it is answered
 
@@ -123,6 +139,16 @@ class Connection(RequestHandler):
         response = super().handle_error(request, status, exc, message)
         response.headers.update(self._headers)
         return response
+
+    def _look(self, before: int | None) -> None:
+        """Ends the connection where none of what waited `before`, in bytes, has left; else looks again in a while."""
+        if self.transport is None:
+            return
+        waits = self.transport.get_write_buffer_size()
+        if before is not None and waits >= before:
+            self.transport.abort()
+        else:
+            self._stuck = asyncio.get_running_loop().call_later(STUCK, self._look, waits)
 
     def _late(self, transport: asyncio.Transport) -> None:
         if not self.served:

@@ -173,10 +173,14 @@ class Core:
         """The changes from now on. Make it before the snapshot, and pass over changes up to the snapshot's number."""
         return self._announcer.board.subscribe(room)
 
-    def snapshot(self) -> Snapshot:
-        """All that a display wants, at one moment."""
-        number = self._announcer.board.number
-        return snapshots.take(number, self._link.book, self.troubles, self._questions)
+    @property
+    def number(self) -> int:
+        """The number of the last change."""
+        return self._announcer.board.number
+
+    def snapshot(self, normal: bool = True) -> Snapshot:
+        """All that a display wants, at one moment; without `normal` alarms that are NORM are left out."""
+        return snapshots.take(self.number, self._link.book, self.troubles, self._questions, normal)
 
     def figures(self) -> Iterable[Figure]:
         """Further figures for `/metrics`."""

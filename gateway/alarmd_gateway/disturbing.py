@@ -5,7 +5,7 @@ from __future__ import annotations
 from aiohttp import web
 
 from .core import Core
-from .guard import Guard, Refused, answer, body
+from .guard import Guard, Refused, answer
 from .model import BadSample, Json, exact
 
 
@@ -37,8 +37,7 @@ class Disturbing:
 
     async def set(self, request: web.Request) -> web.Response:
         """Sets the one of `name` to `value`, and answers all of them."""
-        self._guard.changing(request)
-        given = await body(request)
+        _, given = await self._guard.asked(request)
         name, value, found = given.get("name"), given.get("value"), self._core.disturbances
         if found is None or not isinstance(name, str) or not found.has(name):
             raise Refused(404, "there is no such disturbance")

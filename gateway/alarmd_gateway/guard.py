@@ -44,8 +44,13 @@ class Refused(Exception):
 
 def answer(data: Json, status: int = 200) -> web.Response:
     """JSON that no cache keeps."""
+    return answered(compact(data), status)
+
+
+def answered(text: str, status: int = 200) -> web.Response:
+    """The same of what is JSON already."""
     return web.Response(
-        text=compact(data),
+        text=text,
         status=status,
         content_type="application/json",
         headers={"Cache-Control": "no-store"},
@@ -81,10 +86,11 @@ class Guard:
 
     def session(self, request: web.Request) -> Session:
         """The session of a request. Raises Refused (401)."""
-        session = self.sessions.find(request.cookies.get(self.cookie))
-        if session is None:
-            raise Refused(401, "nobody is logged in")
-        return session
+        for value in cookies(request, self.cookie):
+            session = self.sessions.find(value)
+            if session is not None:
+                return session
+        raise Refused(401, "nobody is logged in")
 
     def reading(self, request: web.Request) -> Session:
         """The session of a request that only reads. Where nobody has to log in, it needs none. Raises Refused (401)."""
@@ -102,6 +108,13 @@ class Guard:
             raise Refused(403, "the token is missing or isn't this session's")
         return session
 
+    async def asked(self, request: web.Request) -> tuple[Session, dict[str, Json]]:
+        """The session of a request that changes something, and its body; a session that has ended when the body comes is none. Raises
+        Refused (400 to 415)."""
+        self.changing(request)
+        given = await body(request)
+        return self.changing(request), given
+
     def begin(
         self, response: web.StreamResponse, user: str | None, consoles: tuple[int, ...]
     ) -> Session:
@@ -111,6 +124,11 @@ class Guard:
             self.cookie, cookie, path="/", httponly=True, samesite="Strict", secure=self.tls
         )
         return session
+
+    def end(self, request: web.Request) -> None:
+        """Ends the session of a request, where it has one."""
+        for value in cookies(request, self.cookie):
+            self.sessions.end(value)
 
     def forget(self, response: web.StreamResponse) -> None:
         """Makes the browser forget the cookie."""
@@ -127,7 +145,12 @@ class Guard:
         origin = request.headers.get("Origin")
         if self.users is None and not this_machine(host):
             raise Refused(421, "without users the page is served to this machine alone")
-        if origin is not None and origin.partition("://")[2] != host:
+        if origin is None:
+            return
+        scheme, _, site = origin.partition("://")
+        if site != host or (
+            self.tls and scheme != "https"
+        ):  # without TLS of ours a proxy may have it
             raise Refused(403, "the request comes from another site")
 
     @web.middleware
@@ -149,7 +172,11 @@ class Guard:
             return answer({"error": fault.words}, 503)
         except asyncio.CancelledError:
             raise
-        except Exception:
+        except Exception as fault:
+            if isinstance(fault, ConnectionError) and gone(request):
+                return answer(
+                    None, 400
+                )  # to nobody: a table that isn't read to its end is no fault
             log.exception("a request to %s failed", request.path)
             return answer({"error": "a fault in the gateway: its log has more"}, 500)
 
@@ -162,6 +189,23 @@ class Guard:
     async def headers(self, request: web.Request, response: web.StreamResponse) -> None:
         """Sets them, before it is sent."""
         response.headers.update(self.all_headers)
+
+
+def gone(request: web.Request) -> bool:
+    """Whether nobody is at the other end any more."""
+    return request.transport is None or request.transport.is_closing()
+
+
+def cookies(request: web.Request, name: str) -> list[str]:
+    """The values of the cookies of this name. Those of other names may be spelled anyhow: a browser brings what any program on any port
+    of this host has set, and none of these may hide ours, as they do where all have to be understood.
+    """
+    pairs = (
+        pair.strip(" \t").partition("=")
+        for line in request.headers.getall("Cookie", ())
+        for pair in line.split(";")
+    )
+    return [value for key, _, value in pairs if key == name]
 
 
 def this_machine(host: str) -> bool:

@@ -23,6 +23,7 @@ from .core import Change, ChangeKind, Core, CutOff, Subscription
 from .guard import Guard
 from .model import Json, civil
 from .sessions import Session
+from .shown import Shown
 from .view import Texts, View
 
 LARGEST_FRAME = 4096  # bytes
@@ -43,6 +44,7 @@ class Live:
         self._guard = guard
         self._open: set[web.WebSocketResponse] = set()
         self._texts = Texts()
+        self._shown = Shown(core)
 
     def __len__(self) -> int:
         return len(self._open)
@@ -95,9 +97,9 @@ class Live:
     ) -> bool:
         """One snapshot and the changes after it; says whether another snapshot is wanted. After a reload none is: the connection ends."""
         view = View(self._core.plant, session.consoles)
-        whole = self._core.snapshot()
-        await say(socket, {"type": "snapshot", "snapshot": view.snapshot(whole, normal=False)})
-        feed = Feed(subscription, whole.number)
+        number, whole = self._shown.snapshot(view, normal=False)
+        await say_text(socket, f'{{"type":"snapshot","snapshot":{whole}}}')
+        feed = Feed(subscription, number)
         try:
             while self._guard.sessions.lasts(session):
                 changes = await feed.next(BEAT)

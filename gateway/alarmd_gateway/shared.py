@@ -144,9 +144,9 @@ class SharedCore(Core):
         """See Core. Not where the lease may have ended: another gateway may have written something else by then."""
         return self.leads and self._candidate.surely_has(self._lease)
 
-    def snapshot(self) -> Snapshot:
+    def snapshot(self, normal: bool = True) -> Snapshot:
         """See Core. `log` has who leads, and how long the log is that this gateway has."""
-        whole, known = super().snapshot(), self._log.known
+        whole, known = super().snapshot(normal), self._log.known
         log: dict[str, Json] = {
             "gateway": self._name,
             "leads": self.leads,

@@ -26,13 +26,17 @@ class Snapshot:
 
 
 def take(
-    number: int, book: Book, troubles: Iterable[Trouble], questions: Iterable[Question]
+    number: int,
+    book: Book,
+    troubles: Iterable[Trouble],
+    questions: Iterable[Question],
+    normal: bool = True,
 ) -> Snapshot:
-    """What stands now, after the change of this number."""
+    """What stands now, after the change of this number; without `normal` alarms that are NORM are left out."""
     data: dict[str, Json] = {
         "plant": _about(book.plant),
         "now": civil(datetime.now(timezone.utc)),
-        **book.state.json(),
+        **book.state.json(normal),
         "journal": len(book.journal),
         "troubles": [trouble.json() for trouble in troubles],
         "questions": [question.json() for question in questions],

@@ -274,11 +274,12 @@ class State:
                         lines.append(f"COUNT {area} {priority} {code.value} {number}")
         return [*lines, f"END {len(lines)}"]
 
-    def json(self) -> dict[str, Json]:
+    def json(self, normal: bool = True) -> dict[str, Json]:
         """`alarms`, `stopped`, `inputs`, `outputs` (as `exact` has them), `events`, `events_left`, `moment`, `time`; the last is null
-        before the first scan."""
+        before the first scan. Without `normal` alarms that are NORM are left out."""
+        shown = (alarm for alarm in self.alarms if normal or alarm.code is not Code.NORM)
         return {
-            "alarms": [alarm.json(self.plant) for alarm in self.alarms],
+            "alarms": [alarm.json(self.plant) for alarm in shown],
             "stopped": [stopped.json(self.plant) for stopped in self.stopped.values()],
             "inputs": {name: exact(value) for name, value in self.inputs.items()},
             "outputs": {name: exact(value) for name, value in self.outputs.items()},

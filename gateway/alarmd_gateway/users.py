@@ -97,6 +97,8 @@ def read_hash(text: str) -> Hash:
         raise BadHash("its parts are no numbers and base64") from fault
     if cost < 2 or cost > LARGEST_COST or cost & (cost - 1) or not 1 <= block <= 16:
         raise BadHash("its cost isn't one that is taken")
+    if cost >> 16 * block:  # scrypt itself has none
+        raise BadHash("its cost is too large for its block")
     if not 1 <= lanes <= 4 or len(salt) < 8 or len(key) != KEY_BYTES:
         raise BadHash("its salt or key has another length")
     return Hash(cost, block, lanes, salt, key)
@@ -140,7 +142,7 @@ def read_users(path: Path, consoles: Collection[int]) -> Users:
         document = tomllib.loads(path.read_text(encoding="utf-8"))
     except OSError as fault:
         raise BadUsers(f"{path}: {fault.strerror or fault}") from fault
-    except ValueError as fault:  # TOMLDecodeError and UnicodeDecodeError too
+    except (ValueError, RecursionError) as fault:  # TOMLDecodeError and UnicodeDecodeError too
         raise BadUsers(f"{path}: {fault}") from fault
     unknown = sorted(set(document) - {"user"})
     if unknown:
@@ -173,6 +175,8 @@ def user_of(table: Mapping[str, Any], consoles: Collection[int]) -> User:
         raise ValueError("a name has 1 to 32 letters, digits, '_', '-' and '.'")
     if not isinstance(numbers, list) or not all(type(number) is int for number in numbers):
         raise ValueError("consoles is a list of numbers")
+    if not numbers:
+        raise ValueError("consoles is empty: who has none would see a plant without alarms")
     missing = [number for number in numbers if number not in consoles]
     if missing:
         raise ValueError(f"the plant has no console {missing[0]}")

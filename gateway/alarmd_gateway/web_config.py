@@ -12,6 +12,7 @@
 from __future__ import annotations
 
 import ipaddress
+import re
 import ssl
 from dataclasses import dataclass, field
 from pathlib import Path
@@ -19,6 +20,10 @@ from pathlib import Path
 from .config import WORDS_STATUS, Config
 from .model import GatewayFault, Plant
 from .users import BadUsers, Users, read_users
+
+LONGEST_TOKEN = 4096  # bytes
+PORT = re.compile("[0-9]{1,5}", re.ASCII)
+NAME = re.compile(r"[A-Za-z0-9_-]+(\.[A-Za-z0-9_-]+)*\.?|\*")
 
 
 @dataclass(frozen=True)
@@ -49,6 +54,9 @@ def web_config(config: Config, plant: Plant) -> WebConfig | None:
         raise fault(f"listen = {host!r} is beyond this machine: that wants users and a certificate")
     if token == "":
         raise fault("metrics_token is empty: who brings none would read /metrics")
+    if token is not None and not fits_header(token):
+        words = f"printable characters, {LONGEST_TOKEN} bytes at most, and no blank at either end"
+        raise fault(f"metrics_token can't be brought in a header: it has {words}")
     if (certificate is None) != (key is None):
         raise fault("certificate and key belong together")
     tls = None if certificate is None or key is None else tls_of(certificate, key)
@@ -62,11 +70,30 @@ def fault(words: str) -> GatewayFault:
 
 def address(text: str) -> tuple[str, int]:
     """The host and the port of `HOST:PORT` or `[HOST]:PORT`. Raises GatewayFault."""
-    host, colon, port = text.rpartition(":")
+    host, _, port = text.rpartition(":")
     host = host[1:-1] if host.startswith("[") and host.endswith("]") else host
-    if not colon or not host or not (port.isascii() and port.isdigit()) or int(port) > 65535:
-        raise fault(f"listen = {text!r} has to be like 127.0.0.1:8080 or [::1]:8080")
+    if not is_host(host) or not PORT.fullmatch(port) or int(port) > 65535:
+        raise fault(f"listen = {text[:300]!r} has to be like 127.0.0.1:8080 or [::1]:8080")
     return host, int(port)
+
+
+def is_host(text: str) -> bool:
+    """Whether a text may be a host: an address, or a name as a resolver takes it."""
+    try:
+        ipaddress.ip_address(text)
+        return True
+    except ValueError:
+        pass
+    try:
+        return NAME.fullmatch(text.encode("idna").decode()) is not None
+    except UnicodeError:  # an empty part, or one of more than 63 letters
+        return False
+
+
+def fits_header(token: str) -> bool:
+    """Whether a text reaches the other end as it is, in a header."""
+    size = len(token.encode(errors="replace"))
+    return token.isprintable() and token == token.strip() and size <= LONGEST_TOKEN
 
 
 def loopback(host: str) -> bool:
@@ -91,6 +118,7 @@ def tls_of(certificate: Path, key: Path) -> ssl.SSLContext:
     context.minimum_version = ssl.TLSVersion.TLSv1_2
     try:
         context.load_cert_chain(certificate, key, password=lambda: "")
-    except (OSError, ssl.SSLError) as bad:
-        raise fault(f"certificate {certificate}, key {key}: {bad.strerror or bad}") from bad
+    except (OSError, ValueError) as bad:  # ssl.SSLError too, and a path that can't be one
+        words = getattr(bad, "strerror", None) or bad
+        raise fault(f"certificate {str(certificate)!r}, key {str(key)!r}: {words}") from bad
     return context

@@ -194,11 +194,15 @@ class FakeCore(Core):
     def subscribe(self, room: int = 1000) -> Subscription:
         return self.board.subscribe(room)
 
-    def snapshot(self) -> Snapshot:
+    @property
+    def number(self) -> int:
+        return self.board.number
+
+    def snapshot(self, normal: bool = True) -> Snapshot:
         data: dict[str, Json] = {
             "plant": {"name": self.plant.name},
             "now": civil(datetime.now(timezone.utc)),
-            **self.state.json(),
+            **self.state.json(normal),
             "journal": len(self.journal),
             "troubles": [trouble.json() for trouble in self.troubles],
             "questions": [question.json() for question in self.asked.values()],

@@ -2,11 +2,16 @@
 
 from __future__ import annotations
 
+import asyncio
 import csv
 import gzip
+import http.client
 import io
 import socket
-from collections.abc import Iterator
+import threading
+import time
+from collections.abc import Callable, Iterator
+from concurrent.futures import ThreadPoolExecutor
 from datetime import datetime, timezone
 
 import pytest
@@ -17,6 +22,7 @@ from served import Served, served
 from alarmd_gateway import connections, sessions
 from alarmd_gateway.core import Question
 from alarmd_gateway.guard import HEADERS
+from alarmd_gateway.journal import Journal
 from alarmd_gateway.model import Code, Order, Verb
 from alarmd_gateway.sessions import Pace
 
@@ -130,6 +136,47 @@ def test_a_whole_shift_may_log_in_from_one_address(guarded_plant: Served) -> Non
         assert Client(guarded_plant.url).login(("anna", "bert")[number % 2]).status == 200
 
 
+COOKIES = [
+    'state={"open":true}',
+    "name=a b",
+    "path=/x",
+    "version=1",
+    "a,b=c",
+    "a@b=1",
+    "list[0]=1",
+    "größe=1",
+    'x="unclosed',
+    "=nothing",
+    "nothing",
+]
+
+
+@pytest.mark.parametrize("other", COOKIES)
+def test_a_cookie_of_another_program_on_this_host_hides_no_session(
+    guarded_plant: Served, caplog: pytest.LogCaptureFixture, other: str
+) -> None:
+    """A browser brings the cookies of all ports of a host."""
+    anna = as_user(guarded_plant, "anna")
+    own = anna.cookie
+    for anna.cookie in (f"{other}; {own}", f"{own}; {other}", f"{own};{other};{own}"):
+        sent = {"Cookie": anna.cookie.encode().decode("latin-1")}
+        assert anna.ask("/api/state", headers=sent).status == 200
+        order = {"order": "ack", "target": "A99"}
+        assert error(anna.post("/api/order", order, **sent))[0] == 404
+    assert anna.post("/api/logout", {}, **sent).status == 200
+    anna.cookie = own
+    assert anna.ask("/api/state").status == 401
+    assert caplog.records == []
+
+
+def test_a_cookie_of_the_same_name_that_is_no_session_hides_none(guarded_plant: Served) -> None:
+    anna = as_user(guarded_plant, "anna")
+    own = anna.cookie
+    foreign = f"{own.partition('=')[0]}=guessed"
+    for anna.cookie in (f"{foreign}; {own}", f"{own}; {foreign}"):
+        assert anna.ask("/api/session").json["user"] == "anna"
+
+
 def test_an_order_wants_the_sessions_own_token(guarded_plant: Served) -> None:
     anna, bert = as_user(guarded_plant, "anna"), as_user(guarded_plant, "bert")
     right = anna.token
@@ -233,6 +280,28 @@ def test_a_large_body_and_another_kind_of_body(open_plant: Served) -> None:
     assert client.ask("/api/order", b'{"order":"ack","target":"A1"}', headers).status == 415
     assert client.ask("/api/order", headers=headers).status == 405
     assert open_plant.core.orders == []
+
+
+def test_an_order_whose_body_comes_after_the_logout_isnt_taken(guarded_plant: Served) -> None:
+    anna = as_user(guarded_plant, "anna")
+    body = b'{"order":"ack","target":"A1"}'
+    head = (
+        "POST /api/order HTTP/1.1",
+        "Host: localhost",
+        f"Cookie: {anna.cookie}",
+        f"X-Alarmd-Token: {anna.token}",
+        "Content-Type: application/json",
+        f"Content-Length: {len(body)}",
+        "Connection: close",
+    )
+    with socket.create_connection(("127.0.0.1", guarded_plant.web.port), 60) as channel:
+        tasks = count_tasks(guarded_plant)
+        channel.sendall("\r\n".join((*head, "", "")).encode())
+        wait_until(lambda: count_tasks(guarded_plant) > tasks)  # it waits for its body
+        assert anna.post("/api/logout", {}).status == 200
+        channel.sendall(body)
+        told = b"".join(iter(lambda: channel.recv(65536), b""))
+    assert told.split()[1] == b"401" and guarded_plant.core.orders == []
 
 
 def test_an_order_has_its_user_and_reason_and_a_console_that_may(guarded_plant: Served) -> None:
@@ -399,6 +468,76 @@ def test_a_long_journal_as_csv(open_plant: Served) -> None:
     assert client.ask("/api/report?hours=0").json["rates"][0]["count"] == 1002
 
 
+def test_a_table_holds_up_nobody(open_plant: Served, monkeypatch: pytest.MonkeyPatch) -> None:
+    """Scans, orders and beats go on while the rows of a long journal become text."""
+    open_plant.do(lambda: come_and_go(open_plant.core, 2000))
+    goes_on, begun, whole = threading.Event(), threading.Event(), Journal.csv
+
+    def slow(journal: Journal, first: int = 1, count: int | None = None) -> Iterator[str]:
+        if count is None or count > 1:
+            begun.set()
+            assert goes_on.wait(60)
+        return whole(journal, first, count)
+
+    monkeypatch.setattr(Journal, "csv", slow)
+    with ThreadPoolExecutor(1) as pool:
+        try:
+            table = pool.submit(text, Client(open_plant.url), "journal.csv")
+            assert begun.wait(60)
+            other = Client(open_plant.url)
+            other.patience = 30.0
+            other.enter()
+            assert other.order("ack", "A1").json["taken"]
+        finally:
+            goes_on.set()
+        assert len(table.result(60).splitlines()) == 2003
+
+
+def test_a_table_that_is_given_up_is_no_fault(
+    open_plant: Served, monkeypatch: pytest.MonkeyPatch, caplog: pytest.LogCaptureFixture
+) -> None:
+    open_plant.do(lambda: come_and_go(open_plant.core, 2000))
+    tasks, goes_on, whole = count_tasks(open_plant), threading.Event(), Journal.csv
+
+    def slow(journal: Journal, first: int = 1, count: int | None = None) -> Iterator[str]:
+        assert first == 1 or goes_on.wait(60)
+        return whole(journal, first, count)
+
+    monkeypatch.setattr(Journal, "csv", slow)
+    with socket.create_connection(("127.0.0.1", open_plant.web.port), 60) as channel:
+        channel.sendall(b"GET /api/journal.csv HTTP/1.1\r\nHost: localhost\r\n\r\n")
+        assert channel.recv(65536)
+    wait_until(lambda: len(open_plant.web.limit) == 0)
+    goes_on.set()
+    wait_until(lambda: count_tasks(open_plant) == tasks)
+    assert caplog.records == []
+
+
+def count_tasks(site: Served) -> int:
+    return site.do(lambda: len(asyncio.all_tasks(site.loop)))
+
+
+def wait_until(holds: Callable[[], bool]) -> None:
+    """Waits for something for a minute."""
+    end = time.monotonic() + 60
+    while not holds():
+        assert time.monotonic() < end, "what is waited for doesn't come"
+        time.sleep(0.01)
+
+
+def test_who_asks_for_a_head_alone_gets_no_body(open_plant: Served) -> None:
+    """What stood behind it would be taken for the next answer of the connection."""
+    connection = http.client.HTTPConnection("127.0.0.1", open_plant.web.port, timeout=60)
+    for path in ("journal.csv", "report.csv", "journal", "state"):
+        connection.request("HEAD", f"/api/{path}")
+        head = connection.getresponse()
+        assert (head.status, head.read()) == (200, b""), path
+        connection.request("GET", "/api/session")
+        answer = connection.getresponse()
+        assert answer.status == 200 and b"token" in answer.read(), path
+    connection.close()
+
+
 def test_what_was_annunciated_by_an_alarm_that_is_gone_counts(open_plant: Served) -> None:
     core, client = open_plant.core, Client(open_plant.url)
     open_plant.do(lambda: come_and_go(core, 20))
@@ -546,6 +685,9 @@ def test_a_question_is_answered_once(guarded_plant: Served) -> None:
     assert bert.post("/api/answer", {"number": 8, "yes": True}).status == 404
     assert bert.post("/api/answer", {"number": 7, "yes": True, "console": 1}).status == 403
     assert bert.post("/api/answer", {"number": 7, "yes": 1}).status == 400
+    for console in ("2", 2.0, True, None, [2]):
+        given = {"number": 7, "yes": True, "console": console}
+        assert error(bert.post("/api/answer", given)) == (400, "console has to be a number")
     assert bert.post("/api/answer", {"number": 7, "yes": True}).status == 200
     assert bert.post("/api/answer", {"number": 7, "yes": True}).status == 404
     assert guarded_plant.core.answers == [(7, True, 2, "bert")]
@@ -568,6 +710,7 @@ def test_what_is_no_http(open_plant: Served, caplog: pytest.LogCaptureFixture) -
         b"GET / HTTP/9.9\r\n\r\n",
         b"GET " + b"x" * 100_000,
         b"\x16\x03\x01\x02",
+        b"GET http://[::1 HTTP/1.1\r\nHost: localhost\r\n\r\n",
         b"A: b\r\n" * 50_000,
     ):
         with socket.create_connection(("127.0.0.1", open_plant.web.port), 60) as channel:
@@ -609,6 +752,19 @@ def test_who_brings_no_request_is_closed(monkeypatch: pytest.MonkeyPatch) -> Non
                 except ConnectionError:
                     pass
         assert Client(site.url).enter().status == 200
+
+
+def test_who_reads_no_answer_is_closed(monkeypatch: pytest.MonkeyPatch) -> None:
+    """It would keep its place among the connections, and its answer in memory."""
+    monkeypatch.setattr(connections, "STUCK", 0.3)
+    asked = b"GET /api/plant HTTP/1.1\r\nHost: localhost\r\n\r\n"
+    with served(FakeCore(fake_plant(20_000))) as site, socket.socket() as channel:
+        channel.setsockopt(socket.SOL_SOCKET, socket.SO_RCVBUF, 4096)
+        channel.connect(("127.0.0.1", site.web.port))
+        channel.sendall(asked * 20)
+        assert channel.recv(100)
+        wait_until(lambda: len(site.web.limit) == 0)
+        assert Client(site.url).ask("/api/plant").status == 200
 
 
 def test_the_limit_of_connections() -> None:

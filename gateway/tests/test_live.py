@@ -6,7 +6,7 @@ import asyncio
 import json
 import time
 from collections.abc import AsyncIterator, Callable, Coroutine
-from contextlib import asynccontextmanager
+from contextlib import AsyncExitStack, asynccontextmanager
 from typing import Any
 
 import aiohttp
@@ -15,7 +15,8 @@ from fake_core import FakeCore, fake_plant
 from http_help import Client, two_users
 from served import Served, served
 
-from alarmd_gateway import live, sessions
+from alarmd_gateway import live, sessions, shown
+from alarmd_gateway.core import Snapshot
 from alarmd_gateway.model import Code
 from alarmd_gateway.troubles import TroubleKind
 
@@ -104,6 +105,34 @@ def test_a_snapshot_then_changes_in_order_and_beats() -> None:
                 assert page.codes == {}
 
         play(work())
+
+
+def test_pages_that_begin_anew_share_a_snapshot(monkeypatch: pytest.MonkeyPatch) -> None:
+    """Else those of a large plant would have no beat meanwhile, and begin again."""
+    monkeypatch.setattr(shown, "FRESH", 1000.0)
+    with served() as site:
+        core, client, taken = site.core, entered(site), [0]
+        site.do(lambda: core.scan(1000, {"A0": Code.UNACK}))
+        whole = core.snapshot
+
+        def counted(normal: bool = True) -> Snapshot:
+            taken[0] += 1
+            return whole(normal)
+
+        monkeypatch.setattr(core, "snapshot", counted)
+
+        async def work() -> None:
+            async with AsyncExitStack() as stack:
+                pages = [await stack.enter_async_context(opened(client)) for _ in range(5)]
+                for page in pages:
+                    await page.until(lambda page=page: page.snapshots == 1)  # type: ignore[misc]
+                site.do(core.anew)
+                for page in pages:
+                    await page.until(lambda page=page: page.snapshots == 2)  # type: ignore[misc]
+                    assert page.codes == {}
+
+        play(work())
+        assert taken == [2]
 
 
 def test_a_page_asks_for_a_plant_that_was_taken_up() -> None:

@@ -45,6 +45,7 @@ def test_a_password_has_a_length(password: str) -> None:
         PLEASE.replace("16384", "524288"),
         PLEASE.replace("16384", "-2"),
         PLEASE.replace("$8$", "$99$"),
+        PLEASE.replace("16384$8$", "65536$1$"),
         PLEASE.replace("$1$", "$9$"),
         PLEASE.replace("U29k", "U2"),
         PLEASE + "$",
@@ -55,6 +56,13 @@ def test_a_password_has_a_length(password: str) -> None:
 def test_what_is_no_hash_is_refused(text: str) -> None:
     with pytest.raises(users.BadHash):
         users.read_hash(text)
+
+
+@pytest.mark.parametrize("cost", ["2$1", "32768$1", "65536$2", "262144$16"])
+def test_a_cost_that_is_taken_can_be_tried(cost: str) -> None:
+    """Else whoever logs in by it is told of a fault of the gateway."""
+    kept = users.read_hash(PLEASE.replace("16384$8", cost))
+    assert not kept.fits("pleaseletmeout")
 
 
 def write(folder: Path, *tables: str) -> Path:
@@ -90,6 +98,7 @@ def test_a_file_of_users(tmp_path: Path) -> None:
         ([table("5")], "user 1: a name has"),
         ([table(consoles='"1"')], "user 1: consoles is a list"),
         ([table(consoles="[true]")], "user 1: consoles is a list"),
+        ([table(consoles="[]")], "user 1: consoles is empty"),
         ([table(), table('"bert"', "[3]")], "user 2: the plant has no console 3"),
         ([table(), table()], "user 2: 'anna' stands twice"),
         ([table(password='"secret"')], "user 1: password isn't what"),
@@ -111,6 +120,7 @@ def test_other_wrong_files(tmp_path: Path) -> None:
         ("colour = 1", "'colour'"),
         ("user = 1", "[[user]]"),
         ("user = [1]", "[[user]]"),
+        ("user = " + 5000 * "[" + 5000 * "]", "users.toml"),
     ):
         path.write_text(text)
         with pytest.raises(users.BadUsers) as told:

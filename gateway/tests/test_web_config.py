@@ -27,6 +27,8 @@ from alarmd_gateway.web_config import WebConfig, web_config
 
 HASH = "scrypt$16384$8$1$U29kaXVtQ2hsb3JpZGU=$cCO9yzr9c0hGHAbNgf046/2o+7qQT44+qbVD9lRdofI="
 
+SECURE = {"users": "users.toml", "certificate": "page.pem", "key": "page.key"}
+
 
 @pytest.fixture(scope="module")
 def certificate(tmp_path_factory: pytest.TempPathFactory) -> Path:
@@ -61,9 +63,18 @@ def test_what_is_taken(certificate: Path) -> None:
     assert found.users.named("anna") is not None
     found = read(certificate, listen="localhost:80", certificate="page.pem", key="page.key")
     assert found is not None and found.tls is not None
-    secure = {"users": "users.toml", "certificate": "page.pem", "key": "page.key"}
-    found = read(certificate, listen="0.0.0.0:443", metrics_token="t", connections=9, **secure)
+    found = read(certificate, listen="0.0.0.0:443", metrics_token="t", connections=9, **SECURE)
     assert found is not None and found.metrics_token == "t" and found.connections == 9
+    for host in (
+        "plant",
+        "plant.example",
+        "plant.example.",
+        "pl-1_a.example",
+        "größe.example",
+        "*",
+    ):
+        found = read(certificate, listen=f"{host}:443", **SECURE)
+        assert found is not None and found.host == host
 
 
 @pytest.mark.parametrize(
@@ -77,14 +88,26 @@ def test_what_is_taken(certificate: Path) -> None:
         ({"listen": "127.0.0.1:x"}, "has to be like"),
         ({"listen": "127.0.0.1:65536"}, "has to be like"),
         ({"listen": ":8080"}, "has to be like"),
+        ({"listen": "127.0.0.1:" + "9" * 5000}, "has to be like"),
+        ({"listen": "plant..example:8080", **SECURE}, "has to be like"),
+        ({"listen": "a" * 70 + ".example:8080", **SECURE}, "has to be like"),
+        ({"listen": "plant\0:8080", **SECURE}, "has to be like"),
+        ({"listen": "the plant:8080", **SECURE}, "has to be like"),
+        ({"listen": "[::1]]:8080", **SECURE}, "has to be like"),
+        ({"listen": "http://plant.example:8080", **SECURE}, "has to be like"),
         ({"listen": 8080}, "'listen' of [web]"),
         ({"users": "none.toml"}, "No such file"),
         ({"users": "broken.toml"}, "no console 9"),
         ({"certificate": "page.pem"}, "belong together"),
         ({"certificate": "none.pem", "key": "page.key"}, "No such file"),
         ({"certificate": "users.toml", "key": "page.key"}, "certificate"),
+        ({"certificate": "a\0b", "key": "page.key"}, "null byte"),
         ({"certificate": "page.pem", "key": "page.pem"}, "certificate"),
         ({"metrics_token": ""}, "metrics_token is empty"),
+        ({"metrics_token": " "}, "can't be brought in a header"),
+        ({"metrics_token": "prometheus "}, "can't be brought in a header"),
+        ({"metrics_token": "pro\nmetheus"}, "can't be brought in a header"),
+        ({"metrics_token": "p" * 5000}, "can't be brought in a header"),
         ({"connections": 1}, "'connections' of [web]"),
         ({"colour": 1}, "'colour' of [web]"),
     ],
@@ -117,6 +140,12 @@ def test_tls(certificate: Path) -> None:
         assert answer.headers["Strict-Transport-Security"]
         answer.read()
         connection.close()
+        own = f"//127.0.0.1:{site.web.port}"
+        for origin, wanted in ((f"https:{own}", 200), (f"http:{own}", 403)):
+            sent = {"Cookie": cookie.partition(";")[0], "Origin": origin}
+            connection.request("GET", "/api/session", headers=sent)
+            answer = connection.getresponse()
+            assert answer.status == wanted and answer.read()
         # a thousand that never begin to speak hold nobody up
         idle = [socket.create_connection(("127.0.0.1", site.web.port), 60) for _ in range(1000)]
         connection.request("GET", "/api/session", headers={"Cookie": cookie.partition(";")[0]})
