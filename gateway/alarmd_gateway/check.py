@@ -20,7 +20,7 @@ from .model import GatewayFault, Plant
 from .record import LONGEST_HEAD, peek, unbegun
 from .shared_config import shared_config
 from .simulate import model_path, read_model
-from .web_config import web_config
+from .web_config import unseen, web_config
 from .words import Words, called
 
 
@@ -42,7 +42,9 @@ def check(config: Config) -> list[str]:
         told.append(accepted(config, model))
         read_model(model, plant)
     of_config(config, plant)
-    web_config(config, plant)
+    web = web_config(config, plant)
+    for area in [] if web is None or web.users is None else unseen(web.users, plant):
+        print(f"warning: no user sees the alarms of area '{area}'", file=sys.stderr)
     judge_record(config, plant)
     return told
 

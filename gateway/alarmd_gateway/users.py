@@ -123,6 +123,10 @@ class Users:
     def __len__(self) -> int:
         return len(self._users)
 
+    def consoles(self) -> list[tuple[int, ...]]:
+        """The consoles of each user."""
+        return [user.consoles for user in self._users.values()]
+
     def named(self, name: str) -> User | None:
         """The user of this name, in which letter case counts."""
         return self._users.get(name)
@@ -175,7 +179,7 @@ def user_of(table: Mapping[str, Any], consoles: Collection[int]) -> User:
         raise ValueError("a name has 1 to 32 letters, digits, '_', '-' and '.'")
     if not isinstance(numbers, list) or not all(type(number) is int for number in numbers):
         raise ValueError("consoles is a list of numbers")
-    if not numbers:
+    if not numbers and consoles:
         raise ValueError("consoles is empty: who has none would see a plant without alarms")
     missing = [number for number in numbers if number not in consoles]
     if missing:

@@ -112,6 +112,17 @@ def users_of(path: Path | None, plant: Plant) -> Users | None:
         raise fault(str(bad)) from bad
 
 
+def unseen(users: Users, plant: Plant) -> list[str]:
+    """The areas with alarms that no user sees: none has a console of them, nor all consoles."""
+    given = users.consoles()
+    if any(len(consoles) == len(plant.consoles) for consoles in given):
+        return []
+    own = {number for consoles in given for number in consoles}
+    seen = {area for row in plant.consoles if row.number in own for area in row.areas}
+    with_alarms = {alarm.area for alarm in plant.alarms}
+    return [area for area in plant.areas if area in with_alarms - seen]
+
+
 def tls_of(certificate: Path, key: Path) -> ssl.SSLContext:
     """TLS 1.2 or later by a certificate and its key, both PEM. Raises GatewayFault."""
     context = ssl.create_default_context(ssl.Purpose.CLIENT_AUTH)

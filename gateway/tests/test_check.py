@@ -9,6 +9,7 @@ from pathlib import Path
 
 import pytest
 from around import LIMIT, ROOT, config_file, plant_copy, run
+from http_help import cheap_hash
 
 pytestmark = pytest.mark.server
 
@@ -48,6 +49,17 @@ def test_its_model_is_judged_too(config: Path, plant: Path) -> None:
     assert check(config)[0] == 0  # flow and temperature bear names still
     shutil.copy(plant, plant.parent / "model" / "plant.toml")
     assert check(config)[0] == 3  # whose sources aren't there
+
+
+def test_an_area_that_no_user_sees_is_told(config: Path) -> None:
+    """Its alarms would stand on nobody's page."""
+    add(config, '[web]\nusers = "users.toml"\n')
+    users = config.parent / "users.toml"
+    password = f'password = "{cheap_hash("x").text()}"'
+    for consoles, told in (("[2]", "tank"), ("[1]", ""), ("[1, 2]", "")):
+        users.write_text(f'[[user]]\nname = "anna"\nconsoles = {consoles}\n{password}\n')
+        line = f"warning: no user sees the alarms of area '{told}'\n" if told else ""
+        assert check(config)[0::2] == (0, line)
 
 
 def test_warnings_are_told(config: Path, plant: Path) -> None:

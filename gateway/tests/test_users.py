@@ -58,7 +58,7 @@ def test_what_is_no_hash_is_refused(text: str) -> None:
         users.read_hash(text)
 
 
-@pytest.mark.parametrize("cost", ["2$1", "32768$1", "65536$2", "262144$16"])
+@pytest.mark.parametrize("cost", ["2$1", "32768$1", "65536$2"])
 def test_a_cost_that_is_taken_can_be_tried(cost: str) -> None:
     """Else whoever logs in by it is told of a fault of the gateway."""
     kept = users.read_hash(PLEASE.replace("16384$8", cost))
@@ -109,6 +109,13 @@ def test_a_wrong_file_is_told_in_a_sentence(tmp_path: Path, tables: list[str], w
     with pytest.raises(users.BadUsers) as told:
         users.read_users(write(tmp_path, *tables), {1, 2})
     assert words in str(told.value)
+
+
+def test_a_plant_without_consoles_has_users_without_one(tmp_path: Path) -> None:
+    """They see all of it, and order nothing."""
+    found = users.read_users(write(tmp_path, table(consoles="[]")), ())
+    anna = found.named("anna")
+    assert anna is not None and anna.consoles == ()
 
 
 def test_other_wrong_files(tmp_path: Path) -> None:

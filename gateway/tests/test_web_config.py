@@ -2,6 +2,7 @@
 
 from __future__ import annotations
 
+import dataclasses
 import http.client
 import io
 import os
@@ -21,9 +22,9 @@ from served import served
 
 from alarmd_gateway import password
 from alarmd_gateway.config import Config
-from alarmd_gateway.model import GatewayFault
-from alarmd_gateway.users import read_hash
-from alarmd_gateway.web_config import WebConfig, web_config
+from alarmd_gateway.model import ConsoleRow, GatewayFault
+from alarmd_gateway.users import Users, read_hash
+from alarmd_gateway.web_config import WebConfig, unseen, web_config
 
 HASH = "scrypt$16384$8$1$U29kaXVtQ2hsb3JpZGU=$cCO9yzr9c0hGHAbNgf046/2o+7qQT44+qbVD9lRdofI="
 
@@ -119,6 +120,22 @@ def test_what_is_wrong_is_one_sentence_and_status_2(
         read(certificate, **table)
     assert words in told.value.words and told.value.status == 2
     assert "\n" not in told.value.words
+
+
+def test_areas_whose_alarms_no_user_sees() -> None:
+    plant = fake_plant()
+    apart = dataclasses.replace(
+        plant,
+        areas=(*plant.areas, "empty", "alone"),
+        consoles=(ConsoleRow(1, ("tank",)), ConsoleRow(2, ("dosing",))),
+        alarms=(*plant.alarms, dataclasses.replace(plant.alarms[0], tag="B0", area="alone")),
+    )
+    anna, bert = (two_users().named(name) for name in ("anna", "bert"))
+    assert anna is not None and bert is not None
+    assert unseen(two_users(), apart) == ["alone"] and unseen(two_users(), plant) == []
+    assert unseen(Users({"bert": bert}), apart) == ["tank", "alone"]
+    both = dataclasses.replace(anna, consoles=(1, 2))  # who has all consoles sees all areas
+    assert unseen(Users({"anna": both}), apart) == []
 
 
 def test_tls(certificate: Path) -> None:
