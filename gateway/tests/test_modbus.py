@@ -321,6 +321,34 @@ def test_an_output_that_is_refused_is_written_again(examples: Path) -> None:
     asyncio.run(body())
 
 
+def test_an_output_that_one_of_its_two_places_refuses_is_one_steady_trouble(
+    examples: Path, device: Device
+) -> None:
+    """Whichever of the two is written last."""
+
+    async def body() -> None:
+        kept = Kept(tank(examples), outputs={"pump": True})
+        told: list[bool] = []
+        kept.troubles.listen(lambda trouble, stands: told.append(stands))
+        there, away = (point(kept.plant.outputs["pump"], Area.COIL, at) for at in (10, 500))
+        given = replace(source(kept.plant, device.port), inputs=(), outputs=(away, there))
+        client = ModbusClient(given, kept.intake())
+        await device.there()
+        running = Running(client, kept)
+        try:
+            await until(lambda: ("source", "plc pump") in kept.standing())
+            told.clear()
+            for value in (False, True, False):
+                kept.outputs["pump"] = value
+                client.put_output("pump", value)
+                await until(lambda: device.client.read_coils(10, 1).bits[0] == value)
+            assert kept.standing() == [("source", "plc pump")] and told == []
+        finally:
+            await running.close()
+
+    asyncio.run(body())
+
+
 def test_a_refused_output_that_is_not_to_be_written_any_more(examples: Path) -> None:
     """As where another gateway leads by now, or a plant without it is served."""
 

@@ -201,7 +201,8 @@ class ModbusClient(Source):
             self.intake.fails(self.name, name, str(fault))
         else:
             self._refused.discard(point)
-            self.intake.good(self.name, name)
+            if all(other.variable.name != name for other in self._refused):
+                self.intake.good(self.name, name)
 
     def close(self) -> None:
         """The thread ends once its last request is done."""
