@@ -7,7 +7,7 @@ import contextlib
 import struct
 import subprocess
 import sys
-from collections.abc import Iterator
+from collections.abc import Callable, Iterator
 from dataclasses import replace
 from fractions import Fraction
 from pathlib import Path
@@ -257,6 +257,68 @@ def test_an_answer_that_comes_late_is_taken_for_no_other(examples: Path) -> None
         try:
             await until(lambda: device.requests > 20 and not kept.standing())
             assert set(kept.samples) == {("level", 10), ("flow", 50)}
+        finally:
+            await running.close()
+            await device.close()
+
+    asyncio.run(body())
+
+
+class Odd:
+    """A device that answers each request by a number and a body, which a test makes of those that were asked."""
+
+    def __init__(self, answer: Callable[[int, bytes], tuple[int, bytes]]) -> None:
+        self.port = 0
+        self._answer = answer
+        self._server: asyncio.Server | None = None
+
+    async def start(self) -> None:
+        self._server = await asyncio.start_server(self._serve, "127.0.0.1", 0)
+        self.port = self._server.sockets[0].getsockname()[1]
+
+    async def _serve(self, reader: asyncio.StreamReader, writer: asyncio.StreamWriter) -> None:
+        with contextlib.suppress(EOFError, OSError):
+            while True:
+                asked, _, size, unit = struct.unpack(">HHHB", await reader.readexactly(7))
+                number, body = self._answer(asked, await reader.readexactly(size - 1))
+                if not body:
+                    break
+                writer.write(struct.pack(">HHHB", number, 0, len(body) + 1, unit) + body)
+                await writer.drain()
+        writer.close()
+
+    async def close(self) -> None:
+        assert self._server is not None
+        self._server.close()
+        await self._server.wait_closed()
+
+
+@pytest.mark.parametrize(
+    ("answer", "words"),
+    [
+        (lambda asked, body: (asked, b"\x04\x02\x00\x09"), "answers function 4, and was asked 3"),
+        (lambda asked, body: (asked, b"\x01\x01\x01"), "answers function 1, and was asked 3"),
+        (lambda asked, body: (asked, b"\x84\x02"), "answers function 4, and was asked 3"),
+        (lambda asked, body: (asked, b"\x03\x04\x00\x09\x00\x08"), "the answer is too long"),
+        (lambda asked, body: (asked, b"\x03\x00"), "the answer is too short"),
+        (lambda asked, body: (0, b"\x03\x02\x00\x09"), "bears the number 0, and the request 1"),
+        (lambda asked, body: (asked, b""), "the device has ended the connection"),
+    ],
+)
+def test_an_answer_to_something_else_is_no_value(
+    examples: Path, answer: Callable[[int, bytes], tuple[int, bytes]], words: str
+) -> None:
+    async def body() -> None:
+        device = Odd(answer)
+        await device.start()
+        kept = Kept(tank(examples))
+        level = point(kept.plant.inputs["level"], Area.HOLDING, 0)
+        given = replace(source(kept.plant, device.port), inputs=(level,), outputs=())
+        running = Running(ModbusClient(given, kept.intake()), kept)
+        try:
+            await until(kept.standing)
+            assert kept.standing() == [("source", "plc")] and not kept.samples
+            assert words in kept.texts()
         finally:
             await running.close()
             await device.close()
