@@ -7,7 +7,7 @@ from decimal import Decimal
 from fractions import Fraction
 from pathlib import Path
 
-from .config import WORDS_STATUS, Config, Table
+from .config import NO_TOML, WORDS_STATUS, Config, Table
 from .mapping import (
     Area,
     Form,
@@ -203,7 +203,7 @@ def read(path: Path, plant: Plant) -> Map:
             values = tomllib.load(file, parse_float=Decimal)
     except OSError as fault:
         raise GatewayFault(f"{path}: {fault.strerror}", WORDS_STATUS) from None
-    except (tomllib.TOMLDecodeError, UnicodeDecodeError) as fault:
+    except NO_TOML as fault:
         raise GatewayFault(f"{path}: no TOML: {fault}", WORDS_STATUS) from None
     try:
         return Reader(plant).read(Table("", values, path.resolve().parent))

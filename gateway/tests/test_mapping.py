@@ -222,6 +222,12 @@ def test_an_empty_map(tmp_path: Path) -> None:
         ('input = "door"', 'input = "level"', "'input' of [modbus[1].input[1]]"),
         ("[stale_ms]", "[stale]", "'stale'"),
         ("[stale_ms]", "[stale_ms", "no TOML"),
+        ("scale = 0.1", f"scale = 1{'0' * 5000}", "no TOML"),
+        ("scale = 0.1", "scale = 1e99999999999999999999", "no TOML"),
+        ("scale = 0.1", f"scale = {'[' * 5000}{']' * 5000}", "no TOML"),
+        ('path = "commands"', 'path = ""', "'path'"),
+        ('path = "commands"', 'path = "a\\u0000b"', "'path'"),
+        ("port = 18830", 'username = "a"\npassword_file = "a\\u0000b"', "'password_file'"),
     ],
 )
 def test_what_is_wrong_is_named(tmp_path: Path, old: str, new: str, words: str) -> None:
