@@ -233,7 +233,7 @@ def fraction(table: Table, key: str, default: Fraction) -> Fraction:
 def read_secret(path: Path) -> str:
     """The first line of a file. Raises GatewayFault (status 2) where it can't be read."""
     try:
-        return (path.read_text().splitlines() or [""])[0]
+        return path.read_text("utf-8").partition("\n")[0]
     except (OSError, UnicodeDecodeError) as fault:
         raise GatewayFault(f"{path}: {fault}", WORDS_STATUS) from None
 

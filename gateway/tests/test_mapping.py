@@ -256,6 +256,13 @@ def test_what_can_never_be_reached_is_refused(
     test_what_is_wrong_is_named(tmp_path, old, new, words)
 
 
+def test_a_password_is_a_whole_line(tmp_path: Path) -> None:
+    (tmp_path / "secret").write_bytes("a\x0b\u2028b c\r\nanother\n".encode())
+    names = 'port = 18830\nusername = "u"\npassword_file = "secret"'
+    map = map_of(tmp_path, WHOLE.replace("port = 18830", names))
+    assert map.mqtt[0].password == "a\x0b\u2028b c"
+
+
 OTHER_TOPIC = '[[mqtt.output]]\noutput = "speed"\ntopic = "plant/pump/set"\n'
 OTHER_REGISTER = '[[modbus.output]]\noutput = "pump"\narea = "holding"\naddress = 9\n'
 OTHER_DEVICE = '[[modbus]]\nname = "other"\nhost = "127.0.0.1"\n'
