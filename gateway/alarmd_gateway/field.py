@@ -4,7 +4,7 @@ from __future__ import annotations
 
 import asyncio
 import time
-from collections.abc import AsyncIterator
+from collections.abc import AsyncIterator, Callable
 
 from .config import Config
 from .console import Console
@@ -15,10 +15,12 @@ from .fields.mqtt import MqttClient
 from .fields.source import Intake, Source
 from .map_file import of_config
 from .mapping import Map
-from .model import Value
+from .model import GatewayFault, Plant, Value
 from .output import Output
 from .samples import Ages
+from .troubles import TroubleKind
 
+MAP = "the map"  # the subject of its trouble
 CHECK_SECONDS = 0.25  # between two looks at the ages of samples
 
 
@@ -28,8 +30,10 @@ class Field:
     asks = False
     brings = True
 
-    def __init__(self, core: Core, map: Map) -> None:
+    def __init__(self, core: Core, map: Map, fits: Callable[[Plant], object]) -> None:
+        """`fits` raises GatewayFault where a start with a plant would be refused for the map as it stands in its file."""
         self._core = core
+        self._fits = fits
         self._intake = Intake(core, Ages(dict(map.limits), time.monotonic()))
         self._spelled = {name.lower(): name for name, _ in map.limits}
         self._outputs = {one.name.lower(): one for one in map.outputs()}
@@ -79,13 +83,25 @@ class Field:
                         if (mapped := self._mapped(name, value)) is not None:
                             self._put(*mapped)
                     elif change.kind in (ChangeKind.ANEW, ChangeKind.RELOADED):
+                        if change.kind is ChangeKind.RELOADED:
+                            self._judge()
                         for name, value in self._current().items():
                             self._put(name, value)
                 return  # the core has closed
             except CutOff:
-                pass
+                self._judge()
             finally:
                 changes.close()
+
+    def _judge(self) -> None:
+        """Tells where the plant that was taken up couldn't be started again with the map: that is seen now, and not after a crash."""
+        try:
+            self._fits(self._core.plant)
+        except GatewayFault as fault:
+            words = f"the map isn't one of the plant that is served, and the next start is refused: {fault.words}"
+            self._core.troubles.raises(TroubleKind.SOURCE, MAP, words)
+        else:
+            self._core.troubles.clear(TroubleKind.SOURCE, MAP)
 
     def _put(self, name: str, value: Value) -> None:
         if not self._core.leads:
@@ -137,4 +153,4 @@ def sources(map: Map, intake: Intake, core: Core) -> list[Source]:
 async def attach(core: Core, config: Config) -> Field | None:
     """Starts the sources of the map that `[fields]` names; None where there is none. Raises GatewayFault (status 2)."""
     map = of_config(config, core.plant)
-    return None if map is None else Field(core, map)
+    return None if map is None else Field(core, map, lambda plant: of_config(config, plant))
