@@ -186,6 +186,33 @@ def test_a_device_that_answers_nothing_is_lost(examples: Path) -> None:
     asyncio.run(body())
 
 
+def test_the_end_does_not_wait_for_an_answer(examples: Path) -> None:
+    """Of which the whole process would wait for so long as that may take, since a thread does."""
+
+    async def body() -> None:
+        asked = asyncio.Event()
+
+        async def deaf(reader: asyncio.StreamReader, writer: asyncio.StreamWriter) -> None:
+            await reader.readexactly(12)
+            asked.set()
+            await reader.read()
+            writer.close()
+
+        server = await asyncio.start_server(deaf, "127.0.0.1", 0)
+        kept = Kept(tank(examples))
+        port = server.sockets[0].getsockname()[1]
+        client = ModbusClient(replace(source(kept.plant, port), timeout=600.0), kept.intake())
+        running = Running(client, kept)
+        await asked.wait()
+        threads = set(client._thread._threads)
+        assert threads
+        await running.close()
+        await until(lambda: not any(thread.is_alive() for thread in threads))
+        server.close()
+
+    asyncio.run(body())
+
+
 def test_points_beside_each_other_are_one_request(examples: Path) -> None:
     level = tank(examples).inputs["level"]
     places = [(Area.HOLDING, 5), (Area.HOLDING, 0), (Area.HOLDING, 1), (Area.INPUT, 2)]

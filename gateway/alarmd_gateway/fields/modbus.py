@@ -5,7 +5,9 @@ Between two readings the device isn't seen: what was there only meanwhile is no 
 from __future__ import annotations
 
 import asyncio
+import contextlib
 import logging
+import socket
 from collections.abc import Callable, Iterable, Iterator
 from concurrent.futures import ThreadPoolExecutor
 from dataclasses import dataclass
@@ -80,6 +82,13 @@ class Device:
     def close(self) -> None:
         """Ends the connection."""
         self._client.close()
+
+    def interrupt(self) -> None:
+        """Ends a request that is under way in the thread: it would wait for its answer, and the end of the process for it."""
+        connection = self._client.socket
+        if connection is not None:
+            with contextlib.suppress(OSError):
+                connection.shutdown(socket.SHUT_RDWR)
 
     def read(self, block: Block) -> list[int]:
         """The registers or bits of a block."""
@@ -159,6 +168,7 @@ class ModbusClient(Source):
                 await self._write_again(device, current())
                 await self._read(device)
         finally:
+            device.interrupt()
             self._thread.submit(device.close)
 
     async def _read(self, device: Device) -> None:
