@@ -147,6 +147,8 @@ class Reader:
         topic = mqtt_text(table, "topic")
         if "+" in topic or "#" in topic:
             raise table.wrong("topic", "a topic without + and #")
+        if topic.startswith("$share/"):  # what comes by it bears another topic
+            raise table.wrong("topic", "the topic itself, without $share/GROUP/")
         if broker is not None:
             self._claim(table, "topic", ("topic", *broker, topic))
         path = table.text("json", "") if is_input else ""
@@ -202,8 +204,9 @@ def host_of(table: Table) -> str:
 def mqtt_text(table: Table, key: str, default: str | None = None) -> str:
     """A text that a message of MQTT can have."""
     text = table.text(key, default)
-    if not 1 <= len(text.encode()) <= LONGEST_TEXT or "\0" in text:
-        raise table.wrong(key, f"a text of 1 to {LONGEST_TEXT} bytes without a NUL")
+    controls = any(ord(one) < 32 or 127 <= ord(one) < 160 for one in text)  # brokers end then
+    if not 1 <= len(text.encode()) <= LONGEST_TEXT or controls:
+        raise table.wrong(key, f"a text of 1 to {LONGEST_TEXT} bytes without control characters")
     return text
 
 

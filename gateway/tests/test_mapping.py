@@ -247,6 +247,8 @@ def test_what_is_wrong_is_named(tmp_path: Path, old: str, new: str, words: str) 
         ("port = 18830", 'password_file = "map.toml"', "'password_file'"),
         ('topic = "plant/level"', 'topic = "plant\\u0000"', "'topic'"),
         ('topic = "plant/level"', f'topic = "{"x" * 65536}"', "'topic'"),
+        ('topic = "plant/level"', 'topic = "plant\\tlevel"', "'topic'"),
+        ('topic = "plant/level"', 'topic = "$share/group/plant/level"', "'topic'"),
         ("address = 8", "address = 65535", "'address' of [modbus[1].output[1]]"),
     ],
 )
