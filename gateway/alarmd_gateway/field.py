@@ -21,6 +21,7 @@ from .samples import Ages
 from .troubles import TroubleKind
 
 MAP = "the map"  # the subject of its trouble
+LAST_SECONDS = 2.0  # for the answers to lines at the end
 CHECK_SECONDS = 0.25  # between two looks at the ages of samples
 
 
@@ -38,7 +39,8 @@ class Field:
         self._spelled = {name.lower(): name for name, _ in map.limits}
         self._outputs = {one.name.lower(): one for one in map.outputs()}
         core.sampled = self._sampled
-        self._sources = sources(map, self._intake, core)
+        self._operator = Operator(core) if map.lines else None
+        self._sources = sources(map, self._intake, self._operator)
         running = [source.run(self._current) for source in self._sources]
         watches = [self._watch_outputs(), self._watch_samples()]
         self._tasks = [asyncio.create_task(one) for one in (*running, *watches)]
@@ -51,6 +53,8 @@ class Field:
         await asyncio.gather(*self._tasks, return_exceptions=True)
         for source in self._sources:
             source.close()
+        if self._operator is not None:
+            await asyncio.to_thread(self._operator.close)
 
     def _current(self) -> dict[str, Value]:
         """The outputs that a source writes once it is reached: none where another gateway leads."""
@@ -140,10 +144,13 @@ class Operator:
 
         await self._console.serve(alone())
 
+    def close(self) -> None:
+        """Waits until the answers are written, at most so long as a reader is given at the end."""
+        self._output.close(LAST_SECONDS)
 
-def sources(map: Map, intake: Intake, core: Core) -> list[Source]:
-    """A source for each of the map."""
-    operator = Operator(core) if map.lines else None
+
+def sources(map: Map, intake: Intake, operator: Operator | None) -> list[Source]:
+    """A source for each of the map; `operator` answers lines, where there are some."""
     found: list[Source] = [LineSource(it, intake, operator) for it in map.lines if operator]
     found += [MqttClient(it, intake) for it in map.mqtt]
     found += [ModbusClient(it, intake) for it in map.modbus]
