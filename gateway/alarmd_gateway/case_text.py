@@ -14,6 +14,7 @@
 
 from __future__ import annotations
 
+import io
 import re
 from dataclasses import dataclass, field, replace
 
@@ -67,7 +68,7 @@ class Cases:
     def read(self, text: str) -> list[Case]:
         """The cases, in order. Lines before the first `case` belong to one without a name."""
         cases: list[Case] = []
-        for self._line, line in enumerate(text.splitlines(), 1):
+        for self._line, line in enumerate(io.StringIO(text), 1):  # LF alone ends a line
             words = line.split()
             if not words or words[0].startswith("#"):
                 continue

@@ -21,6 +21,9 @@ from .state import State
 from .words import Words, called
 
 
+LONGEST = 86_400  # seconds that a case may take
+
+
 @dataclass(frozen=True)
 class Difference:
     """A line of the cases, the command, and what was expected beside what was there."""
@@ -177,6 +180,8 @@ def main(words: list[str]) -> int:
     )
     parser.add_argument("--seconds", type=float, default=60, help="how long a case may take (60)")
     given = parser.parse_args(words[1:])
+    if not 0 < given.seconds <= LONGEST:  # nor is it no number
+        parser.error(f"--seconds is more than 0, and at most {LONGEST}")
     alarmd = find_alarmd(given.alarmd)
     plant = read_plant(alarmd, given.plant, given.seconds)
     counts = [test_file(alarmd, plant, path, given.seconds) for path in given.cases]

@@ -15,6 +15,9 @@ TABLES = ("etcd", "fields", "simulate", "web")
 WORDS_STATUS = 2
 """The status of the process where words, a configuration or a record are wrong."""
 
+NO_TOML = (ValueError, ArithmeticError, RecursionError)
+"""What a text may raise that is read as TOML: it is none, or no UTF-8, or has a number or a depth that can't be read."""
+
 
 class Table:
     """A table of the configuration, read key by key. What is missing, of another kind or left over is a GatewayFault (status
@@ -34,7 +37,10 @@ class Table:
 
     def path(self, key: str, default: str | None = None) -> Path:
         """A path; one that doesn't begin with `/` counts from the configuration's folder."""
-        return self.folder / self.text(key, default)
+        text = self.text(key, default)
+        if not text or "\0" in text:
+            raise self.wrong(key, "a path")
+        return self.folder / text
 
     def number(
         self, key: str, default: int | None = None, least: int = 0, most: int = 2**53
@@ -140,10 +146,7 @@ def read(path: Path) -> Config:
             values = tomllib.load(file)
     except OSError as fault:
         raise GatewayFault(f"{path}: {fault.strerror}", WORDS_STATUS) from None
-    except (
-        ValueError,
-        RecursionError,
-    ) as fault:  # also of bytes that are no UTF-8, and of too many digits
+    except NO_TOML as fault:
         raise GatewayFault(f"{path}: no TOML: {fault}", WORDS_STATUS) from None
     folder = path.resolve().parent
     others = {key: value for key, value in values.items() if isinstance(value, dict | list)}

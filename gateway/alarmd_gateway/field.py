@@ -4,7 +4,7 @@ from __future__ import annotations
 
 import asyncio
 import time
-from collections.abc import AsyncIterator
+from collections.abc import AsyncIterator, Callable
 
 from .config import Config
 from .console import Console
@@ -15,10 +15,13 @@ from .fields.mqtt import MqttClient
 from .fields.source import Intake, Source
 from .map_file import of_config
 from .mapping import Map
-from .model import Value
+from .model import GatewayFault, Plant, Value
 from .output import Output
 from .samples import Ages
+from .troubles import TroubleKind
 
+MAP = "the map"  # the subject of its trouble
+LAST_SECONDS = 2.0  # for the answers to lines at the end
 CHECK_SECONDS = 0.25  # between two looks at the ages of samples
 
 
@@ -28,14 +31,17 @@ class Field:
     asks = False
     brings = True
 
-    def __init__(self, core: Core, map: Map) -> None:
+    def __init__(self, core: Core, map: Map, fits: Callable[[Plant], object]) -> None:
+        """`fits` raises GatewayFault where a start with a plant would be refused for the map as it stands in its file."""
         self._core = core
+        self._fits = fits
         self._intake = Intake(core, Ages(dict(map.limits), time.monotonic()))
         self._spelled = {name.lower(): name for name, _ in map.limits}
         self._outputs = {one.name.lower(): one for one in map.outputs()}
         core.sampled = self._sampled
         self._left_out = False  # whether an output wasn't written that is to be, once it may
-        self._sources = sources(map, self._intake, core)
+        self._operator = Operator(core) if map.lines else None
+        self._sources = sources(map, self._intake, self._operator)
         for source in self._sources:
             source.may_write = self._may_write
         running = [source.run(self._current) for source in self._sources]
@@ -50,6 +56,8 @@ class Field:
         await asyncio.gather(*self._tasks, return_exceptions=True)
         for source in self._sources:
             source.close()
+        if self._operator is not None:
+            await asyncio.to_thread(self._operator.close)
 
     def _may_write(self) -> bool:
         """Whether an output may be written now; what is left out is written later, where this gateway leads then."""
@@ -87,10 +95,12 @@ class Field:
                         if (mapped := self._mapped(name, value)) is not None:
                             self._put(*mapped)
                     elif change.kind in (ChangeKind.ANEW, ChangeKind.RELOADED):
+                        if change.kind is ChangeKind.RELOADED:
+                            self._judge()
                         self._put_all()
                 return  # the core has closed
             except CutOff:
-                pass
+                self._judge()
             finally:
                 changes.close()
 
@@ -99,6 +109,16 @@ class Field:
         self._left_out = False
         for name, value in self._current().items():
             self._put(name, value)
+
+    def _judge(self) -> None:
+        """Tells where the plant that was taken up couldn't be started again with the map: that is seen now, and not after a crash."""
+        try:
+            self._fits(self._core.plant)
+        except GatewayFault as fault:
+            words = f"the map isn't one of the plant that is served, and the next start is refused: {fault.words}"
+            self._core.troubles.raises(TroubleKind.SOURCE, MAP, words)
+        else:
+            self._core.troubles.clear(TroubleKind.SOURCE, MAP)
 
     def _put(self, name: str, value: Value) -> None:
         if not self._may_write():
@@ -139,10 +159,13 @@ class Operator:
 
         await self._console.serve(alone())
 
+    def close(self) -> None:
+        """Waits until the answers are written, at most so long as a reader is given at the end."""
+        self._output.close(LAST_SECONDS)
 
-def sources(map: Map, intake: Intake, core: Core) -> list[Source]:
-    """A source for each of the map."""
-    operator = Operator(core) if map.lines else None
+
+def sources(map: Map, intake: Intake, operator: Operator | None) -> list[Source]:
+    """A source for each of the map; `operator` answers lines, where there are some."""
     found: list[Source] = [LineSource(it, intake, operator) for it in map.lines if operator]
     found += [MqttClient(it, intake) for it in map.mqtt]
     found += [ModbusClient(it, intake) for it in map.modbus]
@@ -152,4 +175,4 @@ def sources(map: Map, intake: Intake, core: Core) -> list[Source]:
 async def attach(core: Core, config: Config) -> Field | None:
     """Starts the sources of the map that `[fields]` names; None where there is none. Raises GatewayFault (status 2)."""
     map = of_config(config, core.plant)
-    return None if map is None else Field(core, map)
+    return None if map is None else Field(core, map, lambda plant: of_config(config, plant))

@@ -7,7 +7,7 @@ from decimal import Decimal
 from fractions import Fraction
 from pathlib import Path
 
-from .config import WORDS_STATUS, Config, Table
+from .config import NO_TOML, WORDS_STATUS, Config, Table
 from .mapping import (
     Area,
     Form,
@@ -23,6 +23,7 @@ from .mapping import (
 from .model import GatewayFault, Kind, Plant, Variable
 
 LARGEST_SCALE = 10**12
+LONGEST_TEXT = 65_535  # bytes of a text of MQTT
 FARTHEST = 100  # places between a number's point and its first digit: all digits of 1e999999999 would take minutes and gigabytes
 
 
@@ -33,6 +34,7 @@ class Reader:
         self._plant = plant
         self._names: set[str] = set()
         self._inputs: set[str] = set()
+        self._taken: set[tuple[object, ...]] = set()  # places and names that only one may have
 
     def read(self, table: Table) -> Map:
         """The map of a whole document."""
@@ -52,15 +54,23 @@ class Reader:
         self._names.add(name)
         return name
 
+    def _claim(self, table: Table, key: str, *places: tuple[object, ...]) -> None:
+        """Nobody else may have one of these places, which the key names."""
+        if not self._taken.isdisjoint(places):
+            raise table.wrong(key, "another one: it stands in the map already")
+        self._taken.update(places)
+
     def _retry(self, table: Table) -> Retry:
         first = table.number("retry_ms", 500, 10, 3_600_000)
         most = table.number("retry_most_ms", max(30_000, first), first, 3_600_000)
         return Retry(first / 1000, most / 1000)
 
     def _lines(self, table: Table) -> LinesSource:
+        name, path = self._name(table), table.path("path")
+        self._claim(table, "path", ("path", path))
         source = LinesSource(
-            self._name(table),
-            table.path("path"),
+            name,
+            path,
             table.truth("orders", False),
             table.truth("hold", True),
             self._retry(table),
@@ -72,34 +82,39 @@ class Reader:
         name = self._name(table)
         ca = table.path("ca") if table.has("ca") else None
         username = table.text("username") if table.has("username") else None
+        if username is None and table.has("password_file"):
+            raise table.wrong("password_file", "left out, where there is no 'username'")
         password = read_secret(table.path("password_file")) if table.has("password_file") else None
+        broker = (host_of(table), table.number("port", 8883 if ca else 1883, 1, 65535))
+        client = mqtt_text(table, "client", f"alarmd-{name}")
+        self._claim(table, "client", ("client", *broker, client))
         source = MqttSource(
             name,
-            table.text("host"),
-            table.number("port", 8883 if ca else 1883, 1, 65535),
-            table.text("client", f"alarmd-{name}"),
+            *broker,
+            client,
             username,
             password,
             ca,
             table.number("qos", 1, 0, 2),
             self._retry(table),
-            tuple(self._topic(one, True) for one in table.tables("input")),
-            tuple(self._topic(one, False) for one in table.tables("output")),
+            tuple(self._topic(one) for one in table.tables("input")),
+            tuple(self._topic(one, broker) for one in table.tables("output")),
         )
         table.end()
         return source
 
     def _modbus(self, table: Table) -> ModbusSource:
+        name, device = self._name(table), (host_of(table), table.number("port", 502, 1, 65535))
+        unit = table.number("unit", 1, 0, 255)
         source = ModbusSource(
-            self._name(table),
-            table.text("host"),
-            table.number("port", 502, 1, 65535),
-            table.number("unit", 1, 0, 255),
+            name,
+            *device,
+            unit,
             table.number("poll_ms", 1000, 10, 3_600_000) / 1000,
             table.number("timeout_ms", 3000, 10, 600_000) / 1000,
             self._retry(table),
-            tuple(self._point(one, True) for one in table.tables("input")),
-            tuple(self._point(one, False) for one in table.tables("output")),
+            tuple(self._point(one) for one in table.tables("input")),
+            tuple(self._point(one, (*device, unit)) for one in table.tables("output")),
         )
         table.end()
         return source
@@ -125,18 +140,26 @@ class Reader:
             raise table.wrong("scale", "another number than 0")
         return Scale(factor, fraction(table, "offset", Fraction(0)))
 
-    def _topic(self, table: Table, is_input: bool) -> Topic:
+    def _topic(self, table: Table, broker: tuple[object, ...] | None = None) -> Topic:
+        """The topic of an input, or of an output at a broker."""
+        is_input = broker is None
         variable = self._variable(table, is_input)
-        topic = table.text("topic")
-        if not topic or "+" in topic or "#" in topic:
+        topic = mqtt_text(table, "topic")
+        if "+" in topic or "#" in topic:
             raise table.wrong("topic", "a topic without + and #")
+        if topic.startswith("$share/"):  # what comes by it bears another topic
+            raise table.wrong("topic", "the topic itself, without $share/GROUP/")
+        if broker is not None:
+            self._claim(table, "topic", ("topic", *broker, topic))
         path = table.text("json", "") if is_input else ""
         retain = False if is_input else table.truth("retain", True)
         scale = self._scale(table, variable.kind)
         table.end()
         return Topic(variable, topic, tuple(path.split(".")) if path else (), scale, retain)
 
-    def _point(self, table: Table, is_input: bool) -> Point:
+    def _point(self, table: Table, device: tuple[object, ...] | None = None) -> Point:
+        """The point of an input, or of an output at a device."""
+        is_input = device is None
         variable = self._variable(table, is_input)
         areas = [it.value for it in Area if is_input or it in (Area.HOLDING, Area.COIL)]
         area = Area(word(table, "area", areas))
@@ -149,9 +172,14 @@ class Reader:
             low = form.registers == 2 and word(table, "words", ["high", "low"], "high") == "low"
         elif is_input and not area.bits:
             bit = table.number("bit", None, 0, 15)
-        scale = self._scale(table, variable.kind)
+        point = Point(variable, area, address, form, low, bit, self._scale(table, variable.kind))
+        if address + point.length > 65536:
+            raise table.wrong("address", "65534 at most, where there are two registers")
+        if device is not None:
+            places = range(address, address + point.length)
+            self._claim(table, "address", *((*device, area, place) for place in places))
         table.end()
-        return Point(variable, area, address, form, low, bit, scale)
+        return point
 
     def _limits(self, table: Table) -> tuple[tuple[str, float], ...]:
         limits: dict[str, float] = {}
@@ -163,6 +191,23 @@ class Reader:
                 raise table.wrong(key, "left out: this input stands there already")
             limits[found.name] = table.number(key, None, 1, 10**9) / 1000
         return tuple(limits.items())
+
+
+def host_of(table: Table) -> str:
+    """The name or the address of a machine."""
+    host = table.text("host")
+    if host.split() != [host] or not host.isprintable():
+        raise table.wrong("host", "the name or the address of a machine")
+    return host
+
+
+def mqtt_text(table: Table, key: str, default: str | None = None) -> str:
+    """A text that a message of MQTT can have."""
+    text = table.text(key, default)
+    controls = any(ord(one) < 32 or 127 <= ord(one) < 160 for one in text)  # brokers end then
+    if not 1 <= len(text.encode()) <= LONGEST_TEXT or controls:
+        raise table.wrong(key, f"a text of 1 to {LONGEST_TEXT} bytes without control characters")
+    return text
 
 
 def word(table: Table, key: str, words: list[str], default: str | None = None) -> str:
@@ -191,7 +236,7 @@ def fraction(table: Table, key: str, default: Fraction) -> Fraction:
 def read_secret(path: Path) -> str:
     """The first line of a file. Raises GatewayFault (status 2) where it can't be read."""
     try:
-        return (path.read_text().splitlines() or [""])[0]
+        return path.read_text("utf-8").partition("\n")[0]
     except (OSError, UnicodeDecodeError) as fault:
         raise GatewayFault(f"{path}: {fault}", WORDS_STATUS) from None
 
@@ -203,7 +248,7 @@ def read(path: Path, plant: Plant) -> Map:
             values = tomllib.load(file, parse_float=Decimal)
     except OSError as fault:
         raise GatewayFault(f"{path}: {fault.strerror}", WORDS_STATUS) from None
-    except (tomllib.TOMLDecodeError, UnicodeDecodeError) as fault:
+    except NO_TOML as fault:
         raise GatewayFault(f"{path}: no TOML: {fault}", WORDS_STATUS) from None
     try:
         return Reader(plant).read(Table("", values, path.resolve().parent))

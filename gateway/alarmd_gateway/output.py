@@ -5,7 +5,7 @@ from __future__ import annotations
 import os
 import threading
 import time
-from collections import deque
+from collections import defaultdict, deque
 from collections.abc import Callable
 from typing import Final
 
@@ -14,6 +14,9 @@ ROOM: Final = 4_194_304
 
 ASLEEP_SECONDS: Final = 5.0
 """A reader that has read nothing for so long isn't waited for."""
+
+_WRITING: Final[defaultdict[int, threading.Lock]] = defaultdict(threading.Lock)
+"""By the descriptor: held while lines are written, since several may write to one, and a pipe takes a part of what it is given."""
 
 
 class Output:
@@ -84,9 +87,10 @@ class Output:
 
     def _all(self, data: bytes) -> None:
         self._moved = time.monotonic()
-        while data:
-            data = data[os.write(self._descriptor, data) :]
-            self._moved = time.monotonic()
+        with _WRITING[self._descriptor]:
+            while data:
+                data = data[os.write(self._descriptor, data) :]
+                self._moved = time.monotonic()
 
     def close(self, seconds: float) -> None:
         """Waits until all is written, at most so long."""

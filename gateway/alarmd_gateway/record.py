@@ -139,8 +139,8 @@ def head_sums(path: Path) -> dict[str, str]:
 
 def unbegun(line: bytes) -> bool:
     """Whether the first line of a file is that of a record which is still to be begun: there is none, or it wasn't written wholly."""
-    known = _HEAD.encode()
-    return not line.endswith(b"\n") and (known.startswith(line) or line.startswith(known))
+    known, torn = _HEAD.encode(), not line.endswith(b"\n") and len(line) < LONGEST_HEAD
+    return torn and (known.startswith(line) or line.startswith(known))
 
 
 def judge_head(line: str, plant: Plant, path: Path) -> None:

@@ -96,8 +96,6 @@ class Simulation:
         self._core = core
         self._model = Model(model, config)
         self._share(core.plant)
-        taken = {*self._outputs, ELAPSED}
-        self.disturbances = {name: one for name, one in model.inputs.items() if name not in taken}
         self._backoff = Backoff(Retry(0.5, 30.0))
         self._not_before = 0.0  # seconds of the loop's clock
 
@@ -124,8 +122,9 @@ class Simulation:
         """A scan of the model, since the plant's first scan waits for samples. The model begins anew with that one: the time until then,
         from the plant's epoch or the record's last scan, is none that its timers may see. Raises GatewayFault.
         """
-        await self._step(self._core.state.moment)
+        outputs = await self._stepped(self._core.state.moment)
         await self._model.end()
+        await self._offer(outputs)  # from here on the plant may have its first scan
 
     async def step(self, moment: int) -> None:
         """The model's scan at a moment, whose outputs become samples. A model whose server has ended is a trouble, until it runs
@@ -134,7 +133,7 @@ class Simulation:
         if now < self._not_before:
             return
         try:
-            await self._step(moment)
+            await self._offer(await self._stepped(moment))
         except GatewayFault as fault:
             await self._model.end()
             self._not_before = now + self._backoff.wait()
@@ -153,8 +152,11 @@ class Simulation:
         model = self._model.plant
         outputs, inputs = shared(model.inputs, plant.outputs), shared(plant.inputs, model.outputs)
         self._plant, self._outputs, self._inputs = plant, outputs, inputs
+        taken = {*outputs, ELAPSED}
+        self.disturbances = {name: one for name, one in model.inputs.items() if name not in taken}
 
-    async def _step(self, moment: int) -> None:
+    async def _stepped(self, moment: int) -> Mapping[str, Value]:
+        """What the model's outputs are after a scan at this moment. Raises GatewayFault."""
         plant = self._core.plant
         if plant is not self._plant:
             self._share(plant)
@@ -162,7 +164,10 @@ class Simulation:
             known = self._core.state.outputs.get(plant.outputs[name].name)
             if known is not None:
                 self._model.given[mine.name] = known
-        outputs = await self._model.step(moment)
+        return await self._model.step(moment)
+
+    async def _offer(self, outputs: Mapping[str, Value]) -> None:
+        """Gives them to the plant, without a wait."""
         for name in self._inputs if self._core.has_room else ():
             value = outputs[self._model.plant.outputs[name].name]
             await self._core.offer(Sample(name, value, SOURCE))
@@ -212,7 +217,7 @@ async def attach(core: Core, config: Config) -> Simulation | None:
     model = read_model(path, core.plant)
     simulation = Simulation(core, config, model)
     await simulation.begin()
-    core.disturbances, core.before_scan = simulation, simulation.step
+    core.disturbances, core.before_scan = simulation, simulation.step  # before the first scan
     return simulation
 
 

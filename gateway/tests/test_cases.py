@@ -46,6 +46,21 @@ def test_each_alarm_of_an_example_is_seen_as_one(examples: Path, name: str) -> N
     assert set(plant.by_tag) <= seen
 
 
+def test_a_line_ends_where_an_editor_says_so(examples: Path) -> None:
+    """And no remark goes on as a command behind another sign."""
+    plant = plants.read(examples / "tank" / "plant.toml")
+    (case,) = Cases("cases", plant).read("case a\x0cb\n# no\u2028ack 1 LAL-101\nscan\x0b5\n")
+    assert case.name == "a b"
+    assert [(step.line, step.command) for step in case.steps] == [(3, ""), (3, "scan 5")]
+
+
+@pytest.mark.parametrize("seconds", ["inf", "nan", "-1", "0", "1e400"])
+def test_a_time_without_measure_is_refused(seconds: str) -> None:
+    with pytest.raises(GatewayFault) as found:
+        main(["test", "plant.toml", "cases", "--seconds", seconds])
+    assert found.value.status == 2 and "--seconds" in found.value.words
+
+
 @pytest.mark.server
 @pytest.mark.parametrize(
     ("old", "new", "shown"),

@@ -183,6 +183,32 @@ def test_output_leaves_out_what_nobody_reads() -> None:
     os.close(reading)
 
 
+def test_lines_of_two_that_write_to_one_reader_stay_whole() -> None:
+    """As those of the console and the answers to a FIFO: a pipe takes a part of what it is given."""
+    reading, writing = os.pipe()
+    both = [Output(writing), Output(writing)]
+    for number in range(10_000):
+        for sign, output in zip("ab", both):
+            output.put(f"{sign * 60} {number}")
+    got: list[bytes] = []
+
+    def read() -> None:
+        while data := os.read(reading, 5000):
+            got.append(data)
+
+    reader = threading.Thread(target=read, daemon=True)
+    reader.start()
+    for output in both:
+        output.close(60)
+    os.close(writing)
+    reader.join(60)
+    lines = b"".join(got).decode().splitlines()
+    for sign in "ab":
+        own = [line for line in lines if line.startswith(sign)]
+        assert own == [f"{sign * 60} {number}" for number in range(10_000)]
+    os.close(reading)
+
+
 def test_nobody_waits_for_a_reader_that_sleeps(monkeypatch: pytest.MonkeyPatch) -> None:
     monkeypatch.setattr(outputs, "ASLEEP_SECONDS", 100.0)
     reading, writing = os.pipe()

@@ -222,6 +222,12 @@ def test_an_empty_map(tmp_path: Path) -> None:
         ('input = "door"', 'input = "level"', "'input' of [modbus[1].input[1]]"),
         ("[stale_ms]", "[stale]", "'stale'"),
         ("[stale_ms]", "[stale_ms", "no TOML"),
+        ("scale = 0.1", f"scale = 1{'0' * 5000}", "no TOML"),
+        ("scale = 0.1", "scale = 1e99999999999999999999", "no TOML"),
+        ("scale = 0.1", f"scale = {'[' * 5000}{']' * 5000}", "no TOML"),
+        ('path = "commands"', 'path = ""', "'path'"),
+        ('path = "commands"', 'path = "a\\u0000b"', "'path'"),
+        ("port = 18830", 'username = "a"\npassword_file = "a\\u0000b"', "'password_file'"),
     ],
 )
 def test_what_is_wrong_is_named(tmp_path: Path, old: str, new: str, words: str) -> None:
@@ -230,6 +236,71 @@ def test_what_is_wrong_is_named(tmp_path: Path, old: str, new: str, words: str) 
         map_of(tmp_path, WHOLE.replace(old, new, 1))
     assert words in found.value.words and "map.toml" in found.value.words
     assert found.value.status == 2
+
+
+@pytest.mark.parametrize(
+    ("old", "new", "words"),
+    [
+        ('host = "127.0.0.1"\nport', 'host = ""\nport', "'host' of [mqtt[1]]"),
+        ('host = "127.0.0.1"\npoll', 'host = "a b"\npoll', "'host' of [modbus[1]]"),
+        ("port = 18830", 'client = ""', "'client'"),
+        ("port = 18830", 'password_file = "map.toml"', "'password_file'"),
+        ('topic = "plant/level"', 'topic = "plant\\u0000"', "'topic'"),
+        ('topic = "plant/level"', f'topic = "{"x" * 65536}"', "'topic'"),
+        ('topic = "plant/level"', 'topic = "plant\\tlevel"', "'topic'"),
+        ('topic = "plant/level"', 'topic = "$share/group/plant/level"', "'topic'"),
+        ("address = 8", "address = 65535", "'address' of [modbus[1].output[1]]"),
+    ],
+)
+def test_what_can_never_be_reached_is_refused(
+    tmp_path: Path, old: str, new: str, words: str
+) -> None:
+    test_what_is_wrong_is_named(tmp_path, old, new, words)
+
+
+def test_a_password_is_a_whole_line(tmp_path: Path) -> None:
+    (tmp_path / "secret").write_bytes("a\x0b\u2028b c\r\nanother\n".encode())
+    names = 'port = 18830\nusername = "u"\npassword_file = "secret"'
+    map = map_of(tmp_path, WHOLE.replace("port = 18830", names))
+    assert map.mqtt[0].password == "a\x0b\u2028b c"
+
+
+OTHER_TOPIC = '[[mqtt.output]]\noutput = "speed"\ntopic = "plant/pump/set"\n'
+OTHER_REGISTER = '[[modbus.output]]\noutput = "pump"\narea = "holding"\naddress = 9\n'
+OTHER_DEVICE = '[[modbus]]\nname = "other"\nhost = "127.0.0.1"\n'
+OTHER_BROKER = '[[mqtt]]\nname = "other"\nhost = "127.0.0.1"\n'
+
+
+@pytest.mark.parametrize(
+    ("more", "words"),
+    [
+        (OTHER_TOPIC, "'topic' of [mqtt[1].output[2]]"),
+        (OTHER_REGISTER, "'address' of [modbus[1].output[2]]"),
+        (OTHER_DEVICE + OTHER_REGISTER, "'address' of [modbus[2].output[1]]"),
+        (OTHER_BROKER + 'port = 18830\nclient = "alarmd-broker"\n', "'client' of [mqtt[2]]"),
+        ('[[lines]]\nname = "other"\npath = "commands"\n', "'path' of [lines[2]]"),
+    ],
+)
+def test_two_at_one_place_are_refused(tmp_path: Path, more: str, words: str) -> None:
+    """The later one would write over the earlier, take its connection, or its lines."""
+    kind = next(it for it in ("mqtt", "modbus", "lines") if it in more)
+    at = {"mqtt": "[[modbus]]", "modbus": "[stale_ms]", "lines": "[[mqtt]]"}[kind]
+    with pytest.raises(GatewayFault) as found:
+        map_of(tmp_path, WHOLE.replace(at, f"{more}{at}", 1))
+    assert words in found.value.words and "stands in the map already" in found.value.words
+    assert found.value.status == 2
+
+
+@pytest.mark.parametrize(
+    "more",
+    [
+        OTHER_REGISTER.replace("= 9", "= 10"),
+        OTHER_REGISTER.replace("holding", "coil"),
+        f"{OTHER_DEVICE}unit = 2\n{OTHER_REGISTER}",
+    ],
+)
+def test_others_beside_each_other_are_taken(tmp_path: Path, more: str) -> None:
+    map_of(tmp_path, WHOLE.replace("[stale_ms]", f"{more}[stale_ms]", 1))
 
 
 @pytest.mark.parametrize("scale", ["1e999999999", "-1e-999999999"])

@@ -7,7 +7,7 @@ import contextlib
 import struct
 import subprocess
 import sys
-from collections.abc import Iterator
+from collections.abc import Callable, Iterator
 from dataclasses import replace
 from fractions import Fraction
 from pathlib import Path
@@ -224,6 +224,33 @@ def test_a_device_that_answers_nothing_is_lost(examples: Path) -> None:
     asyncio.run(body())
 
 
+def test_the_end_does_not_wait_for_an_answer(examples: Path) -> None:
+    """Of which the whole process would wait for so long as that may take, since a thread does."""
+
+    async def body() -> None:
+        asked = asyncio.Event()
+
+        async def deaf(reader: asyncio.StreamReader, writer: asyncio.StreamWriter) -> None:
+            await reader.readexactly(12)
+            asked.set()
+            await reader.read()
+            writer.close()
+
+        server = await asyncio.start_server(deaf, "127.0.0.1", 0)
+        kept = Kept(tank(examples))
+        port = server.sockets[0].getsockname()[1]
+        client = ModbusClient(replace(source(kept.plant, port), timeout=600.0), kept.intake())
+        running = Running(client, kept)
+        await asked.wait()
+        threads = set(client._thread._threads)
+        assert threads
+        await running.close()
+        await until(lambda: not any(thread.is_alive() for thread in threads))
+        server.close()
+
+    asyncio.run(body())
+
+
 def test_points_beside_each_other_are_one_request(examples: Path) -> None:
     level = tank(examples).inputs["level"]
     places = [(Area.HOLDING, 5), (Area.HOLDING, 0), (Area.HOLDING, 1), (Area.INPUT, 2)]
@@ -302,6 +329,68 @@ def test_an_answer_that_comes_late_is_taken_for_no_other(examples: Path) -> None
     asyncio.run(body())
 
 
+class Odd:
+    """A device that answers each request by a number and a body, which a test makes of those that were asked."""
+
+    def __init__(self, answer: Callable[[int, bytes], tuple[int, bytes]]) -> None:
+        self.port = 0
+        self._answer = answer
+        self._server: asyncio.Server | None = None
+
+    async def start(self) -> None:
+        self._server = await asyncio.start_server(self._serve, "127.0.0.1", 0)
+        self.port = self._server.sockets[0].getsockname()[1]
+
+    async def _serve(self, reader: asyncio.StreamReader, writer: asyncio.StreamWriter) -> None:
+        with contextlib.suppress(EOFError, OSError):
+            while True:
+                asked, _, size, unit = struct.unpack(">HHHB", await reader.readexactly(7))
+                number, body = self._answer(asked, await reader.readexactly(size - 1))
+                if not body:
+                    break
+                writer.write(struct.pack(">HHHB", number, 0, len(body) + 1, unit) + body)
+                await writer.drain()
+        writer.close()
+
+    async def close(self) -> None:
+        assert self._server is not None
+        self._server.close()
+        await self._server.wait_closed()
+
+
+@pytest.mark.parametrize(
+    ("answer", "words"),
+    [
+        (lambda asked, body: (asked, b"\x04\x02\x00\x09"), "answers function 4, and was asked 3"),
+        (lambda asked, body: (asked, b"\x01\x01\x01"), "answers function 1, and was asked 3"),
+        (lambda asked, body: (asked, b"\x84\x02"), "answers function 4, and was asked 3"),
+        (lambda asked, body: (asked, b"\x03\x04\x00\x09\x00\x08"), "the answer is too long"),
+        (lambda asked, body: (asked, b"\x03\x00"), "the answer is too short"),
+        (lambda asked, body: (0, b"\x03\x02\x00\x09"), "bears the number 0, and the request 1"),
+        (lambda asked, body: (asked, b""), "the device has ended the connection"),
+    ],
+)
+def test_an_answer_to_something_else_is_no_value(
+    examples: Path, answer: Callable[[int, bytes], tuple[int, bytes]], words: str
+) -> None:
+    async def body() -> None:
+        device = Odd(answer)
+        await device.start()
+        kept = Kept(tank(examples))
+        level = point(kept.plant.inputs["level"], Area.HOLDING, 0)
+        given = replace(source(kept.plant, device.port), inputs=(level,), outputs=())
+        running = Running(ModbusClient(given, kept.intake()), kept)
+        try:
+            await until(kept.standing)
+            assert kept.standing() == [("source", "plc")] and not kept.samples
+            assert words in kept.texts()
+        finally:
+            await running.close()
+            await device.close()
+
+    asyncio.run(body())
+
+
 class Busy:
     """A device with one coil, which is busy (exception 6) for some of its writes."""
 
@@ -355,6 +444,34 @@ def test_an_output_that_is_refused_is_written_again(examples: Path) -> None:
         finally:
             await running.close()
             await device.close()
+
+    asyncio.run(body())
+
+
+def test_an_output_that_one_of_its_two_places_refuses_is_one_steady_trouble(
+    examples: Path, device: Device
+) -> None:
+    """Whichever of the two is written last."""
+
+    async def body() -> None:
+        kept = Kept(tank(examples), outputs={"pump": True})
+        told: list[bool] = []
+        kept.troubles.listen(lambda trouble, stands: told.append(stands))
+        there, away = (point(kept.plant.outputs["pump"], Area.COIL, at) for at in (10, 500))
+        given = replace(source(kept.plant, device.port), inputs=(), outputs=(away, there))
+        client = ModbusClient(given, kept.intake())
+        await device.there()
+        running = Running(client, kept)
+        try:
+            await until(lambda: ("source", "plc pump") in kept.standing())
+            told.clear()
+            for value in (False, True, False):
+                kept.outputs["pump"] = value
+                client.put_output("pump", value)
+                await until(lambda: device.client.read_coils(10, 1).bits[0] == value)
+            assert kept.standing() == [("source", "plc pump")] and told == []
+        finally:
+            await running.close()
 
     asyncio.run(body())
 

@@ -199,11 +199,70 @@ def test_what_is_published_while_the_gateway_is_away_comes_later(
             kept.samples.clear()
             await field.publish(*[("tank/level", str(number)) for number in range(3, 9)])
             running = Running(MqttClient(given, kept.intake()), kept)
-            await until(lambda: len(kept.samples) == 6)
-            assert [value for _, value in kept.samples] == [30, 40, 50, 60, 70, 80]
+            await until(lambda: kept.samples and kept.samples[-1] == ("level", 80))
+            values = [value for _, value in kept.samples]
+            if values[0] == 20:  # it was taken, and the connection ended before that was said
+                del values[0]
+            assert values == [30, 40, 50, 60, 70, 80]
         finally:
             await field.close()
             await running.close()
+
+    asyncio.run(body())
+
+
+class Torn:
+    """A broker that sends something that is no message behind its first SUBACK, and a sample behind the others."""
+
+    def __init__(self, torn: bytes) -> None:
+        self.port = 0
+        self.subscribed = 0
+        self._torn = torn
+        self._server: asyncio.Server | None = None
+
+    async def start(self) -> None:
+        self._server = await asyncio.start_server(self._serve, "127.0.0.1", 0)
+        self.port = self._server.sockets[0].getsockname()[1]
+
+    async def _serve(self, reader: asyncio.StreamReader, writer: asyncio.StreamWriter) -> None:
+        with contextlib.suppress(EOFError, OSError):
+            while True:
+                kind, size = await reader.readexactly(2)
+                body = await reader.readexactly(size)
+                if kind >> 4 == 1:  # CONNECT: CONNACK
+                    writer.write(b"\x20\x02\x00\x00")
+                elif kind >> 4 == 8:  # SUBSCRIBE: SUBACK, and a PUBLISH
+                    self.subscribed += 1
+                    writer.write(b"\x90\x04" + body[:2] + b"\x01\x01")
+                    sample = b"\x30\x0e\x00\x0atank/level31"
+                    writer.write(self._torn if self.subscribed == 1 else sample)
+        writer.close()
+
+    async def close(self) -> None:
+        assert self._server is not None
+        self._server.close()
+        await self._server.wait_closed()
+
+
+@pytest.mark.parametrize("torn", [b"\x30\x01\x00", b"\x30\x04\x00\x02\xff\xfe", b"\x90\x01\x00"])
+def test_a_message_that_the_library_cannot_read_ends_the_connection(
+    examples: Path, torn: bytes
+) -> None:
+    """And not the thread in which messages are read, of whose end nobody would hear."""
+
+    async def body() -> None:
+        broker = Torn(torn)
+        await broker.start()
+        kept = Kept(tank(examples))
+        told: list[str] = []
+        kept.troubles.listen(lambda trouble, stands: told.append(trouble.text))
+        running = Running(MqttClient(source(kept.plant, broker.port), kept.intake()), kept)
+        try:
+            await until(lambda: kept.samples == [("level", 310)])
+            assert "broker is lost: the library fails: " in told[0]
+        finally:
+            await running.close()
+            await broker.close()
 
     asyncio.run(body())
 

@@ -11,7 +11,7 @@ import pytest
 
 from alarmd_gateway import plant as plants
 from alarmd_gateway.model import GatewayFault, Plant
-from alarmd_gateway.record import Entry, FileRecord, peek
+from alarmd_gateway.record import LONGEST_HEAD, Entry, FileRecord, peek, unbegun
 
 
 @pytest.fixture
@@ -27,6 +27,16 @@ def plant(tmp_path: Path, examples: Path) -> Plant:
 
 def kept(path: Path, plant: Plant) -> list[Entry]:
     return list(peek(path, plant))
+
+
+def test_a_first_line_that_is_too_long_is_not_begun_anew(tmp_path: Path, plant: Plant) -> None:
+    """Of which only the beginning is read: whether it has an end isn't known."""
+    path, text = tmp_path / "record", "# gateway record " + "x" * LONGEST_HEAD + "\nscan 5\n"
+    path.write_text(text)
+    assert not unbegun(path.read_bytes()[:LONGEST_HEAD])
+    with pytest.raises(GatewayFault) as found:
+        FileRecord(path, plant)
+    assert found.value.status == 2 and path.read_text() == text
 
 
 def add(record: FileRecord, *entries: Entry) -> None:

@@ -14,7 +14,7 @@ from test_core import give, served
 from alarmd_gateway import field, simulate
 from alarmd_gateway.config import Config
 from alarmd_gateway.core import Core
-from alarmd_gateway.model import Value
+from alarmd_gateway.model import GatewayFault, Value
 from alarmd_gateway.troubles import TroubleKind
 
 MAP = """
@@ -108,6 +108,48 @@ def test_outputs_are_written_by_the_names_and_kinds_of_the_map(config: Config) -
             await until(lambda: core.state.events > 3)
             assert part._current() == {}
             await give(core, a=6)
+            await part.close()
+
+    asyncio.run(asyncio.wait_for(work(), 400))
+
+
+def test_a_plant_that_the_map_does_not_fit_is_told_before_the_next_start(config: Config) -> None:
+    """Which would be refused, as after a loss of power."""
+
+    async def work() -> None:
+        async with served(config) as core:
+
+            def told() -> list[str]:
+                return [one.text for one in core.troubles if one.subject == "the map"]
+
+            part = await field.attach(core, config)
+            assert part is not None
+            await give(core, a=5)
+            await taken_up(core, "a AT %ID0 : DINT; y AT %QD0 : DINT; c : BOOL;", "c := a > 1;")
+            await until(lambda: len(told()) == 1)
+            assert "the next start is refused" in told()[0] and "mqtt[1].output[2]" in told()[0]
+            with pytest.raises(GatewayFault):
+                await field.attach(core, config)
+            await taken_up(core, BOTH, "y := y + 1; z := NOT z; c := a > 1;")
+            await until(lambda: not told())
+            await part.close()
+
+    asyncio.run(asyncio.wait_for(work(), 400))
+
+
+def test_an_input_that_is_gone_is_not_stale(config: Config) -> None:
+    async def work() -> None:
+        async with served(config) as core:
+
+            def stale() -> list[str]:
+                return [one.subject for one in core.troubles if one.kind is TroubleKind.STALE]
+
+            part = await field.attach(core, config)
+            assert part is not None
+            await give(core, a=5)
+            await until(lambda: stale() == ["a"])
+            await taken_up(core, "b AT %ID0 : DINT; y AT %QD0 : DINT; c : BOOL;", "c := b > 1;")
+            await until(lambda: not stale())
             await part.close()
 
     asyncio.run(asyncio.wait_for(work(), 400))

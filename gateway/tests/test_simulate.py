@@ -21,7 +21,7 @@ from alarmd_gateway.config import Config
 from alarmd_gateway.core import Core
 from alarmd_gateway.model import BadSample, Code, GatewayFault, Sample
 from alarmd_gateway.samples import SampleQueue
-from alarmd_gateway.simulate import Simulation, attach, main, model_path, read_model
+from alarmd_gateway.simulate import Model, Simulation, attach, main, model_path, read_model
 from core_help import Served, by_core, by_record, config_of
 from field_help import until
 
@@ -266,6 +266,65 @@ def test_no_timer_of_a_model_sees_the_time_before_the_first_scan(
         lines = it.config.record.read_text().splitlines()
         begun = next(int(line.split()[1]) for line in lines if line.startswith("scan "))
         assert came == begun + 600_000
+
+    asyncio.run(body())
+
+
+@pytest.mark.server
+def test_no_scan_of_the_plant_is_before_those_of_the_model(
+    alarmd: Path, examples: Path, tmp_path: Path, monkeypatch: pytest.MonkeyPatch
+) -> None:
+    """Also where the end of the model's first server takes long."""
+    end = Model.end
+
+    async def slow(self: Model) -> None:
+        await end(self)
+        await asyncio.sleep(0.2)
+
+    monkeypatch.setattr(Model, "end", slow)
+    model = examples / "tank" / "model" / "plant.toml"
+
+    async def body() -> None:
+        tables = {"simulate": {"model": str(model)}}
+        plant = examples / "tank" / "plant.toml"
+        core = await Core.start(config_of(alarmd, plant, tmp_path, period_ms=1, tables=tables))
+        serving = Served(core)
+        simulation = None
+        try:
+            simulation = await attach(core, core.config)
+            assert simulation is not None and not core.state.scanned
+            await until(lambda: core.state.scanned)
+            assert simulation._model._moment is not None
+        finally:
+            await serving.close()
+            if simulation is not None:
+                await simulation.close()
+
+    asyncio.run(body())
+
+
+@pytest.mark.server
+def test_disturbances_are_those_beside_the_plant_that_is_served(
+    alarmd: Path, examples: Path, tmp_path: Path
+) -> None:
+    """Here the model's input `stuck` becomes an output of the plant."""
+    shutil.copytree(examples / "tank", tmp_path / "plant")
+    points = tmp_path / "plant" / "points.st"
+
+    async def body() -> None:
+        async with Simulated(alarmd, examples, tmp_path) as it:
+            await until(lambda: it.core.state.scanned)
+            assert it.simulation.has("stuck") and not it.simulation.has("pump")
+            text = points.read_text().replace(
+                "END_VAR", "stuck AT %QX9.0 : BOOL := TRUE; END_VAR", 1
+            )
+            points.write_text(text)
+            texts = plants.texts_of(tmp_path / "plant" / "plant.toml")
+            assert (await it.core.reload(texts)).lines[0].startswith("RELOADED")
+            await until(lambda: not it.simulation.has("stuck"))
+            with pytest.raises(BadSample):
+                it.simulation.disturb("stuck", False)
+            await until(lambda: it.simulation._model.value("stuck") is True)
 
     asyncio.run(body())
 

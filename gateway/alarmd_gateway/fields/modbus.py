@@ -5,14 +5,16 @@ Between two readings the device isn't seen: what was there only meanwhile is no 
 from __future__ import annotations
 
 import asyncio
+import contextlib
 import logging
+import socket
 from collections.abc import Callable, Iterable, Iterator
 from concurrent.futures import ThreadPoolExecutor
 from dataclasses import dataclass
 from typing import Any, Final
 
 from pymodbus.client import ModbusTcpClient
-from pymodbus.exceptions import ModbusException
+from pymodbus.exceptions import ConnectionException, ModbusException
 
 from ..mapping import Area, BadRaw, ModbusSource, Point
 from ..model import Value
@@ -20,6 +22,12 @@ from .source import Intake, Lost, Source
 
 MOST_REGISTERS: Final = 125  # that one request may read
 MOST_BITS: Final = 2000
+READ: Final = {Area.COIL: 1, Area.DISCRETE: 2, Area.HOLDING: 3, Area.INPUT: 4}
+"""The function codes by which the areas are read."""
+
+WRITE_COIL: Final = 5
+WRITE_REGISTER: Final = 6
+WRITE_REGISTERS: Final = 16
 
 logging.getLogger("pymodbus").addHandler(logging.NullHandler())
 logging.getLogger("pymodbus").propagate = False  # what is lost is a trouble
@@ -75,6 +83,13 @@ class Device:
         """Ends the connection."""
         self._client.close()
 
+    def interrupt(self) -> None:
+        """Ends a request that is under way in the thread: it would wait for its answer, and the end of the process for it."""
+        connection = self._client.socket
+        if connection is not None:
+            with contextlib.suppress(OSError):
+                connection.shutdown(socket.SHUT_RDWR)
+
     def read(self, block: Block) -> list[int]:
         """The registers or bits of a block."""
         ask = {
@@ -84,32 +99,43 @@ class Device:
             Area.DISCRETE: self._client.read_discrete_inputs,
         }[block.area]
         what = f"{block.area.value} {block.address}, {block.length} long"
-        answer = self._ask(what, ask, block.address, block.length)
+        answer = self._ask(what, READ[block.area], ask, block.address, block.length)
         found = answer.bits if block.area.bits else answer.registers
         if len(found) < block.length:
             raise Lost(f"{what}: the answer is too short")
+        if not block.area.bits and len(found) > block.length:  # bits fill bytes, or more of them
+            raise Lost(f"{what}: the answer is too long")
         return [int(one) for one in found[: block.length]]
 
     def write(self, point: Point, words: list[int]) -> None:
         """Writes a coil or registers."""
         what = f"{point.area.value} {point.address}"
         if point.area is Area.COIL:
-            self._ask(what, self._client.write_coil, point.address, bool(words[0]))
+            truth = bool(words[0])
+            self._ask(what, WRITE_COIL, self._client.write_coil, point.address, truth)
         elif len(words) == 1:
-            self._ask(what, self._client.write_register, point.address, words[0])
+            write = self._client.write_register
+            self._ask(what, WRITE_REGISTER, write, point.address, words[0])
         else:
-            self._ask(what, self._client.write_registers, point.address, words)
+            self._ask(what, WRITE_REGISTERS, self._client.write_registers, point.address, words)
 
-    def _ask(self, what: str, ask: Callable[..., Any], *words: Any) -> Any:
+    def _ask(self, what: str, function: int, ask: Callable[..., Any], *words: Any) -> Any:
+        """Asks by a function code. An answer with another number or function is that of another request: it came late, and so would all
+        that follow; the library takes each for what was asked last."""
         try:
             answer = ask(*words, slave=self._given.unit)
+        except ConnectionException:  # its words are others each time
+            raise Lost(f"{what}: the device has ended the connection") from None
         except (ModbusException, OSError) as fault:
             raise Lost(f"{what}: {fault}") from None
         if isinstance(answer, Exception):
             raise Lost(f"{what}: {answer}")
-        if answer.transaction_id != self._client.transaction.tid:
-            # it came late, and so would all that follow; the library takes each for what was asked last
-            raise Lost(f"{what}: the device answers another request")
+        number, asked = answer.transaction_id, self._client.transaction.tid
+        if number != asked:
+            raise Lost(f"{what}: the answer bears the number {number}, and the request {asked}")
+        if answer.function_code & 0x7F != function:
+            told = f"function {answer.function_code & 0x7F}, and was asked {function}"
+            raise Lost(f"{what}: the device answers {told}")
         if answer.isError():
             raise Refusal(f"{what}: the device answers exception {answer.exception_code}")
         return answer
@@ -142,6 +168,7 @@ class ModbusClient(Source):
                 await self._write_again(device, current())
                 await self._read(device)
         finally:
+            device.interrupt()
             self._thread.submit(device.close)
 
     async def _read(self, device: Device) -> None:
@@ -201,7 +228,8 @@ class ModbusClient(Source):
             self.intake.fails(self.name, name, str(fault))
         else:
             self._refused.discard(point)
-            self.intake.good(self.name, name)
+            if all(other.variable.name != name for other in self._refused):
+                self.intake.good(self.name, name)
 
     def close(self) -> None:
         """The thread ends once its last request is done."""

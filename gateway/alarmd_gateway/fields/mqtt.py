@@ -74,6 +74,22 @@ def payload_of(scale: Scale, value: Value) -> str:
     return spelled(scale.truth(value) if isinstance(value, bool) else scale.number(value))
 
 
+class Client(paho.Client):  # type: ignore[misc]
+    """The library's client, which tells of its thread's end: what a broker sends may end that, and then nothing is read any more."""
+
+    def __init__(self, name: str, tell: Callable[[str], None]) -> None:
+        super().__init__(name, clean_session=False)
+        self._tell = tell
+
+    def loop_forever(self, *words: Any, **more: Any) -> Any:
+        """What the thread does."""
+        try:
+            return super().loop_forever(*words, **more)
+        except Exception as fault:
+            self._tell(f"the library fails: {type(fault).__name__}: {fault}")
+            return paho.MQTT_ERR_UNKNOWN
+
+
 class MqttClient(Source):
     """A session is a connection: its loss ends it."""
 
@@ -117,16 +133,17 @@ class MqttClient(Source):
     async def _serve(self, client: paho.Client, events: asyncio.Queue[str]) -> None:
         """Publishes outputs until the connection is lost."""
         lost = asyncio.ensure_future(events.get())
+        output = asyncio.ensure_future(self.next_output())
         try:
             while True:
-                output = asyncio.ensure_future(self.next_output())
-                done, _ = await asyncio.wait({lost, output}, return_when=asyncio.FIRST_COMPLETED)
-                if lost in done:
-                    output.cancel()
+                await asyncio.wait({lost, output}, return_when=asyncio.FIRST_COMPLETED)
+                if lost.done():
                     raise Lost(lost.result())
                 self._publish(client, *output.result())
+                output = asyncio.ensure_future(self.next_output())
         finally:
             lost.cancel()
+            output.cancel()
 
     def _publish(self, client: paho.Client, name: str, value: Value) -> None:
         for topic in self._given.outputs:
@@ -136,7 +153,11 @@ class MqttClient(Source):
 
     def _client(self, loop: asyncio.AbstractEventLoop, events: asyncio.Queue[str]) -> paho.Client:
         """A client whose callbacks, which come in its own thread, are handed to the loop."""
-        client = paho.Client(self._given.client, clean_session=False)
+
+        def tell(words: str) -> None:
+            loop.call_soon_threadsafe(events.put_nowait, words)
+
+        client = Client(self._given.client, tell)
         if self._given.username is not None:
             client.username_pw_set(self._given.username, self._given.password)
         if self._given.ca is not None:
@@ -144,9 +165,6 @@ class MqttClient(Source):
                 client.tls_set(str(self._given.ca))
             except (OSError, ValueError) as fault:
                 raise Lost(f"{self._given.ca}: {fault}") from None
-
-        def tell(words: str) -> None:
-            loop.call_soon_threadsafe(events.put_nowait, words)
 
         def on_connect(client: paho.Client, _: Any, flags: Any, code: int) -> None:
             if code:

@@ -85,9 +85,10 @@ class Intake:
         self.troubles.clear(TroubleKind.SOURCE, f"{source} {name}")
 
     def look(self) -> None:
-        """Raises and clears the troubles of inputs that are stale, and clears those of bad samples after a while."""
-        now = self._clock()
-        stale = {it.name: it for it in self._ages.stale(now)}
+        """Raises and clears the troubles of inputs that are stale, and clears those of bad samples after a while. One that the plant has no
+        longer isn't stale."""
+        now, inputs = self._clock(), self.taker.plant.inputs
+        stale = {it.name: it for it in self._ages.stale(now) if it.name.lower() in inputs}
         for name in self._ages.names():
             if name in stale:
                 words = f"no sample of {name} for more than {stale[name].limit:g} s: its last value is used"
