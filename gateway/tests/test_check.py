@@ -8,7 +8,11 @@ import subprocess
 from pathlib import Path
 
 import pytest
-from around import LIMIT, ROOT, config_file, plant_copy, run
+from around import LIMIT, ROOT, Gateway, config_file, plant_copy, run
+from reload_help import FIRST, READING, Small
+
+from alarmd_gateway.commands import Reload
+from alarmd_gateway.link import entry_of
 
 pytestmark = pytest.mark.server
 
@@ -135,3 +139,62 @@ def test_serve_checks_first_where_it_is_told(config: Path, plant: Path) -> None:
     add(config, "[fields]\nmap = 'map.toml'\n")
     status, out, err = run(config, "", "--check")
     assert status == 2 and not out and "map.toml" in err[-1]
+
+
+def taken_up(folder: Path, other: Small) -> Path:
+    """A configuration of a record in which a plant was taken up, and a gateway that has ended."""
+    config = config_file(READING, Small().write(folder / "plant"), console=True)
+    gateway = Gateway(config, "--yes")
+    gateway.give("a=5\n")
+    gateway.wait_for("ALARM .* T1 NORM UNACK")
+    other.write(folder / "plant")
+    words = [str(ROOT / "gateway" / "gateway"), "reload", str(config)]
+    assert subprocess.run(words, timeout=LIMIT, capture_output=True, check=False).returncode == 0
+    gateway.end_input()
+    assert gateway.wait() == 0
+    return config
+
+
+def test_files_that_are_half_changed_do_no_harm_once_a_plant_was_taken_up(tmp_path: Path) -> None:
+    config = taken_up(tmp_path, Small(30))
+    assert check(config) == (0, "ACCEPTED PROGRAMS 1 ALARMS 1\n", "")
+    (tmp_path / "plant" / "p.st").write_text("PROGRAM p (* x")
+    status, out, err = check(config)
+    assert (status, out) == (0, "ACCEPTED PROGRAMS 1 ALARMS 1\n")
+    assert err.splitlines()[-1].startswith("SERVER alarmd refuses the plant: CONFIG C4 p.st")
+    status, out, err = run(config, "a=2\nlist\n", "--check")
+    assert status == 0 and "END 2" in out, err
+    assert any("p.st isn't what is served" in line for line in err)
+    shutil.rmtree(tmp_path / "plant")
+    assert check(config)[0] == 0 == run(config, "list\n", "--check")[0]
+    shutil.rmtree(tmp_path / "record.plants")
+    assert check(config)[0] == 3 == run(config, "list\n")[0]
+
+
+def test_the_map_is_judged_by_the_plant_that_would_be_served(tmp_path: Path) -> None:
+    more = f"{FIRST} b AT %ID1 : DINT;"
+    config = taken_up(tmp_path, Small(variables=more))
+    add(config, '[fields]\nmap = "map.toml"\n')
+    map_file = tmp_path / "map.toml"
+    for changed in (Small(), Small(variables=f"{more} d AT %ID2 : DINT;")):
+        changed.write(tmp_path / "plant")  # and not taken up
+        map_file.write_text("[stale_ms]\nb = 60000\n")
+        assert check(config)[0] == 0
+        gateway = Gateway(config)
+        gateway.give("list\n")
+        gateway.wait_for("^END 2")
+        gateway.process.terminate()
+        assert gateway.wait() == 0
+        map_file.write_text("[stale_ms]\nd = 60000\n")
+        assert check(config)[0] == 2 == run(config, "list\n")[0]
+
+
+def test_a_reload_that_was_refused_is_no_plant_that_would_be_served(tmp_path: Path) -> None:
+    config = taken_up(tmp_path, Small(30))
+    other = Small(variables=f"{FIRST} b AT %ID1 : DINT;", consoles=((1, "north"),))
+    texts = other.texts(tmp_path / "other")
+    with open(tmp_path / "record", "ab") as file:
+        file.write(entry_of(Reload(texts)).recorded())
+    add(config, '[fields]\nmap = "map.toml"\n')
+    (tmp_path / "map.toml").write_text("[stale_ms]\nb = 60000\n")
+    assert check(config)[0] == 2 == run(config, "list\n")[0]
