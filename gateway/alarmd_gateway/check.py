@@ -19,6 +19,7 @@ from .log_view import newest_copy
 from .map_file import of_config
 from .model import GatewayFault, Plant
 from .record import LONGEST_HEAD, judge_head, unbegun
+from .reloading import judge_place, socket_path
 from .shared_config import shared_config
 from .simulate import model_path, read_model
 from .texts import of as texts_of
@@ -100,7 +101,9 @@ def judged(config: Config, plant: Path) -> tuple[str, str]:
 
 
 def _record(config: Config) -> Path:
-    """Where the record is, or the newest copy of a shared log. Raises GatewayFault (status 2)."""
+    """Where the record is, or the newest copy of a shared log. Raises GatewayFault (status 2), also where what isn't the gateway's has
+    the name of its socket."""
+    judge_place(socket_path(config))
     if "etcd" not in config.tables:
         return config.record
     shared_config(config)

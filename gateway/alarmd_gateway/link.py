@@ -8,6 +8,7 @@ import logging
 import sys
 from collections.abc import Callable, Iterator
 from pathlib import Path
+from typing import Final
 
 from . import kept
 from . import plant as plants
@@ -20,6 +21,9 @@ from .record import Entry, FileRecord, Log
 from .server import Server
 from .state import Happening
 from .troubles import TroubleKind, Troubles
+
+_NAME: Final = "name"
+"""The subject of the trouble that the record has lost its name."""
 
 
 def tell(words: str) -> None:
@@ -226,7 +230,12 @@ class Link:
             raise GatewayFault(f"the plant can't be kept: {fault.strerror}", 1) from None
 
     async def look(self) -> None:
-        """Where the server has ended while nothing was asked of it, it is started again. Raises ServerGone as `give` does."""
+        """Where the server has ended while nothing was asked of it, it is started again, and where the record has lost its name, that is
+        told. Raises ServerGone as `give` does."""
+        if (words := self._log.astray()) is not None:
+            self.troubles.raises(TroubleKind.RECORD, _NAME, words)
+        else:
+            self.troubles.clear(TroubleKind.RECORD, _NAME)
         if not self._server.ended:
             return
         held = await self._again(ServerGone("alarmd has ended", 1))

@@ -2,6 +2,7 @@
 
 from __future__ import annotations
 
+import os
 import re
 import shutil
 import subprocess
@@ -162,9 +163,9 @@ def test_files_that_are_half_changed_do_no_harm_once_a_plant_was_taken_up(tmp_pa
     status, out, err = check(config)
     assert (status, out) == (0, "ACCEPTED PROGRAMS 1 ALARMS 1\n")
     assert err.splitlines()[-1].startswith("SERVER alarmd refuses the plant: CONFIG C4 p.st")
-    status, out, err = run(config, "a=2\nlist\n", "--check")
-    assert status == 0 and "END 2" in out, err
-    assert any("p.st isn't what is served" in line for line in err)
+    status, lines, told = run(config, "a=2\nlist\n", "--check")
+    assert status == 0 and "END 2" in lines, told
+    assert any("p.st isn't what is served" in line for line in told)
     shutil.rmtree(tmp_path / "plant")
     assert check(config)[0] == 0 == run(config, "list\n", "--check")[0]
     shutil.rmtree(tmp_path / "record.plants")
@@ -198,3 +199,48 @@ def test_a_reload_that_was_refused_is_no_plant_that_would_be_served(tmp_path: Pa
     add(config, '[fields]\nmap = "map.toml"\n')
     (tmp_path / "map.toml").write_text("[stale_ms]\nb = 60000\n")
     assert check(config)[0] == 2 == run(config, "list\n")[0]
+
+
+def place_of(config: Path, what: str) -> None:
+    """Puts something in the place of the record, or beside it, that a gateway can't have there."""
+    record, text = config.parent / "record", config.read_text()
+    if what.startswith('"'):
+        config.write_text(text.replace('"record"', what))
+    elif what == "fifo":
+        os.mkfifo(record)
+    elif what == "folder":
+        record.mkdir()
+    elif what == "loop":
+        record.symlink_to("record2")
+        (config.parent / "record2").symlink_to("record")
+    elif what == "socket":
+        (config.parent / "record.socket").write_text("somebody's")
+
+
+PLACES = [
+    ("fifo", "no ordinary file"),
+    ('"/dev/null"', "no ordinary file"),
+    ("folder", "no ordinary file"),
+    ("loop", "Too many levels"),
+    ("socket", "record.socket is no socket"),
+    ('"record\\u0000"', "no path has a byte 0"),
+    (f'"{"r" * 81}"', "whose last part has 1 to 80 bytes"),
+    ('"/"', "whose last part has 1 to 80 bytes"),
+]
+
+
+@pytest.mark.parametrize("what,told", PLACES)
+def test_what_no_gateway_can_have_as_its_record(config: Path, what: str, told: str) -> None:
+    place_of(config, what)
+    status, out, err = check(config)
+    assert (status, out) == (2, "") and told in err and err.count("\n") == 1
+    status, _, lines = run(config, "running=TRUE level=250\n")
+    assert (status, len(lines)) == (2, 1) and told in lines[0]
+    assert what != "socket" or (config.parent / "record.socket").read_text() == "somebody's"
+
+
+def test_a_long_name_is_a_sockets_too(config: Path) -> None:
+    folder = config.parent / ("f" * 100)
+    folder.mkdir()
+    config.write_text(config.read_text().replace('"record"', f'"{folder}/{"r" * 80}"'))
+    assert check(config)[0] == 0 == run(config, "running=TRUE level=250\n")[0]

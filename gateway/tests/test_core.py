@@ -14,6 +14,7 @@ from typing import Any
 
 import pytest
 from around import config_for, plant_copy, until
+from core_help import by_core, by_record
 
 from alarmd_gateway.changes import Change, ChangeKind, CutOff
 from alarmd_gateway.config import Config
@@ -500,6 +501,28 @@ def test_a_disk_that_hangs_under_a_remark_is_told(
         run(work())
     finally:
         door.set()
+
+
+def test_a_record_that_is_moved_is_told_and_goes_on(config: Config) -> None:
+    async def work() -> None:
+        async with served(config) as core:
+            await busy(core)
+            os.rename(config.record, f"{config.record}.old")
+            for other in (False, True):
+                if other:  # another file takes its name
+                    config.record.touch()
+                await until(lambda: TroubleKind.RECORD in kinds(core))
+                before, old = core.state.events, core.journal
+                os.kill(server_pid(), signal.SIGKILL)
+                await until(lambda: core.journal is not old and core.state.events > before)
+                assert (await core.order(Order(Verb.ACK, 1, "NONE"))).code == "O1"
+                with pytest.raises(GatewayFault, match="isn't the record any more"):
+                    await core._link._log.succeed([])
+            os.rename(f"{config.record}.old", config.record)
+            await until(lambda: TroubleKind.RECORD not in kinds(core))
+        assert by_core(core) == by_record(config)
+
+    run(work())
 
 
 def test_a_server_is_not_started_again_with_other_files(config: Config) -> None:

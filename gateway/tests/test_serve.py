@@ -330,6 +330,27 @@ def test_two_gateways_with_one_record(config: Path) -> None:
     assert first.wait() == 0
 
 
+def test_a_link_to_the_record(config: Path) -> None:
+    """A new record takes the name where the old one lies, and by either name one gateway has it."""
+    text = f"rotate_at = 30\n{config.read_text()}"
+    config.write_text(text)
+    (config.parent / "disk").mkdir()
+    (config.parent / "record").symlink_to("disk/kept")
+    (config.parent / "other.toml").write_text(text.replace('"record"', '"disk/kept"'))
+    gateway = Gateway(config)
+    gateway.give("running=1 level=250 flow=100\n")
+    gateway.wait_for("question 1")
+    gateway.give("yes\n")
+    gateway.wait_for("a new record has begun", gateway.err)
+    names = sorted(path.name for path in (config.parent / "disk").iterdir())
+    assert names == ["kept", "kept.1", "kept.socket"]
+    assert (config.parent / "record").is_symlink()
+    status, _, err = run(config.parent / "other.toml", "")
+    assert status == 2 and "another gateway has the record" in err[0]
+    gateway.process.terminate()
+    assert gateway.wait() == 0
+
+
 def test_an_epoch_in_the_future_is_asked_about(alarmd: Path, tmp_path: Path) -> None:
     config = config_file(alarmd, plant_copy("tank", tmp_path, "2399-01-01T00:00:00Z"))
     status, out, err = run(config, "level=5\n")
