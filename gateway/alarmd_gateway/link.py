@@ -223,6 +223,12 @@ class Link:
         """The plant with which a new record begins, the one that is served now, with its files where a server can read them. Raises
         GatewayFault."""
         if self.plant.texts == self._first.texts:
+            try:
+                self._log.check()
+            except (
+                GatewayFault
+            ):  # the files are being changed: what is served stands beside the record
+                await self.keep_first()
             return self._first
         try:
             return await asyncio.to_thread(kept.keep, self._config.record, self.plant)
