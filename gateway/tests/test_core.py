@@ -384,6 +384,21 @@ def test_of_an_order_in_the_record_it_isnt_said_that_it_wasnt_taken(config: Conf
     run(work())
 
 
+def test_where_no_moment_is_known_samples_are_not_waited_for(alarmd: Path, tmp_path: Path) -> None:
+    """As at the end of an input at which nobody can answer any more."""
+
+    async def work() -> None:
+        config = config_for(alarmd, plant_copy("tank", tmp_path, "2399-01-01T00:00:00Z"))
+        async with served(config) as core:
+            await give(core, level=100)
+            waiting = asyncio.create_task(core.order(Order(Verb.ACK, 1, "LAL-101")))
+            await asyncio.sleep(0)
+            await core.drain()
+            assert (await waiting).code == "O3" and not core.state.scanned
+
+    run(work())
+
+
 def test_how_often_a_server_is_started_again_is_counted_from_its_last_answer(
     config: Config,
 ) -> None:
