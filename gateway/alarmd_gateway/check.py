@@ -25,15 +25,14 @@ from .simulate import model_path, read_model
 from .texts import of as texts_of
 from .texts import walk
 from .web_config import web_config
-from .words import Words, called
+from .words import Words, called, say
 
 
 def main(words: list[str]) -> int:
     """`check CONFIG`. Prints what `alarmd check` printed. The status is 0 where nothing is wrong."""
     parser = Words(prog=called("check"), description="Says whether a plant can be served.")
     parser.add_argument("config", type=Path, help="the configuration, gateway.toml")
-    for line in check(configs.read(parser.parse_args(words[1:]).config)):
-        print(line)
+    say(check(configs.read(parser.parse_args(words[1:]).config)))
     return 0
 
 
