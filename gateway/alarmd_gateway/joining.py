@@ -32,7 +32,8 @@ async def joined(config: Config, shared: SharedConfig, client: Etcd) -> tuple[Li
     try:
         link.book = await replayed(server, plant, log)
     except BaseException:
-        await link.close()
+        await server.kill()
+        log.close()
         raise
     link.compare()
     return link, log

@@ -112,7 +112,8 @@ class Link:
             if link.last is not None:
                 link.book.take(link.last)
         except BaseException:
-            await link.close()
+            await server.kill()  # it may wait for a reader of its answers
+            log.close()
             raise
         link.compare()
         return link

@@ -16,6 +16,7 @@ import pytest
 from around import config_for, plant_copy, until
 from core_help import by_core, by_record
 
+from alarmd_gateway import link
 from alarmd_gateway.changes import Change, ChangeKind, CutOff
 from alarmd_gateway.config import Config
 from alarmd_gateway.core import Core
@@ -359,6 +360,29 @@ def test_a_server_that_ends_again_and_again_ends_the_core(config: Config) -> Non
         assert fault.value.status == 1
         with pytest.raises(ServerGone):
             await core.order(Order(Verb.ACK, 1, "LAL-101"))
+
+    run(work())
+
+
+def test_an_end_while_the_record_is_played_waits_for_no_server(
+    config: Config, monkeypatch: pytest.MonkeyPatch
+) -> None:
+    """As one that waits for a reader of its answers."""
+
+    async def work() -> None:
+        playing = asyncio.Event()
+
+        async def stuck(server: Server, *_: object) -> None:
+            os.kill(server.pid, signal.SIGSTOP)
+            playing.set()
+            await asyncio.Event().wait()
+
+        monkeypatch.setattr(link, "play", stuck)
+        starting = asyncio.create_task(Core.start(config))
+        await playing.wait()
+        starting.cancel()
+        await asyncio.gather(starting, return_exceptions=True)
+        assert starting.cancelled()
 
     run(work())
 
