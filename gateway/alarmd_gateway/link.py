@@ -22,6 +22,9 @@ from .server import Server
 from .state import Happening
 from .troubles import TroubleKind, Troubles
 
+LATE: Final = 0.3
+"""Of the patience: when it is over, nothing that is shown is live."""
+
 _NAME: Final = "name"
 """The subject of the trouble that the record has lost its name."""
 
@@ -140,8 +143,8 @@ class Link:
     @contextlib.contextmanager
     def _writing(self) -> Iterator[None]:
         """While the record is written. A disk that hangs is a trouble: displays are served meanwhile, and nothing that they show is live."""
-        patience = self._config.patience_ms / 1000
-        late = asyncio.get_running_loop().call_later(patience, self._late, patience)
+        seconds = self._config.patience_ms / 1000 * LATE
+        late = asyncio.get_running_loop().call_later(seconds, self._late, seconds)
         try:
             yield
         finally:
@@ -154,10 +157,15 @@ class Link:
         )
         self.troubles.raises(TroubleKind.SILENCE, "", words)
 
+    def _silent(self, seconds: float) -> None:
+        words = f"alarmd hasn't answered for {seconds:g} s: nothing is scanned until it does"
+        self.troubles.raises(TroubleKind.SILENCE, "", words)
+
     async def take(
         self, command: Command, user: str | None = None, reason: str | None = None
     ) -> tuple[list[str], list[Happening]]:
         """The same for a command that is the last one of the record already."""
+        self._server.late = self._silent
         try:
             answer = await self._server.ask(entry_of(command).asked)
             taken = Taken(command, answer, user, reason)
@@ -165,6 +173,8 @@ class Link:
             played = await self._again(gone)
             assert played is not None  # the record has the command at least
             taken = played
+        finally:
+            self.troubles.clear(TroubleKind.SILENCE, "")
         if isinstance(command, Reload):
             await self._judge_reload(taken.answer)
         self._starts = 0

@@ -18,6 +18,7 @@ Payload = TypeVar("Payload")
 
 _NO_PROGRAM: Final = (errno.ENOENT, errno.ENOTDIR, errno.EACCES, errno.EISDIR, errno.ENOEXEC)
 _SLICES: Final = 10  # patience is counted in so many parts, of which one counts however long our own loop was held up
+_LATE: Final = 3  # after so many of them `late` is called
 _BLOCK: Final = 512  # commands that are written at once
 _AHEAD: Final = 4096  # commands that may be on their way, so that memory is bounded
 _CHUNK: Final = 65_536  # bytes that are read at once
@@ -25,7 +26,11 @@ _WORDS: Final = 4096  # bytes of standard error that are kept
 
 
 class Server:
-    """One process. After ServerGone nothing more can be asked of it."""
+    """One process. After ServerGone nothing more can be asked of it. `late` is called with the seconds for which an answer hasn't come,
+    once three tenths of the patience are over.
+    """
+
+    late: Callable[[float], object] = staticmethod(lambda _: None)
 
     def __init__(self, process: asyncio.subprocess.Process, patience_ms: int) -> None:
         self._process = process
@@ -185,6 +190,8 @@ class Server:
                 if done:
                     return reading.result()
                 self._left -= 1
+                if self._left == _SLICES - _LATE:
+                    self.late(_LATE * self._slice)
         finally:
             reading.cancel()
         await self.kill()

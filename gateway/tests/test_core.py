@@ -16,7 +16,7 @@ import pytest
 from around import config_for, plant_copy, until
 from core_help import by_core, by_record
 
-from alarmd_gateway import link
+from alarmd_gateway import link, server
 from alarmd_gateway.changes import Change, ChangeKind, CutOff
 from alarmd_gateway.config import Config
 from alarmd_gateway.core import Core
@@ -328,6 +328,26 @@ def test_a_server_that_is_silent_is_started_again(config: Config) -> None:
             os.kill(pid, signal.SIGSTOP)
             assert (await core.order(Order(Verb.ACK, 1, "LAL-101"))).taken
             assert server_pid() != pid
+
+    run(work())
+
+
+def test_a_server_that_is_slow_is_told(config: Config, monkeypatch: pytest.MonkeyPatch) -> None:
+    """Before it is given up: what is shown meanwhile is old."""
+
+    async def work() -> None:
+        async with served(config) as core:
+            await give(core, running=1, level=100)
+            await core.drain()
+            pid = server_pid()
+            core._link._server._slice = 0.05
+            monkeypatch.setattr(server, "_SLICES", 10_000)
+            os.kill(pid, signal.SIGSTOP)
+            await until(lambda: TroubleKind.SILENCE in kinds(core))
+            events = core.state.events
+            os.kill(pid, signal.SIGCONT)
+            await until(lambda: core.state.events > events)
+            assert TroubleKind.SILENCE not in kinds(core) and server_pid() == pid
 
     run(work())
 
