@@ -5,6 +5,7 @@ from __future__ import annotations
 import asyncio
 import contextlib
 import errno
+import os
 import signal
 from collections import deque
 from collections.abc import Callable, Iterable
@@ -241,12 +242,10 @@ class Server:
         return status
 
     async def kill(self) -> None:
-        """Ends the process at once, whatever it does. One that has ended is left."""
+        """Ends the process at once, whatever it does, with those that it has started. One that has ended is left."""
         if self._process.returncode is None:
-            try:
-                self._process.kill()
-            except ProcessLookupError:
-                pass
+            with contextlib.suppress(ProcessLookupError):
+                os.killpg(self._process.pid, signal.SIGKILL)
         await self._process.wait()
         self._errors.cancel()
         stdin = self._process.stdin

@@ -13,7 +13,7 @@ from pathlib import Path
 from typing import Any
 
 import pytest
-from around import config_for, plant_copy, until
+from around import LIMIT, config_for, plant_copy, until
 from core_help import by_core, by_record
 
 from alarmd_gateway import link, server
@@ -330,6 +330,31 @@ def test_a_server_that_is_silent_is_started_again(config: Config) -> None:
             assert server_pid() != pid
 
     run(work())
+
+
+def alive(pid: int) -> bool:
+    """Whether a process is there, and no zombie."""
+    try:
+        return "State:\tZ" not in Path(f"/proc/{pid}/status").read_text()
+    except (FileNotFoundError, ProcessLookupError):
+        return False
+
+
+def test_a_silent_server_behind_a_script_is_ended_too(config: Config, tmp_path: Path) -> None:
+    script = tmp_path / "script"
+    script.write_text("#!/bin/sh\nsleep 100000 &\necho $! >$0.pid\nwait\n")
+    script.chmod(0o755)
+
+    async def work() -> None:
+        with pytest.raises(ServerGone, match="no answer in 5 s"):
+            await Core.start(config_for(script, config.plant, patience_ms=5000))
+
+    run(work())
+    pid = int((tmp_path / "script.pid").read_text())
+    end = time.monotonic() + LIMIT
+    while alive(pid):
+        assert time.monotonic() < end
+        time.sleep(0.05)
 
 
 def test_a_server_that_is_slow_is_told(config: Config, monkeypatch: pytest.MonkeyPatch) -> None:
