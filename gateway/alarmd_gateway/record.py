@@ -108,7 +108,7 @@ def entries(file: BinaryIO) -> Iterator[Entry]:
     by the core."""
     by: dict[str, str] = {}
     for head, body in walk(file):
-        line = head.removesuffix(b"\r").decode("utf-8", "surrogateescape")
+        line = head.decode("utf-8", "surrogateescape")
         if line.startswith(BY):
             by = _fields(line.removeprefix(BY))
         elif line and not line.startswith("#"):
