@@ -1,8 +1,8 @@
 """`gateway check CONFIG`: whether a plant can be served as a configuration says, without serving it.
 
-`alarmd check` judges the plant, and its model where there is one. Then come the map, the page's table with its users and certificate,
-and the record that is there, which has to be of this plant. What is wrong is what `serve` would end with, by the same status. No lock
-is taken, no port opened, no broker or device asked, and no command of the record looked at."""
+`alarmd check` judges the plant, and its model where there is one. Then come the record that is there, which has to be of this plant, the
+map, and the page's table with its users and certificate. What is wrong is what `serve` would end with, by the same status. No lock
+is taken, no port opened, no broker or device asked, and no command of the record looked at but its reloads."""
 
 from __future__ import annotations
 
@@ -14,30 +14,35 @@ from . import config as configs
 from . import plant as plants
 from .config import WORDS_STATUS, Config
 from .kept import beginning
+from .link import tell
 from .log_view import newest_copy
 from .map_file import of_config
 from .model import GatewayFault, Plant
-from .record import LONGEST_HEAD, peek, unbegun
+from .record import LONGEST_HEAD, judge_head, unbegun
+from .reloading import judge_place, socket_path
 from .shared_config import shared_config
 from .simulate import model_path, read_model
+from .texts import of as texts_of
+from .texts import walk
 from .web_config import unseen, web_config
-from .words import Words, called
+from .words import Words, called, say
 
 
 def main(words: list[str]) -> int:
     """`check CONFIG`. Prints what `alarmd check` printed. The status is 0 where nothing is wrong."""
     parser = Words(prog=called("check"), description="Says whether a plant can be served.")
     parser.add_argument("config", type=Path, help="the configuration, gateway.toml")
-    for line in check(configs.read(parser.parse_args(words[1:]).config)):
-        print(line)
+    say(check(configs.read(parser.parse_args(words[1:]).config)))
     return 0
 
 
 def check(config: Config) -> list[str]:
     """What `alarmd check` answers of the plant and of its model, a line each; its warnings go to standard error. Raises GatewayFault
     with the status that `serve` would end with."""
-    told = [accepted(config, config.plant)]
-    plant = plants.read(config.plant)
+    record = _record(config)
+    first = beginning(config.plant, record, config.record)
+    told = [_accepted(config, first)]
+    plant = _served(plants.read(first), record)
     if (model := model_path(config)) is not None:
         told.append(accepted(config, model))
         read_model(model, plant)
@@ -45,12 +50,38 @@ def check(config: Config) -> list[str]:
     web = web_config(config, plant)
     for area in [] if web is None or web.users is None else unseen(web.users, plant):
         print(f"warning: no user sees the alarms of area '{area}'", file=sys.stderr)
-    judge_record(config, plant)
     return told
 
 
+def _accepted(config: Config, first: Path) -> str:
+    """The line by which `alarmd check` accepts the plant. Where the record begins with another one, which is kept beside it, that
+    is what a start asks for: what is wrong with the files as they are now is told, and no more. Raises GatewayFault as `accepted` does.
+    """
+    if first == config.plant:
+        return accepted(config, config.plant)
+    line, _ = judged(config, first)
+    try:
+        return accepted(config, config.plant)
+    except GatewayFault as fault:
+        if fault.status != 3:
+            raise
+        if fault.details:
+            print(fault.details, file=sys.stderr)
+        tell(f"{fault.words}. A start serves what was served, by the record")
+        return line
+
+
 def accepted(config: Config, plant: Path) -> str:
-    """The line by which `alarmd check` accepts a plant. Raises GatewayFault with its own words: status 3 where it refuses."""
+    """The same as `judged`; its warnings go to standard error."""
+    line, said = judged(config, plant)
+    if said:
+        print(said, file=sys.stderr)
+    return line
+
+
+def judged(config: Config, plant: Path) -> tuple[str, str]:
+    """The line by which `alarmd check` accepts a plant, and what it says beside that. Raises GatewayFault with its own words: status 3
+    where it refuses."""
     words, seconds = [str(config.alarmd), "check", str(plant)], config.patience_ms / 1000
     try:
         done = subprocess.run(
@@ -67,27 +98,49 @@ def accepted(config: Config, plant: Path) -> str:
         raise GatewayFault(f"alarmd refuses the plant: {line}", 3, said)
     if done.returncode or not line.startswith("ACCEPTED"):
         raise GatewayFault(f"`alarmd check` has ended with status {done.returncode}", 1, said)
-    if said:
-        print(said, file=sys.stderr)
-    return line
+    return line, said
 
 
-def judge_record(config: Config, plant: Plant) -> None:
-    """Raises GatewayFault (status 2) where a record is there that can't be read, or is of another plant."""
-    path = config.record
-    if "etcd" in config.tables:
-        shared_config(config)
-        path = newest_copy(path)
+def _record(config: Config) -> Path:
+    """Where the record is, or the newest copy of a shared log. Raises GatewayFault (status 2), also where what isn't the gateway's has
+    the name of its socket."""
+    judge_place(socket_path(config))
+    if "etcd" not in config.tables:
+        return config.record
+    shared_config(config)
+    return newest_copy(config.record)
+
+
+def _served(first: Plant, record: Path) -> Plant:
+    """The plant that a start would serve. `first` is the one with which the record would have to begin. Of reloads in the record those
+    count that no `alarmd` refuses: of the same consoles and the same epoch. Raises GatewayFault (status 2) where a record is there that
+    can't be read, or is of another plant."""
     try:
-        with open(path, "rb") as file:
-            line = file.readline(LONGEST_HEAD)
+        with open(record, "rb", buffering=1 << 20) as file:
+            if unbegun(line := file.readline(LONGEST_HEAD)):
+                return first  # the next start begins it
+            judge_head(line.decode("utf-8", "replace").rstrip("\n"), first, record)
+            plant = first
+            for head, body in walk(file):
+                plant = _taken_up(plant, head, body) if body else plant
+            return plant
     except FileNotFoundError as fault:
-        if not path.parent.is_dir():
-            raise GatewayFault(f"the record {path}: {fault.strerror}", WORDS_STATUS) from None
-        line = b""
+        if record.parent.is_dir():
+            return first
+        raise GatewayFault(f"the record {record}: {fault.strerror}", WORDS_STATUS) from None
     except OSError as fault:
-        raise GatewayFault(f"the record {path}: {fault.strerror}", WORDS_STATUS) from None
-    if unbegun(line):
-        return  # the next start begins it
-    first = beginning(config.plant, path, config.record)
-    next(peek(path, plant if first == config.plant else plants.read(first)), None)
+        raise GatewayFault(f"the record {record}: {fault.strerror}", WORDS_STATUS) from None
+
+
+def _taken_up(plant: Plant, head: bytes, body: bytes) -> Plant:
+    """The plant that is served after a reload in the record."""
+    if (
+        found := texts_of(head.removesuffix(b"\r").decode("utf-8", "surrogateescape"), body)
+    ) is None:
+        return plant
+    try:
+        other = plants.of_texts(plant.path, found)
+    except GatewayFault:
+        return plant  # alarmd has refused it
+    numbers = [[console.number for console in one.consoles] for one in (plant, other)]
+    return other if numbers[0] == numbers[1] and plant.epoch == other.epoch else plant

@@ -4,12 +4,13 @@ from __future__ import annotations
 
 import importlib
 import os
+import signal
 import sys
 import traceback
 
 from .link import tell
 from .model import GatewayFault
-from .words import called
+from .words import called, say
 
 COMMANDS = {  # the word, its module, what it does. A new command is one line
     "serve": ("serve", "CONFIG: serve a plant"),
@@ -32,6 +33,7 @@ def main(words: list[str]) -> int:
     """Runs the command that the words name, and gives the status of the process. Whatever is wrong with the server or the
     gateway is one line on standard error that begins with SERVER."""
     _hold_descriptors()
+    signal.signal(signal.SIGCHLD, signal.SIG_DFL)  # else nobody would hear how alarmd ends
     try:
         return _run(words)
     except GatewayFault as fault:
@@ -59,7 +61,7 @@ def _hold_descriptors() -> None:
 
 def _run(words: list[str]) -> int:
     if words[:1] in (["help"], ["--help"], ["-h"]):
-        print(usage())
+        say([usage()])
         return 0
     if not words or words[0] not in COMMANDS:
         wrong = f"no command is called {words[0]!r}" if words else "a command is wanted"

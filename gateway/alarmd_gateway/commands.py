@@ -135,6 +135,7 @@ def _value(kind: Kind, value: Value | str) -> Value | None:
 
 def read(plant: Plant, line: str, body: bytes = b"") -> Command | None:
     """The command of a record's line, with what stands behind it; None where the line is none, or one that the server refuses."""
+    line = line.removesuffix("\r")  # as the server does
     if body:
         found = texts.of(line, body)
         return None if found is None else Reload(found)

@@ -2,6 +2,7 @@
 
 from __future__ import annotations
 
+import os
 import tomllib
 from dataclasses import dataclass, field
 from pathlib import Path
@@ -11,6 +12,9 @@ from .model import GatewayFault
 
 TABLES = ("etcd", "fields", "simulate", "web")
 """The tables of other modules."""
+
+LONGEST_NAME = 80
+"""Bytes of the name of a record's file."""
 
 WORDS_STATUS = 2
 """The status of the process where words, a configuration or a record are wrong."""
@@ -39,7 +43,7 @@ class Table:
         """A path; one that doesn't begin with `/` counts from the configuration's folder."""
         text = self.text(key, default)
         if not text or "\0" in text:
-            raise self.wrong(key, "a path")
+            raise self.wrong(key, "a path, and no path has a byte 0")
         return self.folder / text
 
     def number(
@@ -139,6 +143,19 @@ class Config:
         return Table("", self.tables, self.folder).table(name)
 
 
+def _record(table: Table) -> Path:
+    """Where the record lies, and not a link to it: a new record takes its name there, and by whatever link a gateway comes, one has
+    it at a time. Its name is short enough for the names beside it, of which one is a socket's."""
+    try:
+        path = Path(os.path.realpath(table.path("record")))
+        name = os.fsencode(path.name)
+    except (OSError, UnicodeEncodeError):
+        raise table.wrong("record", "a path") from None
+    if not 0 < len(name) <= LONGEST_NAME:
+        raise table.wrong("record", f"a path whose last part has 1 to {LONGEST_NAME} bytes")
+    return path
+
+
 def read(path: Path) -> Config:
     """Reads a configuration. Raises GatewayFault (status 2) with what is wrong in it."""
     try:
@@ -156,7 +173,7 @@ def read(path: Path) -> Config:
     config = Config(
         alarmd=table.path("alarmd"),
         plant=table.path("plant"),
-        record=table.path("record"),
+        record=_record(table),
         folder=folder,
         period_ms=table.number("period_ms", 1000, 1, 3_600_000),
         patience_ms=table.number("patience_ms", 10_000, 100, 3_600_000),

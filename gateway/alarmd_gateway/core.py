@@ -216,10 +216,12 @@ class Core:
             await self._link.close()
 
     async def drain(self) -> None:
-        """Waits until scans have taken all samples that wait, and all orders are answered."""
+        """Waits until scans have taken all samples that wait, and all orders are answered. Where no scan may come samples are left."""
         self._draining = True
         self._wake.set()
-        while (len(self._queue) or self._jobs) and not self._closing and not self._full:
+        while self._jobs or (len(self._queue) and self._clock.started):
+            if self._closing or self._full:
+                break
             self._taken.clear()
             await self._taken.wait()
         self._draining = False
@@ -295,10 +297,14 @@ class Core:
         try:
             if isinstance(job.command, Reload):
                 await self._link.ready_for(job.command)
-            answer, happened = await self._link.give(job.command, job.user, job.reason)
         except NoReload as refused:
             fail(job, refused)
             return
+        except GatewayFault as fault:
+            fail(job, ServerGone(f"{fault.words}, so the plant wasn't taken up", fault.status))
+            raise
+        try:
+            answer, happened = await self._link.give(job.command, job.user, job.reason)
         except GatewayFault as fault:
             fail(job, ServerGone(f"{fault.words}, so {UNKNOWN}", fault.status))
             raise

@@ -2,8 +2,11 @@
 
 from __future__ import annotations
 
+import contextlib
+import errno
 import fcntl
 import os
+import stat
 from pathlib import Path
 from typing import IO, Final
 
@@ -11,10 +14,29 @@ from .model import GatewayFault
 from .texts import walk
 
 BY: Final = "# by "
+NO_HELP: Final = (
+    errno.ENOENT,
+    errno.ENOTDIR,
+    errno.EISDIR,
+    errno.EACCES,
+    errno.EPERM,
+    errno.EROFS,
+    errno.ELOOP,
+    errno.ENAMETOOLONG,
+)
+"""Faults of opening a record that another start doesn't help."""
+
+
+def ordinary(path: Path) -> None:
+    """Raises GatewayFault (status 2) where something else than an ordinary file has this name: a FIFO would be waited for."""
+    with contextlib.suppress(OSError):  # whoever opens it says what is wrong
+        if not stat.S_ISREG(os.stat(path).st_mode):
+            raise GatewayFault(f"{path} is no record of a gateway: it is no ordinary file", 2)
 
 
 def locked(path: Path) -> IO[bytes]:
     """The file of this name, locked."""
+    ordinary(path)
     while True:
         file = open(path, "a+b", buffering=0)
         try:
@@ -28,6 +50,14 @@ def locked(path: Path) -> IO[bytes]:
             file.close()
             raise
         file.close()  # a new record has taken the name meanwhile
+
+
+def astray(file: IO[bytes], path: Path) -> str | None:
+    """What is wrong where an open record isn't the file of its name any more."""
+    with contextlib.suppress(OSError):
+        if os.path.samestat(os.fstat(file.fileno()), os.stat(path)):
+            return None
+    return f"{path} isn't the record any more, which was moved or deleted: a start wouldn't find what is taken from now on"
 
 
 def write(file: IO[bytes], data: bytes) -> None:

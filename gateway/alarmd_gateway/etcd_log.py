@@ -267,6 +267,10 @@ class EtcdLog:
         """Takes a request away that is no order, or isn't to be given. Raises NoEtcd."""
         await self.asks.ask([], [etcd.delete(self.keys.requests + mark)])
 
+    def astray(self) -> str | None:
+        """See Log: of the copy."""
+        return self._copy.astray() if self._copy is not None else None
+
     def moved(self, plant: Plant) -> None:
         """See Log."""
         self._plant = plant

@@ -3,8 +3,11 @@
 from __future__ import annotations
 
 import asyncio
+import contextlib
 import os
+import select
 import threading
+import time
 from collections.abc import AsyncIterator
 from typing import Final
 
@@ -12,6 +15,7 @@ MOST: Final = 1_048_576
 """Bytes of a line. A longer one comes as None."""
 
 _CHUNK: Final = 65_536
+_BACKGROUND_SECONDS: Final = 0.5
 
 
 class Lines:
@@ -49,6 +53,26 @@ class Lines:
         return line
 
 
+def _read(descriptor: int) -> bytes:
+    """What comes next, where it has to be waited for; nothing at the end, or where it can't be read. A terminal of which another process
+    has the foreground is read once that is ours again."""
+    while True:
+        try:
+            return os.read(descriptor, _CHUNK)
+        except BlockingIOError:  # whoever shares it has it so that it doesn't wait
+            select.select([descriptor], [], [])
+        except OSError:
+            if not _in_background(descriptor):
+                return b""
+            time.sleep(_BACKGROUND_SECONDS)
+
+
+def _in_background(descriptor: int) -> bool:
+    with contextlib.suppress(OSError):
+        return os.tcgetpgrp(descriptor) != os.getpgrp()
+    return False
+
+
 async def lines(descriptor: int = 0) -> AsyncIterator[str | None]:
     """The lines of a descriptor, as they come; None for one that is too long. Ends where the input ends or can't be read."""
     loop = asyncio.get_running_loop()
@@ -57,10 +81,7 @@ async def lines(descriptor: int = 0) -> AsyncIterator[str | None]:
     def read() -> None:
         data = b"more"
         while data:
-            try:
-                data = os.read(descriptor, _CHUNK)
-            except OSError:
-                data = b""
+            data = _read(descriptor)
             try:
                 asyncio.run_coroutine_threadsafe(queue.put(data), loop).result()
             except (RuntimeError, asyncio.CancelledError):

@@ -35,7 +35,8 @@ async def joined(config: Config, shared: SharedConfig, client: Etcd) -> tuple[Li
         if shared.new_alarmd:  # it can play the log: those with the old one end
             await answered(log.go_on)
     except BaseException:
-        await link.close()
+        await server.kill()
+        log.close()
         raise
     link.compare()
     return link, log

@@ -8,6 +8,7 @@ import logging
 import sys
 from collections.abc import Callable, Iterator
 from pathlib import Path
+from typing import Final
 
 from . import kept
 from . import plant as plants
@@ -20,6 +21,12 @@ from .record import Entry, FileRecord, Log
 from .server import Server
 from .state import Happening
 from .troubles import TroubleKind, Troubles
+
+LATE: Final = 0.3
+"""Of the patience: when it is over, nothing that is shown is live."""
+
+_NAME: Final = "name"
+"""The subject of the trouble that the record has lost its name."""
 
 
 def tell(words: str) -> None:
@@ -108,7 +115,8 @@ class Link:
             if link.last is not None:
                 link.book.take(link.last)
         except BaseException:
-            await link.close()
+            await server.kill()  # it may wait for a reader of its answers
+            log.close()
             raise
         link.compare()
         return link
@@ -135,8 +143,8 @@ class Link:
     @contextlib.contextmanager
     def _writing(self) -> Iterator[None]:
         """While the record is written. A disk that hangs is a trouble: displays are served meanwhile, and nothing that they show is live."""
-        patience = self._config.patience_ms / 1000
-        late = asyncio.get_running_loop().call_later(patience, self._late, patience)
+        seconds = self._config.patience_ms / 1000 * LATE
+        late = asyncio.get_running_loop().call_later(seconds, self._late, seconds)
         try:
             yield
         finally:
@@ -149,10 +157,15 @@ class Link:
         )
         self.troubles.raises(TroubleKind.SILENCE, "", words)
 
+    def _silent(self, seconds: float) -> None:
+        words = f"alarmd hasn't answered for {seconds:g} s: nothing is scanned until it does"
+        self.troubles.raises(TroubleKind.SILENCE, "", words)
+
     async def take(
         self, command: Command, user: str | None = None, reason: str | None = None
     ) -> tuple[list[str], list[Happening]]:
         """The same for a command that is the last one of the record already."""
+        self._server.late = self._silent
         try:
             answer = await self._server.ask(entry_of(command).asked)
             taken = Taken(command, answer, user, reason)
@@ -160,6 +173,8 @@ class Link:
             played = await self._again(gone)
             assert played is not None  # the record has the command at least
             taken = played
+        finally:
+            self.troubles.clear(TroubleKind.SILENCE, "")
         if isinstance(command, Reload):
             await self._judge_reload(taken.answer)
         self._starts = 0
@@ -219,6 +234,12 @@ class Link:
         """The plant with which a new record begins, the one that is served now, with its files where a server can read them. Raises
         GatewayFault."""
         if self.plant.texts == self._first.texts:
+            try:
+                self._log.check()
+            except (
+                GatewayFault
+            ):  # the files are being changed: what is served stands beside the record
+                await self.keep_first()
             return self._first
         try:
             return await asyncio.to_thread(kept.keep, self._config.record, self.plant)
@@ -226,7 +247,12 @@ class Link:
             raise GatewayFault(f"the plant can't be kept: {fault.strerror}", 1) from None
 
     async def look(self) -> None:
-        """Where the server has ended while nothing was asked of it, it is started again. Raises ServerGone as `give` does."""
+        """Where the server has ended while nothing was asked of it, it is started again, and where the record has lost its name, that is
+        told. Raises ServerGone as `give` does."""
+        if (words := self._log.astray()) is not None:
+            self.troubles.raises(TroubleKind.RECORD, _NAME, words)
+        else:
+            self.troubles.clear(TroubleKind.RECORD, _NAME)
         if not self._server.ended:
             return
         held = await self._again(ServerGone("alarmd has ended", 1))

@@ -3,6 +3,7 @@
 from __future__ import annotations
 
 import os
+import select
 import threading
 import time
 from collections import defaultdict, deque
@@ -20,7 +21,7 @@ _WRITING: Final[defaultdict[int, threading.Lock]] = defaultdict(threading.Lock)
 
 
 class Output:
-    """Writes lines to a descriptor that waits. `fault` is what keeps it from writing, once something does; `broken` is called
+    """Writes lines to a descriptor. `fault` is what keeps it from writing, once something does; `broken` is called
     then, by the thread."""
 
     def __init__(
@@ -89,8 +90,11 @@ class Output:
         self._moved = time.monotonic()
         with _WRITING[self._descriptor]:
             while data:
-                data = data[os.write(self._descriptor, data) :]
-                self._moved = time.monotonic()
+                try:
+                    data = data[os.write(self._descriptor, data) :]
+                    self._moved = time.monotonic()
+                except BlockingIOError:  # whoever shares it has it so that it doesn't wait
+                    select.select([], [self._descriptor], [])
 
     def close(self, seconds: float) -> None:
         """Waits until all is written, at most so long."""

@@ -8,7 +8,6 @@ before an order tells who gave it, and why.
 from __future__ import annotations
 
 import asyncio
-import errno
 import hashlib
 import json
 import os
@@ -19,7 +18,7 @@ from pathlib import Path
 from typing import BinaryIO, Final, Protocol
 
 from . import commands
-from .disk import BY, archive, cut, locked, sync_folder, write
+from .disk import BY, NO_HELP, archive, astray, cut, locked, ordinary, sync_folder, write
 from .model import GatewayFault, Plant
 from .plant import files
 from .texts import walk
@@ -27,8 +26,6 @@ from .texts import walk
 _HEAD: Final = "# gateway record "
 _OLD_HEAD: Final = "# plant "
 LONGEST_HEAD: Final = 1 << 20  # bytes
-_NO_HELP: Final = (errno.ENOENT, errno.ENOTDIR, errno.EISDIR, errno.EACCES, errno.EROFS)
-"""Faults of opening a record that another start doesn't help."""
 
 
 @dataclass(frozen=True, slots=True)
@@ -69,6 +66,9 @@ class Log(Protocol):
 
     def moved(self, plant: Plant) -> None:
         """The files of the record's plant, the one with which it begins, lie elsewhere from now on."""
+
+    def astray(self) -> str | None:
+        """What is wrong where the record is no longer the file of its name, so that a start wouldn't find it; else None."""
 
     async def succeed(self, entries: Sequence[Entry], plant: Plant | None = None) -> str:
         """A new record takes the place of this one, at once and whole, with these commands in it; it begins with this plant, or
@@ -125,7 +125,9 @@ def _fields(text: str) -> dict[str, str]:
 
 
 def head_sums(path: Path) -> dict[str, str]:
-    """The sums that the first line of a record has; none where there is no record, or it can't be read."""
+    """The sums that the first line of a record has; none where there is no record, or it can't be read. Raises GatewayFault (status 2)
+    where it is no ordinary file."""
+    ordinary(path)
     try:
         with open(path, "rb") as file:
             line = file.readline(LONGEST_HEAD).decode("utf-8", "replace").rstrip("\n")
@@ -189,7 +191,7 @@ class FileRecord:
                 self._file.close()
                 raise
         except OSError as fault:
-            raise self._fault(fault, 2 if fault.errno in _NO_HELP else 1) from None
+            raise self._fault(fault, 2 if fault.errno in NO_HELP else 1) from None
 
     def _begin(self) -> None:
         """Begins the record, or judges the one that is there; what is none stays as it is."""
@@ -210,8 +212,8 @@ class FileRecord:
         return GatewayFault(f"the record {self.path}: {fault.strerror}", status)
 
     def replay(self) -> Iterator[Entry]:
-        """All commands, in order, read as they are wanted."""
-        with open(self.path, "rb", buffering=1 << 20) as file:
+        """All commands, in order, read as they are wanted; by the open file, whatever has its name by now."""
+        with open(f"/proc/self/fd/{self._file.fileno()}", "rb", buffering=1 << 20) as file:
             yield from entries(file)
 
     def check(self) -> None:
@@ -256,7 +258,13 @@ class FileRecord:
         """See Log."""
         self._plant = plant
 
+    def astray(self) -> str | None:
+        """See Log."""
+        return astray(self._file, self.path)
+
     def _succeed(self, entries: Sequence[Entry], plant: Plant) -> tuple[str, dict[str, str]]:
+        if (words := self.astray()) is not None:
+            raise GatewayFault(words, 1)
         known = self._sums if plant is self._plant else sums(plant)
         kept, fresh = archive(self.path), self.path.with_name(f"{self.path.name}.new")
         fresh.unlink(missing_ok=True)
@@ -286,6 +294,7 @@ class FileRecord:
 
 def peek(path: Path, plant: Plant) -> Iterator[Entry]:
     """The commands of a record that another gateway may have, without a lock. Raises GatewayFault (status 2)."""
+    ordinary(path)
     try:
         with open(path, "rb", buffering=1 << 20) as file:
             judge_head(

@@ -20,7 +20,7 @@ from .config import WORDS_STATUS, Config
 from .model import GatewayFault, Texts
 from .player import RELOADED
 from .reloading import LONGEST_LINE, NO_ANSWER, NOT_ASKED, SLOW, short, socket_path
-from .words import Words, called
+from .words import Words, called, say
 
 LONGEST_REASON: Final = 200  # characters
 
@@ -43,7 +43,7 @@ def main(words: list[str]) -> int:
         raise GatewayFault(f"nothing was asked: {answer.removeprefix(NOT_ASKED)}", WORDS_STATUS)
     if answer.startswith(NO_ANSWER):
         raise GatewayFault(answer.removeprefix(NO_ANSWER), 1)
-    print(answer)
+    say([answer])
     return 0 if answer.startswith(RELOADED) else 3
 
 

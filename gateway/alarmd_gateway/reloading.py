@@ -10,6 +10,7 @@ import contextlib
 import json
 import os
 import socket
+import stat
 from collections.abc import Iterator
 from pathlib import Path
 from typing import Final
@@ -29,6 +30,13 @@ NO_ANSWER: Final = "NO ANSWER "
 def socket_path(config: Config) -> Path:
     """Where the gateway that serves a configuration listens."""
     return config.record.with_name(f"{config.record.name}.socket")
+
+
+def judge_place(path: Path) -> None:
+    """Raises GatewayFault (status 2) where something else than a socket that was left there has the name."""
+    with contextlib.suppress(OSError):
+        if not stat.S_ISSOCK(os.lstat(path).st_mode):
+            raise GatewayFault(f"{path} is no socket: the gateway wants this name", WORDS_STATUS)
 
 
 @contextlib.contextmanager
@@ -57,6 +65,7 @@ class Reloading:
 
     async def start(self) -> None:
         """Listens. Raises GatewayFault (status 2)."""
+        judge_place(self._path)
         listening = socket.socket(socket.AF_UNIX)
         try:
             self._path.unlink(missing_ok=True)

@@ -64,7 +64,9 @@ async def serve(config: Config) -> None:
     stop = asyncio.Event()
     loop = asyncio.get_running_loop()
     for number in (signal.SIGTERM, signal.SIGINT, signal.SIGHUP):
-        loop.add_signal_handler(number, stop.set)
+        if number != signal.SIGHUP or signal.getsignal(number) != signal.SIG_IGN:  # as by nohup
+            loop.add_signal_handler(number, stop.set)
+    signal.signal(signal.SIGTTIN, signal.SIG_IGN)  # in the background a terminal isn't read
     starting = asyncio.create_task(_core(config))
     if not await _first(starting, stop):  # the record is still played
         starting.cancel()

@@ -5,6 +5,7 @@ from __future__ import annotations
 import asyncio
 import contextlib
 import errno
+import os
 import signal
 from collections import deque
 from collections.abc import Callable, Iterable
@@ -18,6 +19,7 @@ Payload = TypeVar("Payload")
 
 _NO_PROGRAM: Final = (errno.ENOENT, errno.ENOTDIR, errno.EACCES, errno.EISDIR, errno.ENOEXEC)
 _SLICES: Final = 10  # patience is counted in so many parts, of which one counts however long our own loop was held up
+_LATE: Final = 3  # after so many of them `late` is called
 _BLOCK: Final = 512  # commands that are written at once
 _AHEAD: Final = 4096  # commands that may be on their way, so that memory is bounded
 _CHUNK: Final = 65_536  # bytes that are read at once
@@ -25,7 +27,11 @@ _WORDS: Final = 4096  # bytes of standard error that are kept
 
 
 class Server:
-    """One process. After ServerGone nothing more can be asked of it."""
+    """One process. After ServerGone nothing more can be asked of it. `late` is called with the seconds for which an answer hasn't come,
+    once three tenths of the patience are over.
+    """
+
+    late: Callable[[float], object] = staticmethod(lambda _: None)
 
     def __init__(self, process: asyncio.subprocess.Process, patience_ms: int) -> None:
         self._process = process
@@ -185,6 +191,8 @@ class Server:
                 if done:
                     return reading.result()
                 self._left -= 1
+                if self._left == _SLICES - _LATE:
+                    self.late(_LATE * self._slice)
         finally:
             reading.cancel()
         await self.kill()
@@ -234,12 +242,10 @@ class Server:
         return status
 
     async def kill(self) -> None:
-        """Ends the process at once, whatever it does. One that has ended is left."""
+        """Ends the process at once, whatever it does, with those that it has started. One that has ended is left."""
         if self._process.returncode is None:
-            try:
-                self._process.kill()
-            except ProcessLookupError:
-                pass
+            with contextlib.suppress(ProcessLookupError):
+                os.killpg(self._process.pid, signal.SIGKILL)
         await self._process.wait()
         self._errors.cancel()
         stdin = self._process.stdin

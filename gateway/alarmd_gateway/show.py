@@ -20,7 +20,7 @@ from .log_view import newest_copy
 from .player import Book, play
 from .record import peek
 from .state import State, time_of
-from .words import Words, called
+from .words import Words, called, say
 
 
 def main(words: list[str]) -> int:
@@ -50,8 +50,7 @@ def main(words: list[str]) -> int:
         lines = (line.rstrip("\r\n") for line in book.journal.csv(given.first, given.count))
     else:
         lines = book.journal.lines(given.first, given.count)
-    for line in lines:
-        print(line)
+    say(lines)
     return 0
 
 

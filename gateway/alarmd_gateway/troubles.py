@@ -14,7 +14,7 @@ class TroubleKind(enum.Enum):
     """What a trouble is about."""
 
     SERVER = "server"  # alarmd has ended, or starts again
-    SILENCE = "silence"  # the record's disk hasn't answered within the time that is set
+    SILENCE = "silence"  # the record's disk or alarmd hasn't answered for too long
     STOPPED = "stopped"  # a program has stopped: its subject is the program's name
     REFUSED = "refused"  # a scan was refused
     STALE = "stale"  # an input's samples have stopped coming: its subject is the input's name

@@ -2,14 +2,19 @@
 
 from __future__ import annotations
 
+import os
 import re
 import shutil
 import subprocess
 from pathlib import Path
 
 import pytest
-from around import LIMIT, ROOT, config_file, plant_copy, run
+from around import LIMIT, ROOT, Gateway, config_file, plant_copy, run
 from http_help import cheap_hash
+from reload_help import FIRST, READING, Small
+
+from alarmd_gateway.commands import Reload
+from alarmd_gateway.link import entry_of
 
 pytestmark = pytest.mark.server
 
@@ -147,3 +152,107 @@ def test_serve_checks_first_where_it_is_told(config: Path, plant: Path) -> None:
     add(config, "[fields]\nmap = 'map.toml'\n")
     status, out, err = run(config, "", "--check")
     assert status == 2 and not out and "map.toml" in err[-1]
+
+
+def taken_up(folder: Path, other: Small) -> Path:
+    """A configuration of a record in which a plant was taken up, and a gateway that has ended."""
+    config = config_file(READING, Small().write(folder / "plant"), console=True)
+    gateway = Gateway(config, "--yes")
+    gateway.give("a=5\n")
+    gateway.wait_for("ALARM .* T1 NORM UNACK")
+    other.write(folder / "plant")
+    words = [str(ROOT / "gateway" / "gateway"), "reload", str(config)]
+    assert subprocess.run(words, timeout=LIMIT, capture_output=True, check=False).returncode == 0
+    gateway.end_input()
+    assert gateway.wait() == 0
+    return config
+
+
+def test_files_that_are_half_changed_do_no_harm_once_a_plant_was_taken_up(tmp_path: Path) -> None:
+    config = taken_up(tmp_path, Small(30))
+    assert check(config) == (0, "ACCEPTED PROGRAMS 1 ALARMS 1\n", "")
+    (tmp_path / "plant" / "p.st").write_text("PROGRAM p (* x")
+    status, out, err = check(config)
+    assert (status, out) == (0, "ACCEPTED PROGRAMS 1 ALARMS 1\n")
+    assert err.splitlines()[-1].startswith("SERVER alarmd refuses the plant: CONFIG C4 p.st")
+    status, lines, told = run(config, "a=2\nlist\n", "--check")
+    assert status == 0 and "END 2" in lines, told
+    assert any("p.st isn't what is served" in line for line in told)
+    shutil.rmtree(tmp_path / "plant")
+    assert check(config)[0] == 0 == run(config, "list\n", "--check")[0]
+    shutil.rmtree(tmp_path / "record.plants")
+    assert check(config)[0] == 3 == run(config, "list\n")[0]
+
+
+def test_the_map_is_judged_by_the_plant_that_would_be_served(tmp_path: Path) -> None:
+    more = f"{FIRST} b AT %ID1 : DINT;"
+    config = taken_up(tmp_path, Small(variables=more))
+    add(config, '[fields]\nmap = "map.toml"\n')
+    map_file = tmp_path / "map.toml"
+    for changed in (Small(), Small(variables=f"{more} d AT %ID2 : DINT;")):
+        changed.write(tmp_path / "plant")  # and not taken up
+        map_file.write_text("[stale_ms]\nb = 60000\n")
+        assert check(config)[0] == 0
+        gateway = Gateway(config)
+        gateway.give("list\n")
+        gateway.wait_for("^END 2")
+        gateway.process.terminate()
+        assert gateway.wait() == 0
+        map_file.write_text("[stale_ms]\nd = 60000\n")
+        assert check(config)[0] == 2 == run(config, "list\n")[0]
+
+
+def test_a_reload_that_was_refused_is_no_plant_that_would_be_served(tmp_path: Path) -> None:
+    config = taken_up(tmp_path, Small(30))
+    other = Small(variables=f"{FIRST} b AT %ID1 : DINT;", consoles=((1, "north"),))
+    texts = other.texts(tmp_path / "other")
+    with open(tmp_path / "record", "ab") as file:
+        file.write(entry_of(Reload(texts)).recorded())
+    add(config, '[fields]\nmap = "map.toml"\n')
+    (tmp_path / "map.toml").write_text("[stale_ms]\nb = 60000\n")
+    assert check(config)[0] == 2 == run(config, "list\n")[0]
+
+
+def place_of(config: Path, what: str) -> None:
+    """Puts something in the place of the record, or beside it, that a gateway can't have there."""
+    record, text = config.parent / "record", config.read_text()
+    if what.startswith('"'):
+        config.write_text(text.replace('"record"', what))
+    elif what == "fifo":
+        os.mkfifo(record)
+    elif what == "folder":
+        record.mkdir()
+    elif what == "loop":
+        record.symlink_to("record2")
+        (config.parent / "record2").symlink_to("record")
+    elif what == "socket":
+        (config.parent / "record.socket").write_text("somebody's")
+
+
+PLACES = [
+    ("fifo", "no ordinary file"),
+    ('"/dev/null"', "no ordinary file"),
+    ("folder", "no ordinary file"),
+    ("loop", "Too many levels"),
+    ("socket", "record.socket is no socket"),
+    ('"record\\u0000"', "no path has a byte 0"),
+    (f'"{"r" * 81}"', "whose last part has 1 to 80 bytes"),
+    ('"/"', "whose last part has 1 to 80 bytes"),
+]
+
+
+@pytest.mark.parametrize("what,told", PLACES)
+def test_what_no_gateway_can_have_as_its_record(config: Path, what: str, told: str) -> None:
+    place_of(config, what)
+    status, out, err = check(config)
+    assert (status, out) == (2, "") and told in err and err.count("\n") == 1
+    status, _, lines = run(config, "running=TRUE level=250\n")
+    assert (status, len(lines)) == (2, 1) and told in lines[0]
+    assert what != "socket" or (config.parent / "record.socket").read_text() == "somebody's"
+
+
+def test_a_long_name_is_a_sockets_too(config: Path) -> None:
+    folder = config.parent / ("f" * 100)
+    folder.mkdir()
+    config.write_text(config.read_text().replace('"record"', f'"{folder}/{"r" * 80}"'))
+    assert check(config)[0] == 0 == run(config, "running=TRUE level=250\n")[0]

@@ -13,8 +13,10 @@ from pathlib import Path
 from typing import Any
 
 import pytest
-from around import config_for, plant_copy, until
+from around import LIMIT, config_for, plant_copy, until
+from core_help import by_core, by_record
 
+from alarmd_gateway import link, server
 from alarmd_gateway.changes import Change, ChangeKind, CutOff
 from alarmd_gateway.config import Config
 from alarmd_gateway.core import Core
@@ -355,6 +357,51 @@ def test_a_server_that_is_silent_is_started_again(config: Config) -> None:
     run(work())
 
 
+def alive(pid: int) -> bool:
+    """Whether a process is there, and no zombie."""
+    try:
+        return "State:\tZ" not in Path(f"/proc/{pid}/status").read_text()
+    except (FileNotFoundError, ProcessLookupError):
+        return False
+
+
+def test_a_silent_server_behind_a_script_is_ended_too(config: Config, tmp_path: Path) -> None:
+    script = tmp_path / "script"
+    script.write_text("#!/bin/sh\nsleep 100000 &\necho $! >$0.pid\nwait\n")
+    script.chmod(0o755)
+
+    async def work() -> None:
+        with pytest.raises(ServerGone, match="no answer in 5 s"):
+            await Core.start(config_for(script, config.plant, patience_ms=5000))
+
+    run(work())
+    pid = int((tmp_path / "script.pid").read_text())
+    end = time.monotonic() + LIMIT
+    while alive(pid):
+        assert time.monotonic() < end
+        time.sleep(0.05)
+
+
+def test_a_server_that_is_slow_is_told(config: Config, monkeypatch: pytest.MonkeyPatch) -> None:
+    """Before it is given up: what is shown meanwhile is old."""
+
+    async def work() -> None:
+        async with served(config) as core:
+            await give(core, running=1, level=100)
+            await core.drain()
+            pid = server_pid()
+            core._link._server._slice = 0.05
+            monkeypatch.setattr(server, "_SLICES", 10_000)
+            os.kill(pid, signal.SIGSTOP)
+            await until(lambda: TroubleKind.SILENCE in kinds(core))
+            events = core.state.events
+            os.kill(pid, signal.SIGCONT)
+            await until(lambda: core.state.events > events)
+            assert TroubleKind.SILENCE not in kinds(core) and server_pid() == pid
+
+    run(work())
+
+
 def test_what_holds_the_gateway_up_is_no_silence(config: Config) -> None:
     async def work() -> None:
         slow = config_for(config.alarmd, config.plant, period_ms=3_600_000, restarts=0)
@@ -387,6 +434,29 @@ def test_a_server_that_ends_again_and_again_ends_the_core(config: Config) -> Non
     run(work())
 
 
+def test_an_end_while_the_record_is_played_waits_for_no_server(
+    config: Config, monkeypatch: pytest.MonkeyPatch
+) -> None:
+    """As one that waits for a reader of its answers."""
+
+    async def work() -> None:
+        playing = asyncio.Event()
+
+        async def stuck(server: Server, *_: object) -> None:
+            os.kill(server.pid, signal.SIGSTOP)
+            playing.set()
+            await asyncio.Event().wait()
+
+        monkeypatch.setattr(link, "play", stuck)
+        starting = asyncio.create_task(Core.start(config))
+        await playing.wait()
+        starting.cancel()
+        await asyncio.gather(starting, return_exceptions=True)
+        assert starting.cancelled()
+
+    run(work())
+
+
 def test_of_an_order_in_the_record_it_isnt_said_that_it_wasnt_taken(config: Config) -> None:
     """With it the next start goes on."""
 
@@ -404,6 +474,21 @@ def test_of_an_order_in_the_record_it_isnt_said_that_it_wasnt_taken(config: Conf
             await asked
         with pytest.raises(GatewayFault, match="SIGKILL$"):
             await working
+
+    run(work())
+
+
+def test_where_no_moment_is_known_samples_are_not_waited_for(alarmd: Path, tmp_path: Path) -> None:
+    """As at the end of an input at which nobody can answer any more."""
+
+    async def work() -> None:
+        config = config_for(alarmd, plant_copy("tank", tmp_path, "2399-01-01T00:00:00Z"))
+        async with served(config) as core:
+            await give(core, level=100)
+            waiting = asyncio.create_task(core.order(Order(Verb.ACK, 1, "LAL-101")))
+            await asyncio.sleep(0)
+            await core.drain()
+            assert (await waiting).code == "O3" and not core.state.scanned
 
     run(work())
 
@@ -525,6 +610,28 @@ def test_a_disk_that_hangs_under_a_remark_is_told(
         run(work())
     finally:
         door.set()
+
+
+def test_a_record_that_is_moved_is_told_and_goes_on(config: Config) -> None:
+    async def work() -> None:
+        async with served(config) as core:
+            await busy(core)
+            os.rename(config.record, f"{config.record}.old")
+            for other in (False, True):
+                if other:  # another file takes its name
+                    config.record.touch()
+                await until(lambda: TroubleKind.RECORD in kinds(core))
+                before, old = core.state.events, core.journal
+                os.kill(server_pid(), signal.SIGKILL)
+                await until(lambda: core.journal is not old and core.state.events > before)
+                assert (await core.order(Order(Verb.ACK, 1, "NONE"))).code == "O1"
+                with pytest.raises(GatewayFault, match="isn't the record any more"):
+                    await core._link._log.succeed([])
+            os.rename(f"{config.record}.old", config.record)
+            await until(lambda: TroubleKind.RECORD not in kinds(core))
+        assert by_core(core) == by_record(config)
+
+    run(work())
 
 
 def test_a_server_is_not_started_again_with_other_files(config: Config) -> None:

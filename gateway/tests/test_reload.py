@@ -321,6 +321,27 @@ def test_a_server_that_takes_the_texts_as_lines_is_ended_at_once(
     run(work())
 
 
+def test_of_a_plant_that_was_not_recorded_it_is_said_that_it_was_not_taken_up(
+    config: Config,
+) -> None:
+    async def work() -> None:
+        core = await Core.start(dataclasses.replace(config, restarts=0, period_ms=3_600_000))
+        working = asyncio.create_task(core.run())
+        await alarm(core)
+        pid = core._link._server.pid
+        os.kill(pid, signal.SIGSTOP)
+        asked = asyncio.create_task(reload(core, Small(30)))
+        await until(lambda: not core._jobs and len(asyncio.all_tasks()) > 3)
+        os.kill(pid, signal.SIGKILL)
+        with pytest.raises(ServerGone, match="so the plant wasn't taken up"):
+            await asked
+        with pytest.raises(GatewayFault):
+            await working
+        assert b"\nreload" not in config.record.read_bytes()
+
+    run(work())
+
+
 def test_a_server_that_is_killed_is_started_with_the_first_plant(config: Config) -> None:
     async def work() -> None:
         async with served(config) as core:

@@ -14,12 +14,13 @@ from around import config_for, plant_copy, until, without_programs
 from test_core import busy, give, served
 
 from alarmd_gateway import core as cores
+from alarmd_gateway import plant as plants
 from alarmd_gateway import rotation
 from alarmd_gateway.changes import ChangeKind
 from alarmd_gateway.config import Config
 from alarmd_gateway.core import Core, Question
 from alarmd_gateway.model import Code, Order, Verb
-from alarmd_gateway.record import FileRecord
+from alarmd_gateway.record import FileRecord, head_sums
 from alarmd_gateway.troubles import TroubleKind
 
 
@@ -209,14 +210,43 @@ def test_a_new_record_that_cannot_be_written(config: Config) -> None:
 
 @pytest.mark.server
 def test_no_new_record_begins_with_other_files(config: Config) -> None:
+    """But with what is served, which is kept beside the record where the files are others by now."""
+
     async def work() -> None:
         async with served(config) as core:
             await give(core, running=1, level=400, flow=100)
             question = await asked(core)
-            (config.plant.parent / "watch.st").write_text("PROGRAM watch END_PROGRAM")
+            watch = config.plant.parent / "watch.st"
+            text = watch.read_bytes()
+            watch.write_text("PROGRAM watch END_PROGRAM")
+            await core.answer(question.number, True, 1)
+            await until(Path(f"{config.record}.1").exists)
+            await until(lambda: core.state.events in range(3, 40))
+            assert not any(one.kind is TroubleKind.RECORD for one in core.troubles)
+            (kept,) = Path(f"{config.record}.plants").iterdir()
+            assert (kept / "watch.st").read_bytes() == text
+        assert head_sums(config.record) == head_sums(Path(f"{config.record}.1"))
+        async with served(config) as core:
+            assert core.state.inputs["level"] == 400 and core.state.events < 50
+            assert core.plant.path.parent == kept
+
+    run(work())
+
+
+@pytest.mark.server
+def test_what_can_neither_be_kept_nor_read_begins_no_new_record(config: Config) -> None:
+    folder = config.plant.parent
+    os.rename(folder / "watch.st", folder.parent / "watch.st")
+    config.plant.write_text(config.plant.read_text().replace("watch.st", "../watch.st"))
+
+    async def work() -> None:
+        async with served(config) as core:
+            await give(core, running=1, level=400, flow=100)
+            question = await asked(core)
+            (folder.parent / "watch.st").write_text("PROGRAM watch END_PROGRAM")
             await core.answer(question.number, True, 1)
             await until(lambda: any(one.kind is TroubleKind.RECORD for one in core.troubles))
-            assert any("watch.st has changed" in one.text for one in core.troubles)
+            assert any("outside of its folder" in one.text for one in core.troubles)
             events = core.state.events
             await until(lambda: core.state.events > events + 3)
         assert not Path(f"{config.record}.1").exists()
@@ -224,11 +254,35 @@ def test_no_new_record_begins_with_other_files(config: Config) -> None:
     run(work())
 
 
+@pytest.mark.server
+def test_a_full_history_and_a_changed_plant(
+    config: Config, tmp_path: Path, monkeypatch: pytest.MonkeyPatch
+) -> None:
+    """First the new record, with what is served, then the plant."""
+
+    async def work() -> None:
+        for module in (cores, rotation):
+            monkeypatch.setattr(module, "MOST_EVENTS", 60)
+        async with served(config) as core:
+            await give(core, running=1, level=400, flow=100)
+            await until(lambda: core.state.events == 60)
+            alarms = config.plant.parent / "alarms.csv"
+            alarms.write_text(alarms.read_text().replace("Tank level low", "Low"))
+            question = await asked(core)
+            await core.answer(question.number, True, 1)
+            await until(lambda: core.state.events in range(1, 40))
+            reply = await core.reload(plants.texts_of(config.plant))
+            assert reply.lines[0].startswith("RELOADED KEPT")
+            assert core.state.by_tag["LAL-101"].row.text == "Low"
+        async with served(config) as core:
+            assert core.state.by_tag["LAL-101"].row.text == "Low"
+
+    run(work())
+
+
 def test_a_record_that_was_being_kept_when_the_gateway_ended(
     config: Config, tmp_path: Path
 ) -> None:
-    from alarmd_gateway import plant as plants
-
     record = FileRecord(config.record, plants.read(config.plant))
     os.link(config.record, f"{config.record}.1")  # so far it came; the name is taken again
     Path(f"{config.record}.new").write_text("torn")

@@ -9,6 +9,7 @@ import resource
 import shutil
 import signal
 import subprocess
+import sys
 import time
 from pathlib import Path
 
@@ -168,6 +169,105 @@ def test_a_signal_ends_in_order(config: Path, number: signal.Signals) -> None:
     assert (config.parent / "record").read_bytes().endswith(b"\n")
 
 
+def test_under_nohup_a_terminal_may_close(config: Path) -> None:
+    words = ["nohup", str(ROOT / "gateway" / "gateway"), "serve", str(config)]
+    pipe = subprocess.PIPE
+    with subprocess.Popen(words, stdin=pipe, stdout=pipe, stderr=subprocess.DEVNULL) as process:
+        assert process.stdin is not None and process.stdout is not None
+        process.stdin.write(b"running=TRUE level=250\n")
+        process.stdin.flush()
+        assert process.stdout.readline()
+        process.send_signal(signal.SIGHUP)
+        record = config.parent / "record"
+        size, end = record.stat().st_size, time.monotonic() + LIMIT
+        while record.stat().st_size < size + 300:  # scans go on
+            assert process.poll() is None and time.monotonic() < end
+            time.sleep(0.05)
+        process.terminate()
+        assert process.wait(LIMIT) == 0
+
+
+BACKGROUND = """
+import os, subprocess, sys, time
+process = subprocess.Popen(sys.argv[1:], process_group=0, stderr=subprocess.DEVNULL)
+def record():
+    try:
+        return os.path.getsize("record")
+    except OSError:
+        return 0
+with open("fifo", "w") as fifo:
+    fifo.write("running=TRUE level=250\\n")
+size = record()
+while record() < size + 1000:  # it goes on in the background
+    time.sleep(0.05)
+os.tcsetpgrp(0, process.pid)
+process.wait()
+print("status", process.returncode, flush=True)
+"""
+
+
+def test_in_the_background_of_a_terminal_it_goes_on(config: Path) -> None:
+    config.write_text(f'{config.read_text()}[fields]\nmap = "map.toml"\n')
+    (config.parent / "map.toml").write_text('[[lines]]\nname = "fifo"\npath = "fifo"\n')
+    os.mkfifo(config.parent / "fifo")
+    words = [sys.executable, "-c", BACKGROUND, str(ROOT / "gateway" / "gateway"), "serve"]
+    pid, ours = pty.fork()
+    if pid == 0:
+        signal.signal(signal.SIGTTOU, signal.SIG_IGN)
+        os.chdir(config.parent)
+        os.execv(words[0], [*words, str(config)])
+    os.write(ours, b"help\n")
+    shown = b""
+    while b"# help" not in shown:  # once it is in the foreground
+        shown += os.read(ours, 1000)
+    os.write(ours, b"\x03")
+    while b"status 0" not in shown:
+        shown += os.read(ours, 1000)
+    os.close(ours)
+    os.waitpid(pid, 0)
+
+
+def test_whoever_ignores_the_ends_of_processes_hears_of_them(config: Path, plant: Path) -> None:
+    plant.write_text("[")
+    for word in ("serve", "check"):
+        done = subprocess.run(
+            [sys.executable, "-m", "alarmd_gateway", word, str(config)],
+            cwd=ROOT / "gateway",
+            timeout=LIMIT,
+            capture_output=True,
+            check=False,
+            preexec_fn=lambda: signal.signal(signal.SIGCHLD, signal.SIG_IGN),
+        )
+        assert done.returncode == 3, done.stderr
+
+
+@pytest.mark.parametrize("words", ["state", "journal --csv", "check", "help"])
+def test_answers_to_a_full_disk(config: Path, words: str) -> None:
+    assert run(config, "running=TRUE level=250\n")[0] == 0
+    word, *more = words.split()
+    named = [] if word == "help" else [str(config)]
+    command = [str(ROOT / "gateway" / "gateway"), word, *named, *more]
+    with open("/dev/full", "wb") as full:
+        done = subprocess.run(command, stdout=full, stderr=-1, timeout=LIMIT, check=False)
+    told = done.stderr.decode()
+    assert (done.returncode, told) == (1, "SERVER standard output: No space left on device\n")
+
+
+def test_answers_in_another_character_set(config: Path, plant: Path) -> None:
+    alarms = plant.parent / "alarms.csv"
+    alarms.write_text(alarms.read_text().replace("Tank level low", "Füllstand \u2264 300"))
+    assert run(config, "running=TRUE level=250\n")[0] == 0
+    done = subprocess.run(
+        [ROOT / "gateway" / "gateway", "state", config],
+        env={**os.environ, "PYTHONIOENCODING": "latin1"},
+        capture_output=True,
+        timeout=LIMIT,
+        check=False,
+    )
+    assert (done.returncode, done.stderr) == (0, b"")
+    assert b"F\xfcllstand \\u2264 300" in done.stdout
+
+
 def test_what_a_source_has_brought_is_scanned_before_the_end(config: Path) -> None:
     config.write_text(config.read_text().replace("period_ms = 50", "period_ms = 3600000"))
     config.write_text(f'{config.read_text()}[fields]\nmap = "map.toml"\n')
@@ -235,6 +335,33 @@ def test_output_to_a_full_disk(config: Path) -> None:
         gateway.give("help\n")
         assert gateway.wait() == 1
     assert gateway.err == ["SERVER standard output: No space left on device"]
+
+
+def test_descriptors_that_do_not_wait(config: Path) -> None:
+    """As those that another process has set so, with which it shares them."""
+    read_in, write_in = os.pipe()
+    read_out, write_out = os.pipe()
+    for descriptor in (read_in, write_out):
+        os.set_blocking(descriptor, False)
+    words = [str(ROOT / "gateway" / "gateway"), "serve", str(config)]
+    with subprocess.Popen(words, stdin=read_in, stdout=write_out, stderr=subprocess.DEVNULL) as it:
+        os.close(read_in)
+        os.close(write_out)
+        os.write(write_in, b"running=TRUE level=250\n")
+        with open(read_out, "rb") as lines:
+            while b"OUT" not in lines.readline():
+                pass
+            os.write(write_in, b"help\n" * 8000)  # answers are more than a pipe holds
+            end = time.monotonic() + LIMIT
+            size = (config.parent / "record").stat().st_size
+            while (config.parent / "record").stat().st_size < size + 300:
+                assert it.poll() is None and time.monotonic() < end
+                time.sleep(0.05)
+            for _ in range(8000):
+                while lines.readline() != b"# help\n":
+                    assert it.poll() is None
+            os.close(write_in)
+        assert it.wait(LIMIT) == 0
 
 
 def limited(config: Path, size: int) -> subprocess.CompletedProcess[bytes]:
@@ -367,6 +494,36 @@ def test_two_gateways_with_one_record(config: Path) -> None:
     assert "another gateway has the record" in err[0]
     first.end_input()
     assert first.wait() == 0
+
+
+def test_a_record_with_the_line_ends_of_another_system(config: Path) -> None:
+    text = "running=TRUE level=250\nack 1 LAL-101\nshelve 1 LAL-101 60000\n"
+    assert run(config, text)[0] == 0
+    record = config.parent / "record"
+    record.write_bytes(record.read_bytes().replace(b"\n", b"\r\n"))
+    status, out, err = run(config, "list\n")
+    assert status == 0 and any("LAL-101 " in line and " SHELVED" in line for line in out), err
+
+
+def test_a_link_to_the_record(config: Path) -> None:
+    """A new record takes the name where the old one lies, and by either name one gateway has it."""
+    text = f"rotate_at = 30\n{config.read_text()}"
+    config.write_text(text)
+    (config.parent / "disk").mkdir()
+    (config.parent / "record").symlink_to("disk/kept")
+    (config.parent / "other.toml").write_text(text.replace('"record"', '"disk/kept"'))
+    gateway = Gateway(config)
+    gateway.give("running=1 level=250 flow=100\n")
+    gateway.wait_for("question 1")
+    gateway.give("yes\n")
+    gateway.wait_for("a new record has begun", gateway.err)
+    names = sorted(path.name for path in (config.parent / "disk").iterdir())
+    assert names == ["kept", "kept.1", "kept.socket"]
+    assert (config.parent / "record").is_symlink()
+    status, _, err = run(config.parent / "other.toml", "")
+    assert status == 2 and "another gateway has the record" in err[0]
+    gateway.process.terminate()
+    assert gateway.wait() == 0
 
 
 def test_an_epoch_in_the_future_is_asked_about(alarmd: Path, tmp_path: Path) -> None:
