@@ -102,7 +102,7 @@ def test_what_is_taken(certificate: Path) -> None:
         ({"certificate": "page.pem"}, "belong together"),
         ({"certificate": "none.pem", "key": "page.key"}, "No such file"),
         ({"certificate": "users.toml", "key": "page.key"}, "certificate"),
-        ({"certificate": "a\0b", "key": "page.key"}, "null byte"),
+        ({"certificate": "a\0b", "key": "page.key"}, "no path has a byte 0"),
         ({"certificate": "page.pem", "key": "page.pem"}, "certificate"),
         ({"metrics_token": ""}, "metrics_token is empty"),
         ({"metrics_token": " "}, "can't be brought in a header"),
