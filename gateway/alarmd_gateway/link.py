@@ -223,6 +223,20 @@ class Link:
             raise GatewayFault(words, 1) from None
         self._log.moved(self._first)
 
+    async def _stand(self) -> None:
+        """Has the plant with which the record begins where a server can read it: beside the record, once its own files are others. Raises
+        GatewayFault where it can't be kept there."""
+        try:
+            self._log.check()
+        except GatewayFault as changed:
+            if self._first.path != self._config.plant:
+                raise  # it was kept, and isn't what it was
+            try:
+                await self.keep_first()
+            except GatewayFault as fault:
+                raise GatewayFault(f"{changed.words}, and {fault.words}", fault.status) from None
+            tell("the plant's files have changed: what is served is kept beside the record")
+
     async def keep_first_or_tell(self) -> None:
         """The same; where it can't be kept, that is told, and a later start may lack it."""
         try:
@@ -234,12 +248,7 @@ class Link:
         """The plant with which a new record begins, the one that is served now, with its files where a server can read them. Raises
         GatewayFault."""
         if self.plant.texts == self._first.texts:
-            try:
-                self._log.check()
-            except (
-                GatewayFault
-            ):  # the files are being changed: what is served stands beside the record
-                await self.keep_first()
+            await self._stand()
             return self._first
         try:
             return await asyncio.to_thread(kept.keep, self._config.record, self.plant)
@@ -262,7 +271,7 @@ class Link:
 
     async def _again(self, gone: ServerGone) -> Taken | None:
         """Starts the server again, and plays the record; its last command is handed back. Raises ServerGone when that was tried
-        as often in a row as is set, and GatewayFault where another start can't help: the plant's files have changed.
+        as often in a row as is set, and GatewayFault where another start can't help: the plant's files have changed, and can't be kept.
         """
         while True:
             self._starts += 1
@@ -273,6 +282,7 @@ class Link:
             self.troubles.raises(TroubleKind.SERVER, "", words)
             await self._server.kill()
             try:
+                await self._stand()
                 self._server = await start_server(self._config, self._first.path)
                 self._log.check()
                 self.book, held = await play(self._server, self._first, self._log.replay())

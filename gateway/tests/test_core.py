@@ -634,16 +634,44 @@ def test_a_record_that_is_moved_is_told_and_goes_on(config: Config) -> None:
     run(work())
 
 
+def test_a_server_is_started_again_with_what_was_served(config: Config) -> None:
+    """Also where the plant's files have changed by then, as those of an engineer who will ask for a reload."""
+    control = config.plant.parent / "control.st"
+    text = control.read_bytes()
+
+    async def work() -> None:
+        async with served(config) as core:
+            await give(core, running=1, level=100)
+            await core.drain()
+            control.write_text("PROGRAM half")
+            for _ in range(2):
+                before, old = core.state.events, core.journal
+                os.kill(server_pid(), signal.SIGKILL)
+                await until(lambda: core.journal is not old and core.state.events > before)
+                assert core.state.inputs["level"] == 100
+            (kept,) = Path(f"{config.record}.plants").iterdir()
+            assert (kept / "control.st").read_bytes() == text
+        async with served(config) as core:  # and so is a gateway
+            assert core.state.inputs["level"] == 100
+
+    run(work())
+
+
 def test_a_server_is_not_started_again_with_other_files(config: Config) -> None:
+    folder = config.plant.parent
+    os.rename(folder / "control.st", folder.parent / "control.st")  # outside it can't be kept
+    config.plant.write_text(config.plant.read_text().replace("control.st", "../control.st"))
+
     async def work() -> None:
         core = await Core.start(config)
         working = asyncio.create_task(core.run())
         await give(core, running=1, level=100)
         await core.drain()
-        with open(config.plant.parent / "control.st", "a") as file:
+        with open(folder.parent / "control.st", "a") as file:
             file.write("\n")
         os.kill(server_pid(), signal.SIGKILL)
-        with pytest.raises(GatewayFault, match="control.st has changed since it began") as fault:
+        told = "control.st has changed since it began.*outside of its folder"
+        with pytest.raises(GatewayFault, match=told) as fault:
             await working
         assert fault.value.status == 2
 
