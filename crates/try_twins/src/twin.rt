@@ -1,10 +1,11 @@
 ghost use Rattle.std.specs.Prelude.{◌≡◌, ◌<◌, length, IfOk, OnOk, OnErr};
 ghost use Rattle.vm_logic.specs.Runs.{HasCells};
 
+use level_scans::carry_store;
 use logic_cells::{Cells, Clock};
+use slice_store::Store;
 use std::alloc::{AllocError, Global};
 use try_walks::Walker;
-use vm_carry::carry;
 use vm_logic::{Framed, Stack, Walked, run, standing_cells_are_there};
 
 /// Cells for each of the two ways in which the programs of a source run, and memory for the runs.
@@ -43,13 +44,14 @@ fn show_alike(one: &[Clock], other: &[Clock]) -> bool {
     true
 }
 
-/// The cells of another source, by those of an old one: what is in both goes over. Where there aren't as many as before its first scan, those of
-/// that.
+/// The cells of another source, by those of an old one, by way of a store of them: what is in both goes over. Where there aren't as many as before its
+/// first scan, those of that.
 fn carried(alloc: Global, old: &Framed, cells: &Cells, new: &Framed) -> Result<Cells, AllocError>
     ensures { IfOk result (HasCells new.now) }
 {
     standing_cells_are_there();
-    let after = carry(alloc, old, cells, new)?;
+    let store = Store::new(alloc, cells, &[], 0)?;
+    let (after, _) = carry_store(alloc, old, &store, new)?.into_parts();
     let opening = new.opening(alloc)?;
     if after.as_slice().len() == opening.as_slice().len()
         && after.clocks().len() == opening.clocks().len()
