@@ -5,9 +5,11 @@ from __future__ import annotations
 import asyncio
 import logging
 import resource
+import sys
 from collections import Counter
 from collections.abc import Mapping
 from contextlib import suppress
+from socket import IPPROTO_TCP, TCP_INFO
 from typing import cast
 
 from aiohttp import web
@@ -16,6 +18,7 @@ from aiohttp.web_protocol import RequestHandler
 FIRST_REQUEST = 20.0  # seconds in which a connection has to bring a whole request
 IDLE = 75.0  # seconds that a connection may rest between two requests
 STUCK = 60.0  # seconds in which some of an answer has to leave
+BYTES_ACKED = 120  # bytes before `tcpi_bytes_acked` in Linux's `struct tcp_info`
 LONGEST_LINE = 8190  # bytes of a request's first line, or of a header
 MOST_AHEAD = 100  # requests that may wait behind one that is under way; browsers send none ahead
 
@@ -33,6 +36,14 @@ def more_descriptors() -> None:
     if soft != resource.RLIM_INFINITY and soft < wanted:
         with suppress(ValueError, OSError):
             resource.setrlimit(resource.RLIMIT_NOFILE, (wanted, hard))
+
+
+def taken_of(transport: asyncio.BaseTransport) -> int:
+    """How many bytes of a connection the machine at its other end has taken. What waits in this process may be the same for minutes
+    though that one reads: the kernel wants more of it only once it is rid of a third of what it has, which can be a megabyte.
+    """
+    told = transport.get_extra_info("socket").getsockopt(IPPROTO_TCP, TCP_INFO, BYTES_ACKED + 8)
+    return int.from_bytes(told[BYTES_ACKED:], sys.byteorder)
 
 
 class Limit:
@@ -141,14 +152,14 @@ class Connection(RequestHandler):
         return response
 
     def _look(self, before: int | None) -> None:
-        """Ends the connection where none of what waited `before`, in bytes, has left; else looks again in a while."""
+        """Ends the connection where its other end has taken nothing beyond `before`, in bytes; else looks again in a while."""
         if self.transport is None:
             return
-        waits = self.transport.get_write_buffer_size()
-        if before is not None and waits >= before:
+        taken = taken_of(self.transport)
+        if taken == before:
             self.transport.abort()
         else:
-            self._stuck = asyncio.get_running_loop().call_later(STUCK, self._look, waits)
+            self._stuck = asyncio.get_running_loop().call_later(STUCK, self._look, taken)
 
     def _late(self, transport: asyncio.Transport) -> None:
         if not self.served:

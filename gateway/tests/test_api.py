@@ -13,6 +13,7 @@ import time
 from collections.abc import Callable, Iterator
 from concurrent.futures import ThreadPoolExecutor
 from datetime import datetime, timezone
+from typing import cast
 
 import pytest
 from fake_core import FakeCore, fake_plant
@@ -765,6 +766,38 @@ def test_who_reads_no_answer_is_closed(monkeypatch: pytest.MonkeyPatch) -> None:
         assert channel.recv(100)
         wait_until(lambda: len(site.web.limit) == 0)
         assert Client(site.url).ask("/api/plant").status == 200
+
+
+def test_who_reads_slowly_isnt_closed(monkeypatch: pytest.MonkeyPatch) -> None:
+    """What waits in the gateway stays the same for long: the kernel takes more only once it is rid of a third of what it has."""
+    monkeypatch.setattr(connections, "STUCK", 1000.0)
+    asked = b"GET /api/plant HTTP/1.1\r\nHost: localhost\r\n\r\n"
+    with served(FakeCore(fake_plant(20_000))) as site, socket.socket() as channel:
+        channel.setsockopt(socket.SOL_SOCKET, socket.SO_RCVBUF, 65_536)
+        channel.connect(("127.0.0.1", site.web.port))
+        channel.sendall(asked * 20)
+        assert site.web._runner is not None and site.web._runner.server is not None
+        wait_until(lambda: len(site.web.limit) == 1)
+        one = cast(connections.Connection, site.web._runner.server.connections[0])
+
+        def taken() -> int:
+            assert one.transport is not None
+            return connections.taken_of(one.transport)
+
+        def later() -> bool:
+            """What is looked at when the time is over; says whether the connection stands still."""
+            assert one._stuck is not None
+            one._look(*one._stuck._args)
+            return one.transport is not None and not one.transport.is_closing()
+
+        wait_until(lambda: one._stuck is not None)
+        for _ in range(5):
+            before = site.do(taken)
+            while site.do(taken) == before:
+                assert channel.recv(4096)
+            assert site.do(later)
+        wait_until(lambda: not site.do(later))  # who reads no more
+        wait_until(lambda: len(site.web.limit) == 0)
 
 
 def test_the_limit_of_connections() -> None:

@@ -741,6 +741,7 @@ def test_before_all_that_stands_is_there_nothing_looks_live(
 
 
 WHOLE: dict[str, Any] = {"width": 1280, "height": 800, "deviceScaleFactor": 1}
+COME_AGAIN = "A1: not acknowledged, it has come again since it was read"
 PRESS = "document.dispatchEvent(new KeyboardEvent('keydown', { key: 'v', bubbles: true }))"
 
 
@@ -865,6 +866,29 @@ def test_an_alarm_that_comes_again_is_to_be_read_anew(site: Served, page: Page) 
     time.sleep(0.5)
     page.keys("v")
     until(lambda: ("A4", "ACKED") in page.rows())
+
+
+@pytest.mark.parametrize("key, told", [("v", "2 acknowledged"), ("a", COME_AGAIN)])
+def test_what_has_come_and_isnt_drawn_yet_isnt_read(
+    site: Served, page: Page, key: str, told: str
+) -> None:
+    """As where the browser has much to do. No frame comes here at all."""
+    page.choose("A1")
+    time.sleep(0.5)  # until the rows have been there for long enough
+    page.run(
+        "const { setTimeout, JSON: { parse } } = window;"
+        "window.requestAnimationFrame = () => 0;"
+        "window.setTimeout = (act, ms) => (ms === 250 ? 0 : setTimeout(act, ms));"
+        "window.heard = [];"
+        "JSON.parse = (text) => { window.heard.push(text); return parse(text); }"
+    )
+    site.do(lambda: site.core.scan(62_000, {"A1": Code.RTNUN}))
+    site.do(lambda: site.core.scan(63_000, {"A1": Code.UNACK}))
+    until(lambda: page.run("return window.heard.some((one) => one.includes('\"since\":63000'))"))
+    page.keys(key)
+    until(lambda: page.text("#message") == told)
+    assert site.do(lambda: site.core.state.by_tag["A1"].code) is Code.UNACK
+    page.faults()  # the browser tells of a 409
 
 
 def test_what_comes_again_while_others_are_acknowledged_is_to_be_read(

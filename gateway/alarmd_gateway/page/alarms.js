@@ -96,6 +96,7 @@ export class AlarmScreen {
 
   refresh() {
     const alarm = this.list.current();
+    this.read = alarm ? seenOf(alarm) : {}; // up to when it is read where it is acknowledged: as it is told of here, whatever comes behind that
     for (const [verb, button] of this.buttons) button.disabled = !this.store.live || !takes(verb, alarm);
     setText(this.subject, alarm ? `${alarm.tag}  ${alarm.text}` : "");
     setText(this.details, alarm ? this.tellOf(alarm) : "No alarm is selected: arrow keys, or a click.");
@@ -136,7 +137,7 @@ export class AlarmScreen {
 
   async give(verb, alarm) {
     const asks = ACTIONS[verb][2];
-    const given = asks ? await asks(alarm) : verb === "ack" ? seenOf(alarm) : {};
+    const given = asks ? await asks(alarm) : verb === "ack" ? this.read : {};
     if (given) await order(this.store, verb, alarm.tag, given);
   }
 

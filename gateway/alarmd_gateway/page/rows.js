@@ -153,15 +153,17 @@ export class VirtualList {
     return this.selected === null ? undefined : this.item(this.selected);
   }
 
-  // The items whose rows are wholly seen, and have been so for at least so many ms, with what they tell.
+  // The items whose rows are wholly seen, and have been so for at least so many ms, with what they tell. One that has changed since it was
+  // drawn isn't seen as it is.
   seen(age = 0) {
     const now = performance.now();
     const sight = this.sight();
     return [...this.drawn.values()]
       .filter((row) => this.whole(row, sight) && row.since !== null && now - row.since >= age)
       .sort((a, b) => a.place - b.place)
-      .map((row) => this.items[row.place])
-      .filter((item) => item !== undefined);
+      .map((row) => [row, this.items[row.place]])
+      .filter(([row, item]) => item !== undefined && this.told(item) === row.told)
+      .map(([, item]) => item);
   }
 
   onKey(event) {
