@@ -108,12 +108,14 @@ class _Serving:
 
     async def run(self, stop: asyncio.Event) -> None:
         """Serves until the core ends, or it is to stop."""
+        self._core.ready = "simulate" not in self._config.tables
         working = asyncio.create_task(self._core.run())
         showing = asyncio.create_task(self._console.show())
         self._console.show_last(self._core.last)
         tasks: list[asyncio.Task[Any]] = [showing]
         try:
             await self._attach()
+            self._core.ready = True
             await self._reloading.start()
             self._ask()
             if self._reads_input():
