@@ -66,7 +66,8 @@ async def serve(config: Config) -> None:
     for number in (signal.SIGTERM, signal.SIGINT, signal.SIGHUP):
         if number != signal.SIGHUP or signal.getsignal(number) != signal.SIG_IGN:  # as by nohup
             loop.add_signal_handler(number, stop.set)
-    signal.signal(signal.SIGTTIN, signal.SIG_IGN)  # in the background a terminal isn't read
+    for number in (signal.SIGTTIN, signal.SIGTTOU):
+        signal.signal(number, signal.SIG_IGN)  # a terminal stops nothing that is in its background
     starting = asyncio.create_task(_core(config))
     if not await _first(starting, stop):  # the record is still played
         starting.cancel()
