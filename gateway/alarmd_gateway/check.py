@@ -18,7 +18,7 @@ from .link import tell
 from .log_view import newest_copy
 from .map_file import of_config
 from .model import GatewayFault, Plant
-from .record import LONGEST_HEAD, judge_head, unbegun
+from .record import LONGEST_HEAD, judge_head, judge_log, log_of, unbegun
 from .reloading import judge_place, socket_path
 from .shared_config import shared_config
 from .simulate import model_path, read_model
@@ -42,7 +42,7 @@ def check(config: Config) -> list[str]:
     record = _record(config)
     first = beginning(config.plant, record, config.record)
     told = [_accepted(config, first)]
-    plant = _served(plants.read(first), record)
+    plant = _served(plants.read(first), record, "etcd" in config.tables)
     if (model := model_path(config)) is not None:
         told.append(accepted(config, model))
         read_model(model, plant)
@@ -111,18 +111,21 @@ def _record(config: Config) -> Path:
     return newest_copy(config.record)
 
 
-def _served(first: Plant, record: Path) -> Plant:
+def _served(first: Plant, record: Path, shared: bool) -> Plant:
     """The plant that a start would serve. `first` is the one with which the record would have to begin. Of reloads in the record those
     count that no `alarmd` refuses: of the same consoles and the same epoch. Raises GatewayFault (status 2) where a record is there that
-    can't be read, or is of another plant."""
+    can't be read, is of another plant, or is a copy of a `shared` log where there is none, or the other way round.
+    """
     try:
         with open(record, "rb", buffering=1 << 20) as file:
             if unbegun(line := file.readline(LONGEST_HEAD)):
                 return first  # the next start begins it
-            judge_head(line.decode("utf-8", "replace").rstrip("\n"), first, record)
+            head = line.decode("utf-8", "replace").rstrip("\n")
+            judge_head(head, first, record)
+            judge_log((log_of(head) is not None) == shared, shared, record)
             plant = first
-            for head, body in walk(file):
-                plant = _taken_up(plant, head, body) if body else plant
+            for words, body in walk(file):
+                plant = _taken_up(plant, words, body) if body else plant
             return plant
     except FileNotFoundError as fault:
         if record.parent.is_dir():

@@ -59,6 +59,7 @@ class Core:
     start of the server: don't keep them."""
 
     leads = True  # whether it scans, takes samples and writes outputs; else another gateway does
+    ready = True  # whether scans may come: not before the model of a simulation is there
     look_seconds = LOOK_SECONDS
     disturbances: Disturbances | None = None  # of a simulation
     before_scan: Callable[[int], Awaitable[None]] | None = None  # told of its moment
@@ -265,7 +266,7 @@ class Core:
 
     def _may_scan(self) -> bool:
         """Whether a scan may be sent: the first one of all waits for samples, and no moment is in doubt."""
-        if not self._clock.started or self._full:
+        if not (self.ready and self._clock.started) or self._full:
             return False
         return self.state.scanned or len(self._queue) > 0
 

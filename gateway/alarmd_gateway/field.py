@@ -3,6 +3,7 @@
 from __future__ import annotations
 
 import asyncio
+import contextlib
 import time
 from collections.abc import AsyncIterator, Callable
 
@@ -23,6 +24,7 @@ from .troubles import TroubleKind
 MAP = "the map"  # the subject of its trouble
 LAST_SECONDS = 2.0  # for the answers to lines at the end
 CHECK_SECONDS = 0.25  # between two looks at the ages of samples
+MAP_SECONDS = 5.0  # between two looks at a map that doesn't fit
 
 
 class Field:
@@ -40,12 +42,13 @@ class Field:
         self._outputs = {one.name.lower(): one for one in map.outputs()}
         core.sampled = self._sampled
         self._left_out = False  # whether an output wasn't written that is to be, once it may
+        self._another = asyncio.Event()  # another plant may have been taken up
         self._operator = Operator(core) if map.lines else None
         self._sources = sources(map, self._intake, self._operator)
         for source in self._sources:
             source.may_write = self._may_write
         running = [source.run(self._current) for source in self._sources]
-        watches = [self._watch_outputs(), self._watch_samples()]
+        watches = [self._watch_outputs(), self._watch_samples(), self._watch_map()]
         self._tasks = [asyncio.create_task(one) for one in (*running, *watches)]
 
     async def close(self) -> None:
@@ -96,11 +99,11 @@ class Field:
                             self._put(*mapped)
                     elif change.kind in (ChangeKind.ANEW, ChangeKind.RELOADED):
                         if change.kind is ChangeKind.RELOADED:
-                            self._judge()
+                            self._another.set()
                         self._put_all()
                 return  # the core has closed
             except CutOff:
-                self._judge()
+                self._another.set()
             finally:
                 changes.close()
 
@@ -110,15 +113,26 @@ class Field:
         for name, value in self._current().items():
             self._put(name, value)
 
-    def _judge(self) -> None:
-        """Tells where the plant that was taken up couldn't be started again with the map: that is seen now, and not after a crash."""
+    async def _watch_map(self) -> None:
+        """Judges the map with each plant that is taken up, and one that doesn't fit again and again: somebody may mend it."""
+        fits = True
+        while True:
+            with contextlib.suppress(asyncio.TimeoutError):
+                await asyncio.wait_for(self._another.wait(), None if fits else MAP_SECONDS)
+            self._another.clear()
+            fits = await self._judge()
+
+    async def _judge(self) -> bool:
+        """Whether the plant that is served could be started again with the map. Where it couldn't, that is told now, and not after a
+        crash. A large map takes a while, in a thread."""
         try:
-            self._fits(self._core.plant)
+            await asyncio.to_thread(self._fits, self._core.plant)
         except GatewayFault as fault:
             words = f"the map isn't one of the plant that is served, and the next start is refused: {fault.words}"
             self._core.troubles.raises(TroubleKind.SOURCE, MAP, words)
-        else:
-            self._core.troubles.clear(TroubleKind.SOURCE, MAP)
+            return False
+        self._core.troubles.clear(TroubleKind.SOURCE, MAP)
+        return True
 
     def _put(self, name: str, value: Value) -> None:
         if not self._may_write():

@@ -157,6 +157,15 @@ class Link:
         )
         self.troubles.raises(TroubleKind.SILENCE, "", words)
 
+    @contextlib.contextmanager
+    def _asking(self) -> Iterator[None]:
+        """While the server is asked. One that is silent is a trouble, until it has answered or is started again."""
+        self._server.late = self._silent
+        try:
+            yield
+        finally:
+            self.troubles.clear(TroubleKind.SILENCE, "")
+
     def _silent(self, seconds: float) -> None:
         words = f"alarmd hasn't answered for {seconds:g} s: nothing is scanned until it does"
         self.troubles.raises(TroubleKind.SILENCE, "", words)
@@ -165,16 +174,14 @@ class Link:
         self, command: Command, user: str | None = None, reason: str | None = None
     ) -> tuple[list[str], list[Happening]]:
         """The same for a command that is the last one of the record already."""
-        self._server.late = self._silent
-        try:
-            answer = await self._server.ask(entry_of(command).asked)
-            taken = Taken(command, answer, user, reason)
-        except ServerGone as gone:
-            played = await self._again(gone)
-            assert played is not None  # the record has the command at least
-            taken = played
-        finally:
-            self.troubles.clear(TroubleKind.SILENCE, "")
+        with self._asking():
+            try:
+                answer = await self._server.ask(entry_of(command).asked)
+                taken = Taken(command, answer, user, reason)
+            except ServerGone as gone:
+                played = await self._again(gone)
+                assert played is not None  # the record has the command at least
+                taken = played
         if isinstance(command, Reload):
             await self._judge_reload(taken.answer)
         self._starts = 0
@@ -196,7 +203,9 @@ class Link:
         try:
             if command.plant is None:
                 await read_reload(self.plant.path, command.texts)
-            if not await self._knows_reload():
+            with self._asking():
+                knows = await self._knows_reload()
+            if not knows:
                 raise NoReload("this alarmd knows no `reload`: it wants a newer one")
             await self.keep_first()
         except ServerGone:

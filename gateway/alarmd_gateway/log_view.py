@@ -108,7 +108,8 @@ def newest_copy(record: Path) -> Path:
 
 def newest_number(record: Path) -> int:
     """The number of that record."""
-    tails = (path.name.removeprefix(f"{record.name}.") for path in record.parent.glob("*"))
+    beside = (path for path in record.parent.glob("*") if path.stem == record.name)
+    tails = (path.suffix[1:] for path in beside)
     numbers = [int(tail) for tail in tails if tail.isascii() and tail.isdigit()]
     return max(numbers, default=1)
 

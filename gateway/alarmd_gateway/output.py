@@ -16,8 +16,20 @@ ROOM: Final = 4_194_304
 ASLEEP_SECONDS: Final = 5.0
 """A reader that has read nothing for so long isn't waited for."""
 
-_WRITING: Final[defaultdict[int, threading.Lock]] = defaultdict(threading.Lock)
-"""By the descriptor: held while lines are written, since several may write to one, and a pipe takes a part of what it is given."""
+PIECE: Final = 65_536
+"""Bytes that are written at once: a reader reads as long as he takes these."""
+
+
+class Way:
+    """What those share who write to one descriptor. `turn` is held while lines are written, since a pipe takes a part of what it is given;
+    `moved` is when the reader has taken something last."""
+
+    def __init__(self) -> None:
+        self.turn = threading.Lock()
+        self.moved = time.monotonic()
+
+
+_WAYS: Final[defaultdict[int, Way]] = defaultdict(Way)
 
 
 class Output:
@@ -31,6 +43,7 @@ class Output:
         broken: Callable[[], object] = lambda: None,
     ) -> None:
         self._descriptor = descriptor
+        self._way = _WAYS[descriptor]
         self._broken = broken
         self._room = room
         self._lines: deque[str] = deque()
@@ -56,7 +69,8 @@ class Output:
     @property
     def crowded(self) -> bool:
         """Whether half of the room is taken while the reader reads: who has many lines waits, so that none is left out."""
-        reads = time.monotonic() < self._moved + ASLEEP_SECONDS and self.fault is None
+        moved = max(self._moved, self._way.moved)
+        reads = time.monotonic() < moved + ASLEEP_SECONDS and self.fault is None
         return reads and self._size > self._room // 2
 
     def _tell_left_out(self) -> None:
@@ -88,11 +102,12 @@ class Output:
 
     def _all(self, data: bytes) -> None:
         self._moved = time.monotonic()
-        with _WRITING[self._descriptor]:
-            while data:
+        left = memoryview(data)
+        with self._way.turn:
+            while left:
                 try:
-                    data = data[os.write(self._descriptor, data) :]
-                    self._moved = time.monotonic()
+                    left = left[os.write(self._descriptor, left[:PIECE]) :]
+                    self._way.moved = time.monotonic()
                 except BlockingIOError:  # whoever shares it has it so that it doesn't wait
                     select.select([], [self._descriptor], [])
 

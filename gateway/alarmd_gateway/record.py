@@ -158,6 +158,18 @@ def judge_head(line: str, plant: Plant, path: Path) -> None:
     _compare(kept, sums(plant))
 
 
+def log_of(line: str) -> str | None:
+    """The shared log of which a record is a copy, by its first line; None where it is none."""
+    return _fields(line.removeprefix(_HEAD)).get("log")
+
+
+def judge_log(fits: bool, shared: bool, path: Path) -> None:
+    """Raises GatewayFault (status 2) where a record doesn't fit what is shared, or isn't."""
+    if not fits:
+        words = "is no copy of this log" if shared else "is a copy of a log that gateways share"
+        raise GatewayFault(f"{path} {words}: keep it elsewhere", 2)
+
+
 def _compare(kept: dict[str, str], now: dict[str, str]) -> None:
     """Raises GatewayFault (status 2) where the sums of the record's files aren't those of the plant's, with what differs."""
     for name in (*now, *kept):
@@ -204,8 +216,7 @@ class FileRecord:
             return
         first = line.decode("utf-8", "replace").rstrip("\n")
         judge_head(first, self._plant, self.path)
-        if _fields(first.removeprefix(_HEAD)).get("log") != self._log:
-            raise GatewayFault(f"{self.path} is no copy of this log: keep it elsewhere", 2)
+        judge_log(log_of(first) == self._log, self._log is not None, self.path)
         cut(self.path, self._file)
 
     def _fault(self, fault: OSError, status: int = 1) -> GatewayFault:

@@ -62,6 +62,7 @@ class Reloading:
         self._core = core
         self._path = socket_path(config)
         self._server: asyncio.Server | None = None
+        self._mine: os.stat_result | None = None  # the socket, once it is there
 
     async def start(self) -> None:
         """Listens. Raises GatewayFault (status 2)."""
@@ -75,6 +76,7 @@ class Reloading:
                     listening.bind(path)
                 finally:
                     os.umask(before)
+            self._mine = os.lstat(self._path)
             self._server = await asyncio.start_unix_server(
                 self._serve, sock=listening, limit=LONGEST_LINE
             )
@@ -83,11 +85,12 @@ class Reloading:
             raise GatewayFault(f"{self._path}: {fault.strerror}", WORDS_STATUS) from None
 
     async def close(self) -> None:
-        """Nobody can ask any more."""
-        if self._server is not None:
+        """Nobody can ask any more. What has the socket's name by now, as that of another gateway, stays."""
+        if self._server is not None and self._mine is not None:
             self._server.close()
             with contextlib.suppress(OSError):
-                self._path.unlink(missing_ok=True)
+                if os.path.samestat(self._mine, os.lstat(self._path)):
+                    self._path.unlink()
 
     async def _serve(self, reader: asyncio.StreamReader, writer: asyncio.StreamWriter) -> None:
         with contextlib.suppress(OSError, ValueError, asyncio.TimeoutError, EOFError):

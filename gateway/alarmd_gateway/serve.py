@@ -66,7 +66,8 @@ async def serve(config: Config) -> None:
     for number in (signal.SIGTERM, signal.SIGINT, signal.SIGHUP):
         if number != signal.SIGHUP or signal.getsignal(number) != signal.SIG_IGN:  # as by nohup
             loop.add_signal_handler(number, stop.set)
-    signal.signal(signal.SIGTTIN, signal.SIG_IGN)  # in the background a terminal isn't read
+    for number in (signal.SIGTTIN, signal.SIGTTOU):
+        signal.signal(number, signal.SIG_IGN)  # a terminal stops nothing that is in its background
     starting = asyncio.create_task(_core(config))
     if not await _first(starting, stop):  # the record is still played
         starting.cancel()
@@ -108,12 +109,14 @@ class _Serving:
 
     async def run(self, stop: asyncio.Event) -> None:
         """Serves until the core ends, or it is to stop."""
+        self._core.ready = "simulate" not in self._config.tables
         working = asyncio.create_task(self._core.run())
         showing = asyncio.create_task(self._console.show())
         self._console.show_last(self._core.last)
         tasks: list[asyncio.Task[Any]] = [showing]
         try:
             await self._attach()
+            self._core.ready = True
             await self._reloading.start()
             self._ask()
             if self._reads_input():

@@ -117,6 +117,23 @@ def test_a_record_has_to_be_of_this_plant(config: Path, plant: Path) -> None:
     assert (config.parent / "record").read_bytes() == before
 
 
+def test_a_record_is_a_copy_where_a_log_is_shared_and_else_none(config: Path) -> None:
+    assert run(config, "running=TRUE level=250\n")[0] == 0
+    record, copy = config.parent / "record", config.parent / "record.1"
+    whole, alone = record.read_text(), config.read_text()
+    copy.write_text(whole)
+    add(config, "[etcd]\nendpoints = ['http://127.0.0.1:1']\nlog = 'l'\ngateway = 'g'\n")
+    status, _, err = check(config)
+    assert status == 2 and "record.1 is no copy of this log" in err
+    copy.write_text(whole.replace('"}}\n', '"}, "log": "a1"}\n', 1))
+    assert check(config)[0] == 0  # of which log it is etcd alone knows
+    os.rename(copy, record)
+    config.write_text(alone)
+    status, _, err = check(config)
+    assert status == 2 and "is a copy of a log that gateways share" in err
+    assert run(config, "list\n")[0] == 2
+
+
 def test_a_record_without_an_end_is_none(config: Path) -> None:
     config.write_text(config.read_text().replace('"record"', '"/dev/full"'))  # bytes 0, for ever
     words = ["sh", "-c", f"ulimit -v 2000000; exec '{ROOT}/gateway/gateway' check '{config}'"]

@@ -3,6 +3,7 @@
 from __future__ import annotations
 
 import asyncio
+import dataclasses
 import os
 import signal
 import threading
@@ -16,11 +17,15 @@ import pytest
 from around import LIMIT, config_for, plant_copy, until
 from core_help import by_core, by_record
 
-from alarmd_gateway import link, server
+from alarmd_gateway import link
+from alarmd_gateway import plant as plants
+from alarmd_gateway import server
 from alarmd_gateway.changes import Change, ChangeKind, CutOff
+from alarmd_gateway.commands import NO_COMMAND
 from alarmd_gateway.config import Config
 from alarmd_gateway.core import Core
 from alarmd_gateway.jobs import CameAgain
+from alarmd_gateway.link import NoReload
 from alarmd_gateway.metrics import Annunciations
 from alarmd_gateway.model import BadSample, Code, GatewayFault, Order, Sample, ServerGone, Verb
 from alarmd_gateway.record import peek
@@ -353,6 +358,30 @@ def test_a_server_that_is_silent_is_started_again(config: Config) -> None:
             os.kill(pid, signal.SIGSTOP)
             assert (await core.order(Order(Verb.ACK, 1, "LAL-101"))).taken
             assert server_pid() != pid
+
+    run(work())
+
+
+def test_a_silence_before_a_reload_that_is_not_asked_ends(
+    config: Config, monkeypatch: pytest.MonkeyPatch
+) -> None:
+    """Also where no scan comes for an hour, which would end it."""
+
+    async def work() -> None:
+        async with served(dataclasses.replace(config, period_ms=3_600_000)) as core:
+            await give(core, running=1, level=100)
+            await until(lambda: core.state.scanned)
+            held = core._link._server
+
+            async def slow(command: str | bytes) -> list[str]:
+                held.late(3.0)
+                assert TroubleKind.SILENCE in kinds(core)
+                return [NO_COMMAND]
+
+            monkeypatch.setattr(held, "ask", slow)
+            with pytest.raises(NoReload, match="knows no `reload`"):
+                await core.reload(plants.texts_of(config.plant))
+            assert TroubleKind.SILENCE not in kinds(core)
 
     run(work())
 

@@ -492,6 +492,18 @@ def test_a_copy_goes_on(tmp_path: Path, plant: Plant) -> None:
     trial(work, tmp_path, plant)
 
 
+def test_what_else_lies_beside_a_copy_is_none(tmp_path: Path, plant: Plant) -> None:
+    """As a folder of a year."""
+
+    async def work(etcd: FakeEtcd, side: Sides) -> None:
+        for name in ("2026", "other.7", "record.old", "record.plants"):
+            (tmp_path / "a" / name).mkdir(parents=True)
+        await (await side("a")).lead()
+        assert newest_copy(tmp_path / "a" / "record").name == "record.1"
+
+    trial(work, tmp_path, plant)
+
+
 def test_a_copy_of_a_record_that_is_still_to_come_is_refused(tmp_path: Path, plant: Plant) -> None:
     """As those of a log whose etcd was lost: else all gateways would end at a new record, months later."""
 

@@ -6,6 +6,7 @@ import os
 import threading
 import time
 from pathlib import Path
+from types import SimpleNamespace
 
 import pytest
 
@@ -207,6 +208,32 @@ def test_lines_of_two_that_write_to_one_reader_stay_whole() -> None:
         own = [line for line in lines if line.startswith(sign)]
         assert own == [f"{sign * 60} {number}" for number in range(10_000)]
     os.close(reading)
+
+
+def test_a_reader_that_is_slow_does_not_sleep(monkeypatch: pytest.MonkeyPatch) -> None:
+    """Also for who waits until another one's lines are written."""
+    now = 0.0
+    monkeypatch.setattr(outputs, "time", SimpleNamespace(monotonic=lambda: now))
+    reading, writing = os.pipe()
+    both = [Output(writing), Output(writing)]
+    for output in both:
+        for _ in range(3000):
+            output.put("x" * 999)
+    got = 0
+    for second in range(20):  # of which five are sleep
+        now = float(second)
+        while got < outputs.PIECE * (second + 1):
+            got += len(os.read(reading, outputs.PIECE * (second + 1) - got))
+        end = time.monotonic() + 60
+        while not all(output.crowded for output in both):
+            assert time.monotonic() < end
+            time.sleep(0.001)
+    while got < 6_000_000:
+        got += len(os.read(reading, 1 << 20))
+    for output in both:
+        output.close(60)
+    os.close(reading)
+    os.close(writing)
 
 
 def test_nobody_waits_for_a_reader_that_sleeps(monkeypatch: pytest.MonkeyPatch) -> None:

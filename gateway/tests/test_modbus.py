@@ -4,6 +4,7 @@ from __future__ import annotations
 
 import asyncio
 import contextlib
+import socket
 import struct
 import subprocess
 import sys
@@ -249,6 +250,35 @@ def test_the_end_does_not_wait_for_an_answer(examples: Path) -> None:
         server.close()
 
     asyncio.run(body())
+
+
+def test_the_end_does_not_wait_for_a_connection(examples: Path) -> None:
+    """With a device that is there, and takes none."""
+    with contextlib.ExitStack() as stack:
+        deaf, *others = (stack.enter_context(socket.socket()) for _ in range(5))
+        deaf.bind(("127.0.0.1", 0))
+        deaf.listen(0)
+        for one in others:  # until no more find room
+            one.setblocking(False)
+            one.connect_ex(deaf.getsockname())
+        kept = Kept(tank(examples))
+        given = replace(source(kept.plant, deaf.getsockname()[1]), timeout=600.0)
+
+        async def body() -> None:
+            client = ModbusClient(given, kept.intake())
+            running = Running(client, kept)
+            await until(lambda: connecting(given.port) > len(others))
+            await running.close()
+            threads = set(client._thread._threads)
+            await until(lambda: not any(thread.is_alive() for thread in threads))
+
+        asyncio.run(body())
+
+
+def connecting(port: int) -> int:
+    """How many connections to a port there are, or are begun, as the kernel tells."""
+    rows = [line.split() for line in Path("/proc/net/tcp").read_text().splitlines()]
+    return sum(row[2].endswith(f":{port:04X}") for row in rows)
 
 
 def test_points_beside_each_other_are_one_request(examples: Path) -> None:

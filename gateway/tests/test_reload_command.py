@@ -70,6 +70,22 @@ def test_a_changed_plant_is_taken_up(reloads: Path, folder: Path) -> None:
         gateway.kill()
 
 
+def test_the_end_of_a_gateway_leaves_the_socket_of_another_one(folder: Path) -> None:
+    """Which may be there where the record was moved, and a new one begun."""
+    config, first = started(READING, folder)
+    try:
+        os.rename(folder.parent / "record", folder.parent / "old")
+        config, second = started(READING, folder)
+        try:
+            first.end_input()
+            assert first.wait() == 0
+            assert asked(config)[:2] == (0, "RELOADED KEPT 1 NEW 0\n")
+        finally:
+            second.kill()
+    finally:
+        first.kill()
+
+
 def test_a_refused_plant_is_told_and_not_asked(reloads: Path, folder: Path) -> None:
     config, gateway = started(reloads, folder)
     try:

@@ -137,6 +137,33 @@ def test_a_plant_that_the_map_does_not_fit_is_told_before_the_next_start(config:
     asyncio.run(asyncio.wait_for(work(), 400))
 
 
+def test_a_map_that_is_mended_is_no_trouble_any_more(
+    config: Config, monkeypatch: pytest.MonkeyPatch
+) -> None:
+    """Nor is one that was just being written when a plant was taken up."""
+    monkeypatch.setattr(field, "MAP_SECONDS", 0.05)
+
+    async def work() -> None:
+        async with served(config) as core:
+
+            def told() -> list[str]:
+                return [one.text for one in core.troubles if one.subject == "the map"]
+
+            part = await field.attach(core, config)
+            assert part is not None
+            await give(core, a=5)
+            map_file = config.folder / "map.toml"
+            for wrong in (MAP.replace('output = "z"', 'output = "nowhere"'), "[[mqtt"):
+                map_file.write_text(wrong)
+                await taken_up(core, BOTH, "y := y + 1; z := NOT z; c := a > 1;")
+                await until(told)
+                map_file.write_text(MAP)
+                await until(lambda: not told())
+            await part.close()
+
+    asyncio.run(asyncio.wait_for(work(), 400))
+
+
 def test_an_input_that_is_gone_is_not_stale(config: Config) -> None:
     async def work() -> None:
         async with served(config) as core:

@@ -10,6 +10,7 @@ import shutil
 import signal
 import subprocess
 import sys
+import termios
 import time
 from pathlib import Path
 
@@ -188,15 +189,17 @@ def test_under_nohup_a_terminal_may_close(config: Path) -> None:
 
 
 BACKGROUND = """
-import os, subprocess, sys, time
-process = subprocess.Popen(sys.argv[1:], process_group=0, stderr=subprocess.DEVNULL)
+import os, signal, subprocess, sys, time
+def as_a_shell():
+    signal.signal(signal.SIGTTOU, signal.SIG_DFL)
+process = subprocess.Popen(
+    sys.argv[1:], process_group=0, stderr=subprocess.DEVNULL, preexec_fn=as_a_shell
+)
 def record():
     try:
         return os.path.getsize("record")
     except OSError:
         return 0
-with open("fifo", "w") as fifo:
-    fifo.write("running=TRUE level=250\\n")
 size = record()
 while record() < size + 1000:  # it goes on in the background
     time.sleep(0.05)
@@ -206,7 +209,9 @@ print("status", process.returncode, flush=True)
 """
 
 
-def test_in_the_background_of_a_terminal_it_goes_on(config: Path) -> None:
+@pytest.mark.parametrize("stops", [False, True])
+def test_in_the_background_of_a_terminal_it_goes_on(config: Path, stops: bool) -> None:
+    """Also where the terminal stops who writes to it from there, as by `stty tostop`."""
     config.write_text(f'{config.read_text()}[fields]\nmap = "map.toml"\n')
     (config.parent / "map.toml").write_text('[[lines]]\nname = "fifo"\npath = "fifo"\n')
     os.mkfifo(config.parent / "fifo")
@@ -216,6 +221,12 @@ def test_in_the_background_of_a_terminal_it_goes_on(config: Path) -> None:
         signal.signal(signal.SIGTTOU, signal.SIG_IGN)
         os.chdir(config.parent)
         os.execv(words[0], [*words, str(config)])
+    if stops:
+        modes = termios.tcgetattr(ours)
+        modes[3] |= termios.TOSTOP
+        termios.tcsetattr(ours, termios.TCSANOW, modes)
+    with open(config.parent / "fifo", "w") as fifo:
+        fifo.write("running=TRUE level=250\n")
     os.write(ours, b"help\n")
     shown = b""
     while b"# help" not in shown:  # once it is in the foreground

@@ -304,6 +304,34 @@ def test_no_scan_of_the_plant_is_before_those_of_the_model(
 
 
 @pytest.mark.server
+def test_a_later_start_scans_after_the_model_too(
+    alarmd: Path, examples: Path, tmp_path: Path
+) -> None:
+    """With a record that has scans the plant waits for no samples."""
+    plant, model = examples / "tank" / "plant.toml", examples / "tank" / "model" / "plant.toml"
+    record = tmp_path / "record"
+    words = [str(GATEWAY), "simulate", str(plant), str(model), "--alarmd", str(alarmd)]
+
+    def run(scans: int) -> list[str]:
+        """All scans, once there are so many."""
+        more = ["--speed", "1000", "--record", str(record)]
+        process = subprocess.Popen([*words, *more], stdin=subprocess.DEVNULL)
+        try:
+            while not record.exists() or record.read_text().count("scan ") < scans:
+                assert process.poll() is None
+                time.sleep(0.02)
+            process.send_signal(signal.SIGTERM)
+            assert process.wait(600) == 0
+        finally:
+            process.kill()
+        return [line for line in record.read_text().splitlines() if line.startswith("scan ")]
+
+    before = run(5)
+    assert "level=500" in before[0]
+    assert "level=500" in run(len(before) + 5)[len(before)]  # as the model begins anew
+
+
+@pytest.mark.server
 def test_disturbances_are_those_beside_the_plant_that_is_served(
     alarmd: Path, examples: Path, tmp_path: Path
 ) -> None:

@@ -66,6 +66,26 @@ class Refusal(Exception):
     """The device answers a request with an exception: it is there, but doesn't do this."""
 
 
+async def connected(host: str, port: int) -> socket.socket:
+    """A connection to the first address that takes one. Raises OSError, or UnicodeError where the name is none."""
+    loop, last = asyncio.get_running_loop(), OSError("there is no address")
+    for family, kind, number, _, address in await loop.getaddrinfo(
+        host, port, type=socket.SOCK_STREAM
+    ):
+        one = socket.socket(family, kind, number)
+        one.setblocking(False)
+        try:
+            await loop.sock_connect(one, address)
+            return one
+        except OSError as fault:
+            one.close()
+            last = fault
+        except BaseException:
+            one.close()
+            raise
+    raise last
+
+
 class Device:
     """The device, as it is spoken to in a thread: each call waits for the answer. Raises Lost and Refusal."""
 
@@ -74,10 +94,13 @@ class Device:
         self._client = ModbusTcpClient(given.host, port=given.port, retries=0)
         self._client.params.timeout = given.timeout
 
-    def connect(self) -> None:
-        """Connects."""
-        if not self._client.connect():
-            raise Lost(f"{self._given.host}:{self._given.port} doesn't take a connection")
+    async def connect(self) -> None:
+        """Connects, and not in the thread, which would wait to the end. Raises Lost."""
+        host, port = self._given.host, self._given.port
+        try:
+            self._client.socket = await asyncio.wait_for(connected(host, port), self._given.timeout)
+        except (OSError, UnicodeError, asyncio.TimeoutError):
+            raise Lost(f"{host}:{port} doesn't take a connection") from None
 
     def close(self) -> None:
         """Ends the connection."""
@@ -156,7 +179,7 @@ class ModbusClient(Source):
         loop = asyncio.get_running_loop()
         device = Device(self._given)
         try:
-            await loop.run_in_executor(self._thread, device.connect)
+            await device.connect()
             due = loop.time()
             await self._read(device)
             self.up()
