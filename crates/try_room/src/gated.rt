@@ -4,7 +4,7 @@
 //! second program; `-` in its place is a plant without programs. The crews:
 //!
 //! - `alone`: the caller alone;
-//! - `scoped`: two workers of one call;
+//! - `scoped`: two workers of one call; `scoped-one`, `scoped-eight`: one such worker, eight of them;
 //! - `standing`: two workers that stand ready, as the server makes them; `one`: a single one;
 //! - `never`: two workers that stand ready and share nothing out, whatever jobs cost; `always`: such that share out all;
 //! - `gone`: two workers that are gone; `one-gone`: a single one that is gone;
@@ -80,7 +80,9 @@ fn push_row<R: Threads + Wait + Clone + Send + Sync + Drop + 'static>(
     let gate = Holding::new(row.turns, shared);
     match row.crew {
         "alone" => push_alone(rt, alloc, page, &*watch, plant),
-        "scoped" => push_scoped(rt, alloc, page, &*watch, gate, plant),
+        "scoped" => push_scoped(rt, alloc, page, &*watch, gate, 2, plant),
+        "scoped-one" => push_scoped(rt, alloc, page, &*watch, gate, 1, plant),
+        "scoped-eight" => push_scoped(rt, alloc, page, &*watch, gate, 8, plant),
         "lost" | "one-lost" => {
             push_lost(rt, alloc, page, &*watch, gate, kind_of(row.crew), plant);
         }

@@ -22,21 +22,23 @@ pub fn push_alone<H>(rt: &H, alloc: Global, page: &mut Page, watch: &Watch, plan
     push_scans(rt, alloc, page, &mut Alone, watch, plant, 2);
 }
 
-/// Takes a plant's scans by two workers of one call.
+/// Takes a plant's scans by so many workers of one call.
 pub fn push_scoped<H: Threads + Sync>(
     rt: &H,
     alloc: Global,
     page: &mut Page,
     watch: &Watch,
     gate: Holding,
+    workers: u32,
     plant: Plant,
 )
-    requires { IsSync H.row }
+    requires shared { IsSync H.row }
+    requires workers { (0 < workers) × (workers ≤ 64) }
 {
     match Box::new(alloc, gate) {
         Ok(gate) => {
             let gate: BoxedGate = gate;
-            let mut crew = Scoped::new(2, gate);
+            let mut crew = Scoped::new(workers, gate);
             push_scans(rt, alloc, page, &mut crew, watch, plant, 2);
         }
         Err(_) => {
