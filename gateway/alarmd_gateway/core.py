@@ -250,6 +250,7 @@ class Core:
             await self._scan()
         if job := bool(self._jobs):
             await self._order(self._jobs.popleft())
+            self._taken.set()  # whatever came of it
         await self._renewal.look()
         if not scan and not job:
             await self._wait()
@@ -312,7 +313,6 @@ class Core:
         reply(job, answer)
         self._announcer.happened(happened)
         self._followed(job.command, answer)
-        self._taken.set()
 
     def _followed(self, command: Command, answer: list[str]) -> None:
         """Goes on with the plant of a reload that was taken: what waits for a scan is judged anew, and displays begin anew."""

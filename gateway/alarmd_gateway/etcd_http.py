@@ -53,7 +53,8 @@ class HttpEtcd:
 
     async def _beside(self, numbers: Sequence[int], path: str, body: Body) -> Body:
         """Asks the next node too where those that are asked don't answer, or not yet. The first answer counts."""
-        left, fault = list(numbers), NoEtcd("no node of etcd")
+        left = list(numbers)
+        fault: NoEtcd = NotSent("no node of etcd")
         asked: set[asyncio.Task[Body]] = set()
         try:
             while left or asked:
@@ -71,7 +72,8 @@ class HttpEtcd:
                 for one, bad in faults.items():
                     if not isinstance(bad, NoEtcd):
                         return one.result()
-                    fault = bad
+                    if not isinstance(bad, NotSent) or isinstance(fault, NotSent):
+                        fault = bad  # what one says tells more than that another one is gone
             raise fault
         finally:
             for one in asked:

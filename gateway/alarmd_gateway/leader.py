@@ -49,19 +49,19 @@ class Candidate:
 
     def __init__(self, etcd: Etcd, key: str, name: str, lease_seconds: int) -> None:
         self.name = name
+        self.seconds = lease_seconds
         self.mark = uuid.uuid4().hex
         self.lease: str | None = None
         self._lasts = 0.0  # by the loop's clock: until then the lease hasn't ended
         self._etcd = etcd
         self._key = key
-        self._seconds = lease_seconds
         self._lost = asyncio.Event()  # another lease is wanted at once
 
     async def run(self) -> None:
         """Keeps the lease, for ever."""
         while True:
             self._lost.clear()
-            limit = self._seconds / BEATS if await self.beat() else AGAIN
+            limit = self.seconds / BEATS if await self.beat() else AGAIN
             with contextlib.suppress(asyncio.TimeoutError):
                 await asyncio.wait_for(self._lost.wait(), limit)
 
@@ -70,14 +70,14 @@ class Candidate:
         begin = asyncio.get_running_loop().time()
         try:
             if self.lease is None:
-                answer = await self._etcd.post(GRANT, {"TTL": str(self._seconds)})
-                self.lease, self._lasts = str(answer["ID"]), begin + self._seconds
+                answer = await self._etcd.post(GRANT, {"TTL": str(self.seconds)})
+                self.lease, self._lasts = str(answer["ID"]), begin + self.seconds
                 return True
             answer = await self._etcd.post(KEEP, {"ID": self.lease})
             if int(answer.get("result", {}).get("TTL", "0")) <= 0:
                 self.lease = None
             else:
-                self._lasts = begin + self._seconds
+                self._lasts = begin + self.seconds
         except EtcdRefused:
             self.lease = None
         except NoEtcd:

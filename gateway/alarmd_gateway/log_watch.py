@@ -15,7 +15,7 @@ from .troubles import TroubleKind, Troubles
 SILENT = 3.0  # seconds without an answer of etcd before that is a trouble
 GROWS = 6.0  # seconds in which the log of a plant that is scanned grows, where scans aren't fewer
 ALIKE = (
-    10.0  # seconds; the key of a process of this gateway's that has just ended may last for some
+    10.0  # seconds beyond a lease, for which the key of this gateway's own process before may last
 )
 LOST = "etcd gives no answer: nothing is taken, and what is shown may be old"
 NOBODY = "no gateway scans: nothing comes into the log, and what is shown may be old"
@@ -62,7 +62,7 @@ class LogWatch:
             self._alike = None
         elif self._alike is None or self._alike[0] != leader.mark:
             self._alike = leader.mark, now
-        elif now - self._alike[1] > ALIKE:
+        elif now - self._alike[1] > ALIKE + own.seconds:
             self._alike = leader.mark, math.inf
             tell(f"another gateway leads that is called {own.name!r} too: each wants its own name")
 

@@ -10,6 +10,7 @@ import threading
 import time
 from collections.abc import AsyncIterator, Coroutine
 from contextlib import asynccontextmanager
+from dataclasses import replace
 from pathlib import Path
 from typing import Any
 
@@ -110,6 +111,20 @@ def test_an_alarm_that_has_come_again_since_it_was_read_is_not_acknowledged(conf
             await give(core, level=500)  # it has returned meanwhile, and not come again
             assert (await core.order(Order(Verb.ACK, 1, "LAL-101"), "anna", None, seen)).taken
             assert (await core.order(Order(Verb.ACK, 1, "NONE"), "anna", None, 0)).code == "O1"
+
+    run(work())
+
+
+def test_an_end_of_input_waits_for_no_scan_behind_an_order_that_isnt_given(config: Config) -> None:
+    async def work() -> None:
+        async with served(replace(config, period_ms=3_600_000)) as core:
+            await give(core, RUNNING="true", level=250, flow=100)
+            await until(lambda: core.state.scanned)
+            unread = asyncio.create_task(core.order(Order(Verb.ACK, 1, "LAL-101"), seen=0))
+            await asyncio.sleep(0)  # it waits for its turn
+            await asyncio.wait_for(core.drain(), 200)
+            with pytest.raises(CameAgain):
+                await unread
 
     run(work())
 

@@ -380,3 +380,21 @@ def test_what_etcd_surely_has_not_done(status: int, code: int, words: str) -> No
             assert asks.refusal == ("" if code == 14 else words)
 
     asked(work)
+
+
+def test_what_a_node_has_said_is_told_though_another_one_is_gone() -> None:
+    words = "etcdserver: user name is empty"
+    node = Node(400, {"error": words, "code": 3, "message": words})
+
+    async def work() -> None:
+        async with nodes(node) as ends:
+            for order in ([*ends, CLOSED], [CLOSED, *ends]):
+                client = HttpEtcd(order, 5.0)
+                asks = Transactions(client)
+                for _ in range(3):
+                    with pytest.raises(NotNow, match=words):
+                        await asks.ask([], [])
+                    assert asks.refusal == words
+                await client.close()
+
+    asked(work)

@@ -529,3 +529,39 @@ def test_a_refused_output_that_is_not_to_be_written_any_more(examples: Path) -> 
             await device.close()
 
     asyncio.run(body())
+
+
+def test_what_was_refused_is_not_written_again_where_another_gateway_may_lead_by_then(
+    examples: Path,
+) -> None:
+    """The lease may end between two writes of one round."""
+
+    async def body() -> None:
+        device = Busy(range(1, 1000))
+        await device.start()
+        kept = Kept(plants.read(examples / "tank" / "plant.toml"), outputs={"pump": True})
+        pumps = tuple(point(kept.plant.outputs["pump"], Area.COIL, at) for at in (1, 2))
+        given = replace(source(kept.plant, device.port), inputs=(), outputs=pumps)
+        client, polls = ModbusClient(given, kept.intake()), 0
+
+        def current() -> dict[str, Value]:
+            nonlocal polls
+            polls += 1
+            return kept.outputs
+
+        client.may_write = lambda: len(device.written) < 5
+        working = asyncio.create_task(client.run(current))
+        try:
+            await until(
+                lambda: len(device.written) >= 5
+            )  # the first of the two, for the third time
+            asked = polls
+            await until(lambda: polls > asked + 3)
+            assert len(device.written) == 5
+        finally:
+            working.cancel()
+            await asyncio.gather(working, return_exceptions=True)
+            client.close()
+            await device.close()
+
+    asyncio.run(body())

@@ -8,7 +8,7 @@ import os
 import signal
 from collections.abc import Awaitable, Callable, Sequence
 from pathlib import Path
-from typing import Any
+from typing import Any, cast
 
 import pytest
 from around import config_for, plant_copy, until, without_programs
@@ -25,14 +25,16 @@ from alarmd_gateway import (
     transactions,
 )
 from alarmd_gateway.etcd import NoEtcd
+from alarmd_gateway.etcd_log import EtcdLog
 from alarmd_gateway.jobs import CameAgain, Job
+from alarmd_gateway.leader import Candidate, Leader
 from alarmd_gateway.log_view import Last, Marked, View
 from alarmd_gateway.metrics import Metrics
 from alarmd_gateway.model import Code, Order, Plant, Sample, ServerGone, Verb
 from alarmd_gateway.record import Entry
 from alarmd_gateway.shared import SharedCore
 from alarmd_gateway.shared_config import SharedConfig
-from alarmd_gateway.troubles import TroubleKind
+from alarmd_gateway.troubles import TroubleKind, Troubles
 
 pytestmark = pytest.mark.server
 
@@ -529,6 +531,20 @@ def test_two_gateways_of_one_name_are_told_of(
         assert len(lines) == 1
 
     trial(Pair(alarmd, tmp_path, tank), work)
+
+
+def test_what_is_left_of_a_gateways_own_process_is_no_other_gateway(
+    capfd: pytest.CaptureFixture[str],
+) -> None:
+    """One that was killed while it led, and was started again at once: its key goes with its lease."""
+    own, before = Candidate(FakeEtcd(), "leader", "left", 60), Leader("left", "before", 1)
+    watch = log_watch.LogWatch(cast(EtcdLog, None), Troubles(), 1.0)
+    for now in range(0, 61):
+        watch.led_by(before, own, now)
+    assert capfd.readouterr().err == ""
+    for now in range(61, 80):
+        watch.led_by(before, own, now)
+    assert capfd.readouterr().err.count("another gateway leads that is called 'left' too") == 1
 
 
 def test_who_lacks_a_part_of_the_log_does_not_stand(

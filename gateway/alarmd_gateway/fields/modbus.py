@@ -230,11 +230,11 @@ class ModbusClient(Source):
     async def _write_again(self, device: Device, values: dict[str, Value]) -> None:
         """Writes what couldn't be written before, as it is now; what isn't to be written by now is no trouble any more."""
         for point in tuple(self._refused):
-            if point.variable.name in values:
-                await self._write_point(device, point, values[point.variable.name])
-            else:
+            if point.variable.name not in values:
                 self._refused.discard(point)
                 self.intake.good(self.name, point.variable.name)
+            elif self.may_write():
+                await self._write_point(device, point, values[point.variable.name])
 
     async def _write(self, device: Device, name: str, value: Value) -> None:
         """Writes an output wherever the map has it."""
