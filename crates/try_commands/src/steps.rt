@@ -2,7 +2,7 @@
 
 use crate::answers::push_seen;
 use alarm_machine::{Code, Verb};
-use engine::{Crew, Done, Engine, EngineFault, Job, Order, Pair, Report, Start};
+use engine::{Crew, Done, Engine, EngineFault, Job, Order, Pair, Reply, Report, Start};
 use plant_config::Plant;
 use serve_lines::{Command, Pool, read_command};
 use std::alloc::Global;
@@ -97,15 +97,45 @@ fn push_ready<H, C: Crew<Job, Start, Done, H>>(
     }
 }
 
-/// Gives an order by the engine's call for it, and adds that it was taken.
-fn push_ordered(alloc: Global, page: &mut Page, engine: &mut Engine, console: u32, order: Order) {
-    let taken = match order.verb {
+/// Gives an order by the engine's call for it.
+fn give(
+    alloc: Global,
+    engine: &mut Engine,
+    console: u32,
+    order: Order,
+) -> Result<Reply, EngineFault> {
+    match order.verb {
         Verb::Restart => engine.restart(alloc, console, order.target),
         _ => engine.order(alloc, console, order),
+    }
+}
+
+/// Gives an order, once more where memory is refused for it, since that leaves the engine as it was; and adds that it was taken.
+fn push_ordered(alloc: Global, page: &mut Page, engine: &mut Engine, console: u32, order: Order) {
+    let taken = match give(alloc, engine, console, order) {
+        Err(EngineFault::Memory) => give(alloc, engine, console, order),
+        taken => taken,
     };
     match taken {
         Ok(_) => page.line("TAKEN"),
         Err(fault) => push_refused(page, fault),
+    }
+}
+
+/// Takes a scan by the engine's call for it, once more where memory is refused for it, since that leaves the engine as it was.
+fn scan_again<H, C: Crew<Job, Start, Done, H>>(
+    rt: &H,
+    alloc: Global,
+    engine: &mut Engine,
+    crew: &mut C,
+    pairs: &[Pair],
+    moment: u64,
+) -> Result<Report, EngineFault>
+    requires { C.asks }
+{
+    match engine.scan(rt, alloc, crew, pairs, moment) {
+        Err(EngineFault::Memory) => engine.scan(rt, alloc, crew, pairs, moment),
+        taken => taken,
     }
 }
 
@@ -121,10 +151,12 @@ fn push_done<H, C: Crew<Job, Start, Done, H>>(
     requires { C.asks }
 {
     match command {
-        Command::Scan(moment, pairs) => match engine.scan(rt, alloc, crew, pairs, moment) {
-            Ok(report) => push_report(page, &report),
-            Err(fault) => push_refused(page, fault),
-        },
+        Command::Scan(moment, pairs) => {
+            match scan_again(rt, alloc, engine, crew, pairs, moment) {
+                Ok(report) => push_report(page, &report),
+                Err(fault) => push_refused(page, fault),
+            }
+        }
         Command::Order(verb, console, word) => {
             let order = order_of(engine.plant(), verb, word);
             push_ordered(alloc, page, engine, console, order);
