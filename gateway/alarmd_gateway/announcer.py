@@ -5,10 +5,11 @@ from __future__ import annotations
 from collections.abc import Mapping
 
 from .changes import Board, ChangeKind
-from .link import Link, tell
+from .link import Link
 from .model import Json
 from .questions import Answer, Question
 from .state import Happening, Restarted, Stopped
+from .telling import tell
 from .troubles import Trouble, TroubleKind
 
 

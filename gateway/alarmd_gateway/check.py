@@ -14,14 +14,14 @@ from . import config as configs
 from . import plant as plants
 from .config import WORDS_STATUS, Config
 from .kept import beginning
-from .link import tell
 from .log_view import newest_copy
 from .map_file import of_config
 from .model import GatewayFault, Plant
-from .record import LONGEST_HEAD, judge_head, judge_log, log_of, unbegun
+from .record_head import LONGEST_HEAD, judge_head, judge_log, log_of, unbegun
 from .reloading import judge_place, socket_path
 from .shared_config import shared_config
 from .simulate import model_path, read_model
+from .telling import tell
 from .texts import of as texts_of
 from .texts import walk
 from .web_config import unseen, web_config

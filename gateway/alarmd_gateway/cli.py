@@ -8,8 +8,8 @@ import signal
 import sys
 import traceback
 
-from .link import tell
 from .model import GatewayFault
+from .telling import tell
 from .words import called, say
 
 COMMANDS = {  # the word, its module, what it does. A new command is one line

@@ -3,9 +3,9 @@
 from __future__ import annotations
 
 from .clock import DRIFT_MS, Clock, span
-from .link import tell
 from .model import GatewayFault
 from .questions import Answer, Questions
+from .telling import tell
 from .troubles import TroubleKind, Troubles
 
 _SUBJECT = "clock"

@@ -9,7 +9,7 @@ from pathlib import Path
 from .etcd import Body, Kept, put, valued
 from .log_view import Keys
 from .model import GatewayFault, Plant
-from .record import sums
+from .record_head import sums
 
 
 class OtherPlant(GatewayFault):

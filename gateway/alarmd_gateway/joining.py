@@ -12,12 +12,13 @@ from .config import Config
 from .etcd import Etcd, EtcdRefused, NoEtcd
 from .etcd_log import EtcdLog
 from .identity import OtherPlant
-from .link import Link, start_server, tell
+from .link import Link, start_server
 from .log_view import Keys
 from .model import Plant
 from .player import Book, play
 from .server import Server
 from .shared_config import SharedConfig
+from .telling import tell
 
 
 async def joined(config: Config, shared: SharedConfig, client: Etcd) -> tuple[Link, EtcdLog]:

@@ -14,7 +14,7 @@ from pathlib import Path, PurePath
 from .disk import sync_folder, write
 from .model import GatewayFault, Plant
 from .plant import read
-from .record import head_sums, sums
+from .record_head import head_sums, sums
 
 
 def named(plant: Plant) -> list[tuple[str, bytes]]:

@@ -4,8 +4,6 @@ from __future__ import annotations
 
 import asyncio
 import contextlib
-import logging
-import sys
 from collections.abc import Callable, Iterator
 from pathlib import Path
 from typing import Final
@@ -20,6 +18,7 @@ from .player import Book, Taken, judge_reload, play
 from .record import Entry, FileRecord, Log
 from .server import Server
 from .state import Happening
+from .telling import tell
 from .troubles import TroubleKind, Troubles
 
 LATE: Final = 0.3
@@ -27,26 +26,6 @@ LATE: Final = 0.3
 
 _NAME: Final = "name"
 """The subject of the trouble that the record has lost its name."""
-
-
-def tell(words: str) -> None:
-    """A line on standard error, of what happens to the server itself. Where nobody can be told there, it is left out."""
-    with contextlib.suppress(OSError, ValueError, AttributeError):
-        print(f"SERVER {' '.join(words.split())}", file=sys.stderr, flush=True)
-
-
-class _Lines(logging.Handler):
-    """What libraries have to say, a line each, without tracebacks."""
-
-    def emit(self, record: logging.LogRecord) -> None:
-        fault = record.exc_info[1] if record.exc_info else None
-        tail = f" ({type(fault).__name__}: {fault})" if fault is not None else ""
-        tell(f"{record.name}: {record.getMessage()}{tail}")
-
-
-def tell_of_libraries() -> None:
-    """From now on what libraries say is told as `tell` does, where it is a warning or worse."""
-    logging.basicConfig(level=logging.WARNING, handlers=[_Lines()], force=True)
 
 
 def entry_of(command: Command, user: str | None = None, reason: str | None = None) -> Entry:

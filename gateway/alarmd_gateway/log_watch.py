@@ -7,9 +7,9 @@ from collections.abc import Iterator
 
 from .etcd_log import EtcdLog
 from .leader import Candidate, Leader
-from .link import tell
 from .log_view import Last
 from .model import Figure
+from .telling import tell
 from .troubles import TroubleKind, Troubles
 
 SILENT = 3.0  # seconds without an answer of etcd before that is a trouble

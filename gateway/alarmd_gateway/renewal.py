@@ -5,10 +5,11 @@ from __future__ import annotations
 from . import rotation
 from .clock import Clock
 from .config import Config
-from .link import Link, tell
+from .link import Link
 from .model import GatewayFault
 from .questions import Answer, Questions
 from .record import Unsure
+from .telling import tell
 from .transactions import Deposed
 from .troubles import TroubleKind
 

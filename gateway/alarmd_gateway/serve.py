@@ -16,10 +16,10 @@ from .config import Config
 from .console import Console, told
 from .core import Core
 from .input import lines
-from .link import tell, tell_of_libraries
 from .model import GatewayFault
 from .output import Output
 from .reloading import Reloading
+from .telling import tell, tell_of_libraries
 from .troubles import TroubleKind
 from .words import Words, called
 

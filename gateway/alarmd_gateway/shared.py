@@ -22,7 +22,7 @@ from .jobs import UNKNOWN, Job
 from .joining import joined, played
 from .latest import Latest
 from .leader import Candidate
-from .link import Link, prepared, tell
+from .link import Link, prepared
 from .log_view import Last, View
 from .log_watch import LogWatch
 from .model import (
@@ -39,6 +39,7 @@ from .shared_config import SharedConfig, shared_config
 from .shared_orders import SharedOrders
 from .snapshots import Snapshot
 from .state import Happening
+from .telling import tell
 from .transactions import Deposed, NoCopy
 from .troubles import TroubleKind
 

@@ -11,9 +11,9 @@ from collections.abc import Callable
 from . import commands
 from .away import Away
 from .commands import Command, Reload, Scan
-from .jobs import UNKNOWN, Job, fail, unread
 from .etcd import EtcdRefused, NoEtcd, NotNow
 from .etcd_log import EtcdLog
+from .jobs import UNKNOWN, Job, fail, unread
 from .link import Link, NoReload, entry_of, prepared
 from .log_entries import PAGE
 from .log_view import Marked, View

@@ -11,7 +11,8 @@ import pytest
 
 from alarmd_gateway import plant as plants
 from alarmd_gateway.model import GatewayFault, Plant
-from alarmd_gateway.record import LONGEST_HEAD, Entry, FileRecord, peek, unbegun
+from alarmd_gateway.record import Entry, FileRecord, peek
+from alarmd_gateway.record_head import LONGEST_HEAD, unbegun
 
 
 @pytest.fixture

@@ -20,7 +20,8 @@ from alarmd_gateway.changes import ChangeKind
 from alarmd_gateway.config import Config
 from alarmd_gateway.core import Core, Question
 from alarmd_gateway.model import Code, Order, Verb
-from alarmd_gateway.record import FileRecord, head_sums
+from alarmd_gateway.record import FileRecord
+from alarmd_gateway.record_head import head_sums
 from alarmd_gateway.troubles import TroubleKind
 
 
