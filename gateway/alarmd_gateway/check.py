@@ -137,9 +137,9 @@ def _served(first: Plant, record: Path, shared: bool) -> Plant:
 
 def _taken_up(plant: Plant, head: bytes, body: bytes) -> Plant:
     """The plant that is served after a reload in the record."""
-    if (
-        found := texts_of(head.removesuffix(b"\r").decode("utf-8", "surrogateescape"), body)
-    ) is None:
+    line = head.removesuffix(b"\r").decode("utf-8", "surrogateescape")
+    found = texts_of(line, body)
+    if found is None:
         return plant
     try:
         other = plants.of_texts(plant.path, found)

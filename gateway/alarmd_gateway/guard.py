@@ -148,9 +148,8 @@ class Guard:
         if origin is None:
             return
         scheme, _, site = origin.partition("://")
-        if site != host or (
-            self.tls and scheme != "https"
-        ):  # without TLS of ours a proxy may have it
+        plain = self.tls and scheme != "https"  # without TLS of ours a proxy may have it
+        if site != host or plain:
             raise Refused(403, "the request comes from another site")
 
     @web.middleware
@@ -174,9 +173,8 @@ class Guard:
             raise
         except Exception as fault:
             if isinstance(fault, ConnectionError) and gone(request):
-                return answer(
-                    None, 400
-                )  # to nobody: a table that isn't read to its end is no fault
+                # a table that isn't read to its end is no fault, and this is answered to nobody
+                return answer(None, 400)
             log.exception("a request to %s failed", request.path)
             return answer({"error": "a fault in the gateway: its log has more"}, 500)
 

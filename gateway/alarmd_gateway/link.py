@@ -214,16 +214,17 @@ class Link:
     async def _stand(self) -> None:
         """Has the plant with which the record begins where a server can read it: beside the record, once its own files are others. Raises
         GatewayFault where it can't be kept there."""
+        if self._first.path != self._config.plant:
+            return  # it is kept already
+        name = await asyncio.to_thread(kept.differs, self._first, self._first.path)
+        if name is None:
+            return
         try:
-            self._log.check()
-        except GatewayFault as changed:
-            if self._first.path != self._config.plant:
-                raise  # it was kept, and isn't what it was
-            try:
-                await self.keep_first()
-            except GatewayFault as fault:
-                raise GatewayFault(f"{changed.words}, and {fault.words}", fault.status) from None
-            tell("the plant's files have changed: what is served is kept beside the record")
+            await self.keep_first()
+        except GatewayFault as fault:
+            words = f"{name} has changed since the record began, and {fault.words}"
+            raise GatewayFault(words, fault.status) from None
+        tell(f"{name} has changed: the plant that is served is kept beside the record")
 
     async def keep_first_or_tell(self) -> None:
         """The same; where it can't be kept, that is told, and a later start may lack it."""

@@ -14,9 +14,8 @@ from .troubles import TroubleKind, Troubles
 
 SILENT = 3.0  # seconds without an answer of etcd before that is a trouble
 GROWS = 6.0  # seconds in which the log of a plant that is scanned grows, where scans aren't fewer
-ALIKE = (
-    10.0  # seconds beyond a lease, for which the key of this gateway's own process before may last
-)
+ALIKE = 10.0
+"""Seconds beyond a lease, for which the key of this gateway's own process before may last."""
 LOST = "etcd gives no answer: nothing is taken, and what is shown may be old"
 NOBODY = "no gateway scans: nothing comes into the log, and what is shown may be old"
 UNCOPIED = (

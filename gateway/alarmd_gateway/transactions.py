@@ -32,9 +32,8 @@ class Transactions:
     def __init__(self, etcd: Etcd) -> None:
         self.etcd = etcd
         self.heard = 0.0  # when a transaction was answered last, by the loop's clock
-        self.refusal = (
-            ""  # what etcd says to all that is asked of it; empty where it answers, or says nothing
-        )
+        # what etcd says to all that is asked of it; empty where it answers, or says nothing
+        self.refusal = ""
         self.fault = ""  # why the last one that had to hold at most once got no answer; empty where it got one
 
     async def ask(

@@ -714,7 +714,7 @@ def test_a_server_is_not_started_again_with_other_files(config: Config) -> None:
         with open(folder.parent / "control.st", "a") as file:
             file.write("\n")
         os.kill(server_pid(), signal.SIGKILL)
-        told = "control.st has changed since it began.*outside of its folder"
+        told = "control.st has changed since the record began.*outside of its folder"
         with pytest.raises(GatewayFault, match=told) as fault:
             await working
         assert fault.value.status == 2
