@@ -12,6 +12,7 @@ from collections.abc import AsyncIterator
 from aiohttp import web
 
 from .cells import guarded
+from .connections import counted_as
 from .core import Core
 from .guard import Guard, Refused, answer, answered, body, number
 from .jobs import CameAgain
@@ -99,14 +100,15 @@ class Api:
             raise Refused(400, "this plant has no users")
         if not isinstance(name, str) or not isinstance(password, str) or len(name) > 64:
             raise Refused(400, "name and password have to be texts")
-        address = request.remote or ""
+        address = counted_as(request.remote or "")
         wait = self._tries.wait(address, name)
         if wait:
             raise Refused(429, f"too many wrong passwords: again in {int(wait) + 1} seconds", wait)
         self._tries.failed(address, name)  # until it is known to be right: many at once count
         async with self._scrypts:
             user = await asyncio.to_thread(self.guard.users.check, name, password)
-        if user is None:
+        # the file may have been taken up anew meanwhile
+        if user is None or self.guard.users.named(name) != user:
             raise Refused(403, "the name or the password is wrong")
         self._tries.succeeded(address, name)
         self.guard.end(request)

@@ -8,6 +8,7 @@ from __future__ import annotations
 
 import subprocess
 import sys
+from datetime import datetime, timezone
 from pathlib import Path
 
 from . import config as configs
@@ -24,7 +25,7 @@ from .simulate import model_path, read_model
 from .telling import tell
 from .texts import of as texts_of
 from .texts import walk
-from .web_config import unseen, web_config
+from .web_config import WebConfig, unseen, web_config
 from .words import Words, called, say
 
 
@@ -48,9 +49,19 @@ def check(config: Config) -> list[str]:
         read_model(model, plant)
     of_config(config, plant)
     web = web_config(config, plant)
-    for area in [] if web is None or web.users is None else unseen(web.users, plant):
-        print(f"warning: no user sees the alarms of area '{area}'", file=sys.stderr)
+    if web is not None:
+        _warn(web, plant)
     return told
+
+
+def _warn(web: WebConfig, plant: Plant) -> None:
+    """Says what the page's users don't see, and whether its certificate ends."""
+    for area in [] if web.users is None else unseen(web.users, plant):
+        print(f"warning: no user sees the alarms of area '{area}'", file=sys.stderr)
+    if web.certificate is not None:
+        words = web.certificate.trouble(datetime.now(timezone.utc))
+        if words is not None:
+            print(f"warning: {words}", file=sys.stderr)
 
 
 def _accepted(config: Config, first: Path) -> str:

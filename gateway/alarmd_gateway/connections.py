@@ -3,6 +3,7 @@
 from __future__ import annotations
 
 import asyncio
+import ipaddress
 import logging
 import resource
 import sys
@@ -44,6 +45,19 @@ def taken_of(transport: asyncio.BaseTransport) -> int:
     """
     told = transport.get_extra_info("socket").getsockopt(IPPROTO_TCP, TCP_INFO, BYTES_ACKED + 8)
     return int.from_bytes(told[BYTES_ACKED:], sys.byteorder)
+
+
+def counted_as(address: str) -> str:
+    """As whom limits count an address: of IPv6 its network of 64 bits, in which a machine may have any address."""
+    try:
+        found = ipaddress.ip_address(address)
+    except ValueError:
+        return address
+    if isinstance(found, ipaddress.IPv4Address):
+        return address
+    if found.ipv4_mapped is not None:
+        return str(found.ipv4_mapped)
+    return str(ipaddress.IPv6Network((int(found) >> 64 << 64, 64)))
 
 
 class Limit:
@@ -104,7 +118,7 @@ class Connection(RequestHandler):
 
     def connection_made(self, transport: asyncio.BaseTransport) -> None:
         peer = transport.get_extra_info("peername")
-        address = str(peer[0]) if isinstance(peer, tuple) else ""
+        address = counted_as(str(peer[0])) if isinstance(peer, tuple) else ""
         if not self._limit.enter(address):
             cast(asyncio.Transport, transport).abort()
             return

@@ -34,6 +34,14 @@ def ordinary(path: Path) -> None:
             raise GatewayFault(f"{path} is no record of a gateway: it is no ordinary file", 2)
 
 
+def content(path: Path) -> bytes:
+    """What an ordinary file has. Raises OSError, also where it is none: a FIFO would be waited for."""
+    with open(path, "rb", opener=lambda name, flags: os.open(name, flags | os.O_NONBLOCK)) as file:
+        if not stat.S_ISREG(os.fstat(file.fileno()).st_mode):
+            raise OSError(errno.EINVAL, "it is no ordinary file", str(path))
+        return file.read()
+
+
 def locked(path: Path) -> IO[bytes]:
     """The file of this name, locked."""
     ordinary(path)

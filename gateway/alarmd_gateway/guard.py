@@ -84,6 +84,13 @@ class Guard:
         """Says which port the system has chosen."""
         self._port = port
 
+    def take_users(self, users: Users) -> None:
+        """These are the users from now on. Who is gone, or has another password or other consoles, is logged out."""
+        before, self.users = self.users, users
+        assert before is not None  # users are there from the start on, or never
+        changed = {name for name in before.names() if users.named(name) != before.named(name)}
+        self.sessions.end_of(changed)
+
     def session(self, request: web.Request) -> Session:
         """The session of a request. Raises Refused (401)."""
         for value in cookies(request, self.cookie):

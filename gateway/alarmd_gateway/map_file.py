@@ -8,6 +8,7 @@ from fractions import Fraction
 from pathlib import Path
 
 from .config import NO_TOML, WORDS_STATUS, Config, Table
+from .disk import content
 from .mapping import (
     Area,
     Form,
@@ -244,8 +245,7 @@ def read_secret(path: Path) -> str:
 def read(path: Path, plant: Plant) -> Map:
     """The map in a file. Raises GatewayFault (status 2) with what is wrong in it."""
     try:
-        with open(path, "rb") as file:
-            values = tomllib.load(file, parse_float=Decimal)
+        values = tomllib.loads(content(path).decode(), parse_float=Decimal)
     except OSError as fault:
         raise GatewayFault(f"{path}: {fault.strerror}", WORDS_STATUS) from None
     except NO_TOML as fault:

@@ -15,6 +15,7 @@ from pathlib import Path
 from typing import Any, Final
 
 from .constants import value
+from .disk import content
 from .model import (
     AlarmRow,
     ConsoleRow,
@@ -55,10 +56,10 @@ def read(path: Path) -> Plant:
 def texts_of(path: Path) -> Texts:
     """The texts of all files of a plant, as they are now. Raises GatewayFault as `read` does."""
     with _judged(path):
-        plant = path.read_bytes()
+        plant = content(path)
         table, folder = _table(plant), path.parent
-        sources = tuple((folder / name).read_bytes() for name in table["sources"])
-        return Texts(plant, (folder / table["alarms"]).read_bytes(), sources)
+        sources = tuple(content(folder / name) for name in table["sources"])
+        return Texts(plant, content(folder / table["alarms"]), sources)
 
 
 def of_texts(path: Path, texts: Texts) -> Plant:
@@ -97,7 +98,7 @@ def source_text(plant: Plant, number: int) -> bytes:
     """A source of a plant, counted from 0. Raises OSError where it can't be read."""
     if plant.texts is not None:
         return plant.texts.sources[number]
-    return source_file(plant, plant.sources[number]).read_bytes()
+    return content(source_file(plant, plant.sources[number]))
 
 
 def _table(plant: bytes) -> dict[str, Any]:

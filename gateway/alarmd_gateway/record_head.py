@@ -8,7 +8,7 @@ import json
 from pathlib import Path
 from typing import Final
 
-from .disk import ordinary
+from .disk import content, ordinary
 from .model import GatewayFault, Plant
 from .plant import files
 
@@ -21,7 +21,7 @@ def sums(plant: Plant) -> dict[str, str]:
     """Of each file that the plant names, and of the plant file: its SHA-256 in hexadecimal digits."""
     names = (plant.path.name, *plant.sources, plant.alarm_file)
     return {
-        name: hashlib.sha256(path.read_bytes()).hexdigest()
+        name: hashlib.sha256(content(path)).hexdigest()
         for name, path in zip(names, files(plant), strict=True)
     }
 

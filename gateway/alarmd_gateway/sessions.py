@@ -7,7 +7,7 @@ import hmac
 import secrets
 import time
 from collections import OrderedDict, deque
-from collections.abc import Callable
+from collections.abc import Callable, Collection
 from dataclasses import dataclass, field
 
 LIFE = 12 * 3600.0  # seconds that a session lasts, whatever happens in it: a shift
@@ -89,6 +89,11 @@ class Sessions:
         """Ends the session of a cookie; one that is none is fine."""
         if cookie:
             self._sessions.pop(_kept(cookie), None)
+
+    def end_of(self, users: Collection[str]) -> None:
+        """Ends the sessions of some users."""
+        for key in [key for key, one in self._sessions.items() if one.user in users]:
+            del self._sessions[key]
 
 
 def _kept(cookie: str) -> bytes:

@@ -23,6 +23,7 @@ class TroubleKind(enum.Enum):
     CLOCK = "clock"  # the time of day and the moments part
     RECORD = "record"  # what a new record couldn't carry
     LOG = "log"  # the shared log isn't reached: nothing is taken, and what is shown may be old
+    PAGE = "page"  # the users or the certificate can't be taken up again, or the certificate ends
     QUESTION = "question"  # the gateway waits for an answer: its subject is the question's number
 
 

@@ -127,6 +127,10 @@ class Users:
         """The consoles of each user."""
         return [user.consoles for user in self._users.values()]
 
+    def names(self) -> list[str]:
+        """The names of all."""
+        return list(self._users)
+
     def named(self, name: str) -> User | None:
         """The user of this name, in which letter case counts."""
         return self._users.get(name)

@@ -19,6 +19,7 @@ from .guard import LARGEST_BODY, Guard, Refused
 from .live import Live
 from .metrics import Count, Metrics
 from .model import GatewayFault
+from .page_files import CertificateFiles, Files, UsersFile, watch
 from .sessions import same
 from .web_config import WebConfig, web_config
 
@@ -69,7 +70,9 @@ class Web:
     def __init__(self, core: Core, config: WebConfig) -> None:
         consoles = tuple(row.number for row in core.plant.consoles)
         self.config = config
-        self.guard = Guard(config.users, consoles, config.port, config.tls is not None)
+        self._certificate = config.certificate
+        secure = self._certificate is not None
+        self.guard = Guard(config.users, consoles, config.port, secure)
         self.limit = Limit(config.connections)
         self._core = core
         self.live = Live(core, self.guard)
@@ -79,6 +82,7 @@ class Web:
         self._gathering = asyncio.Lock()
         self._runner: web.AppRunner | None = None
         self._server: asyncio.Server | None = None
+        self._watching: asyncio.Task[None] | None = None
 
     async def start(self) -> None:
         """Listens. Raises GatewayFault where the address isn't to be had."""
@@ -99,14 +103,15 @@ class Web:
         self._runner = web.AppRunner(app, handle_signals=False, access_log=None)
         await self._runner.setup()
         server, loop = self._runner.server, asyncio.get_running_loop()
+        tls = None if self._certificate is None else self._certificate.context
         assert server is not None
         try:
             self._server = await loop.create_server(
                 lambda: Connection(server, self.limit, loop, self.guard.all_headers),
                 self.config.host,
                 self.config.port,
-                ssl=self.config.tls,
-                ssl_handshake_timeout=HANDSHAKE if self.config.tls else None,
+                ssl=tls,
+                ssl_handshake_timeout=None if tls is None else HANDSHAKE,
                 backlog=128,
             )
         except OSError as fault:
@@ -117,15 +122,19 @@ class Web:
             ) from fault
         self.port = self._server.sockets[0].getsockname()[1]
         self.guard.served_at(self.port)
+        self._watching = asyncio.create_task(watch(self._files()))
 
     @property
     def url(self) -> str:
         """Where the page is."""
         host = f"[{self.config.host}]" if ":" in self.config.host else self.config.host
-        return f"{'https' if self.config.tls else 'http'}://{host}:{self.port}/"
+        return f"{'https' if self._certificate else 'http'}://{host}:{self.port}/"
 
     async def close(self) -> None:
         """Ends all connections, and listens no more."""
+        if self._watching is not None:
+            self._watching.cancel()
+            await asyncio.gather(self._watching, return_exceptions=True)
         if self._server is not None:
             self._server.close()
         await self.live.close()
@@ -134,8 +143,17 @@ class Web:
                 await asyncio.wait_for(self._runner.server.shutdown(2), 4)
             await self._runner.cleanup()
 
+    def _files(self) -> list[Files]:
+        """What is taken up again where it has changed."""
+        found: list[Files] = []
+        if self.config.users_file is not None:
+            found.append(UsersFile(self._core, self.guard, self.config.users_file))
+        if self._certificate is not None:
+            found.append(CertificateFiles(self._core, self._certificate))
+        return found
+
     def _counts(self) -> dict[str, tuple[str, Count]]:
-        return {
+        counts: dict[str, tuple[str, Count]] = {
             "alarmd_web_connections": ("Connections to the web server", lambda: len(self.limit)),
             "alarmd_web_refused_connections": (
                 "Connections that were refused because there were too many",
@@ -144,6 +162,12 @@ class Web:
             "alarmd_web_pages": ("Pages with a live connection", lambda: len(self.live)),
             "alarmd_web_sessions": ("Sessions", lambda: len(self.guard.sessions)),
         }
+        if self._certificate is not None:
+            counts["alarmd_web_certificate_ends_timestamp_seconds"] = (
+                "End of the page's certificate",
+                self._certificate.end,
+            )
+        return counts
 
     async def _metrics(self, request: web.Request) -> web.Response:
         token = self.config.metrics_token

@@ -13,10 +13,10 @@ from __future__ import annotations
 
 import ipaddress
 import re
-import ssl
 from dataclasses import dataclass, field
 from pathlib import Path
 
+from .certificate import Certificate
 from .config import WORDS_STATUS, Config
 from .model import GatewayFault, Plant
 from .users import BadUsers, Users, read_users
@@ -28,14 +28,15 @@ NAME = re.compile(r"[A-Za-z0-9_-]+(\.[A-Za-z0-9_-]+)*\.?|\*")
 
 @dataclass(frozen=True)
 class WebConfig:
-    """What the web server goes by. `users` is None where there is no file of them."""
+    """What the web server goes by. `users` is None where there is no file of them, and `certificate` where there is no TLS."""
 
     host: str
     port: int
     users: Users | None
-    tls: ssl.SSLContext | None
+    certificate: Certificate | None
     metrics_token: str | None = field(default=None, repr=False)
     connections: int = 200
+    users_file: Path | None = None
 
 
 def web_config(config: Config, plant: Plant) -> WebConfig | None:
@@ -44,13 +45,13 @@ def web_config(config: Config, plant: Plant) -> WebConfig | None:
         return None
     table = config.table("web")
     host, port = address(table.text("listen", "127.0.0.1:8080"))
-    users = table.path("users") if table.has("users") else None
+    users_file = table.path("users") if table.has("users") else None
     certificate = table.path("certificate") if table.has("certificate") else None
     key = table.path("key") if table.has("key") else None
     token = table.text("metrics_token") if table.has("metrics_token") else None
     connections = table.number("connections", 200, 4, 100_000)
     table.end()
-    if not loopback(host) and (users is None or certificate is None):
+    if not loopback(host) and (users_file is None or certificate is None):
         raise fault(f"listen = {host!r} is beyond this machine: that wants users and a certificate")
     if token == "":
         raise fault("metrics_token is empty: who brings none would read /metrics")
@@ -59,8 +60,9 @@ def web_config(config: Config, plant: Plant) -> WebConfig | None:
         raise fault(f"metrics_token can't be brought in a header: it has {words}")
     if (certificate is None) != (key is None):
         raise fault("certificate and key belong together")
-    tls = None if certificate is None or key is None else tls_of(certificate, key)
-    return WebConfig(host, port, users_of(users, plant), tls, token, connections)
+    users = users_of(users_file, plant)
+    found = None if certificate is None or key is None else certificate_of(certificate, key)
+    return WebConfig(host, port, users, found, token, connections, users_file)
 
 
 def fault(words: str) -> GatewayFault:
@@ -123,13 +125,9 @@ def unseen(users: Users, plant: Plant) -> list[str]:
     return [area for area in plant.areas if area in with_alarms - seen]
 
 
-def tls_of(certificate: Path, key: Path) -> ssl.SSLContext:
-    """TLS 1.2 or later by a certificate and its key, both PEM. Raises GatewayFault."""
-    context = ssl.create_default_context(ssl.Purpose.CLIENT_AUTH)
-    context.minimum_version = ssl.TLSVersion.TLSv1_2
+def certificate_of(certificate: Path, key: Path) -> Certificate:
+    """The certificate in these files. Raises GatewayFault."""
     try:
-        context.load_cert_chain(certificate, key, password=lambda: "")
-    except (OSError, ValueError) as bad:  # ssl.SSLError too, and a path that can't be one
-        words = getattr(bad, "strerror", None) or bad
-        raise fault(f"certificate {str(certificate)!r}, key {str(key)!r}: {words}") from bad
-    return context
+        return Certificate(certificate, key)
+    except GatewayFault as bad:
+        raise fault(bad.words) from bad

@@ -68,7 +68,7 @@ def served(
     thread = threading.Thread(target=loop.run_forever, daemon=True)
     thread.start()
     found = core or FakeCore()
-    web = Web(found, WebConfig("127.0.0.1", port, users, more.pop("tls", None), **more))
+    web = Web(found, WebConfig("127.0.0.1", port, users, more.pop("certificate", None), **more))
     web.folder = patient_page()
     made = Served(loop, found, web)
     try:

@@ -56,6 +56,23 @@ def test_its_model_is_judged_too(config: Path, plant: Path) -> None:
     assert check(config)[0] == 3  # whose sources aren't there
 
 
+def test_a_certificate_that_ends_is_told(config: Path) -> None:
+    words = "openssl req -x509 -newkey rsa:2048 -nodes -days 3 -subj /CN=page".split()
+    files = ["-keyout", str(config.parent / "page.key"), "-out", str(config.parent / "page.pem")]
+    subprocess.run([*words, *files], check=True, capture_output=True)
+    add(config, '[web]\ncertificate = "page.pem"\nkey = "page.key"\n')
+    status, out, said = check(config)
+    assert (status, out) == (0, "ACCEPTED PROGRAMS 4 ALARMS 5\n")
+    assert said.startswith("warning: the page's certificate ends ") and said.count("\n") == 1
+
+
+def test_a_fifo_in_the_place_of_the_map_is_refused(config: Path) -> None:
+    os.mkfifo(config.parent / "map.toml")
+    add(config, '[fields]\nmap = "map.toml"\n')
+    status, out, said = check(config)
+    assert (status, out) == (2, "") and "map.toml: it is no ordinary file" in said
+
+
 def test_an_area_that_no_user_sees_is_told(config: Path) -> None:
     """Its alarms would stand on nobody's page."""
     add(config, '[web]\nusers = "users.toml"\n')

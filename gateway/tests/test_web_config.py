@@ -58,12 +58,12 @@ def test_without_the_table_nothing_is_served(tmp_path: Path) -> None:
 def test_what_is_taken(certificate: Path) -> None:
     found = read(certificate)
     assert found is not None and (found.host, found.port) == ("127.0.0.1", 8080)
-    assert found.users is None and found.tls is None and found.connections == 200
+    assert found.users is None and found.certificate is None and found.connections == 200
     found = read(certificate, listen="[::1]:0", users="users.toml")
     assert found is not None and found.host == "::1" and found.users is not None
     assert found.users.named("anna") is not None
     found = read(certificate, listen="localhost:80", certificate="page.pem", key="page.key")
-    assert found is not None and found.tls is not None
+    assert found is not None and found.certificate is not None
     found = read(certificate, listen="0.0.0.0:443", metrics_token="t", connections=9, **SECURE)
     assert found is not None and found.metrics_token == "t" and found.connections == 9
     for host in (
@@ -141,7 +141,7 @@ def test_areas_whose_alarms_no_user_sees() -> None:
 def test_tls(certificate: Path) -> None:
     found = read(certificate, certificate="page.pem", key="page.key")
     assert found is not None
-    with served(users=two_users(), tls=found.tls) as site:
+    with served(users=two_users(), certificate=found.certificate) as site:
         assert site.url.startswith("https://")
         trust = ssl.create_default_context(cafile=certificate / "page.pem")
         trust.check_hostname = False

@@ -91,6 +91,7 @@ const KINDS = {
   clock: "Clock",
   record: "Record",
   history: "History",
+  page: "Page",
   stale: "Stale sample",
 };
 const rank = (kind) => Object.keys(KINDS).indexOf(kind);
