@@ -146,9 +146,11 @@ def test_the_column_of_delays_may_be_there(tmp_path: Path) -> None:
 
 
 def test_files_are_those_that_the_plant_names(tmp_path: Path) -> None:
-    path = write(tmp_path, "", sources='"logic/p.st", "/dev/null"')
+    elsewhere = tmp_path / "elsewhere.st"
+    elsewhere.write_text("")
+    path = write(tmp_path, "", sources=f'"logic/p.st", "{elsewhere}"')
     (tmp_path / "notes.csv").write_text("")
-    wanted = [path, tmp_path / "logic" / "p.st", Path("/dev/null"), tmp_path / "alarms.csv"]
+    wanted = [path, tmp_path / "logic" / "p.st", elsewhere, tmp_path / "alarms.csv"]
     assert plant.files(plant.read(path)) == wanted
 
 
