@@ -105,8 +105,12 @@ class Specs:
     def __init__(self):
         self.found = collections.OrderedDict()
         self.named = {}
+        self.passed = {}  # by crate and name: the crate and the file of a lower crate that it passes on
         for crate in sorted(os.listdir(CRATES)):
             folder = os.path.join(CRATES, crate, "specs")
+            lib = os.path.join(folder, "Lib.antt")
+            for name, (low, file, _) in imports(read(lib), False).items() if os.path.isfile(lib) else []:
+                self.passed[crate, name] = (low, file)
             for name in sorted(os.listdir(folder)) if os.path.isdir(folder) else []:
                 if not name.endswith(".antt") or name == "Lib.antt":
                     continue
@@ -129,10 +133,15 @@ class Specs:
         return {key for key in keys if key in self.found}
 
     def origin(self, key):
-        """The definition itself, where a file hands on that of another one."""
-        while key not in self.found and key[2] in self.named.get(key[:2], {}):
-            crate, file, name = self.named[key[:2]][key[2]]
-            key = (crate, file, name or key[2])
+        """The definition itself, where a crate passes on a file of another one, or a file a definition."""
+        while key not in self.found:
+            if key[:2] in self.passed:
+                key = self.passed[key[:2]] + key[2:]
+            elif key[2] in self.named.get(key[:2], {}):
+                crate, file, name = self.named[key[:2]][key[2]]
+                key = (crate, file, name or key[2])
+            else:
+                break
         return key
 
     def closure(self, keys):

@@ -24,3 +24,4 @@ pub mod Words
 pub mod Made
 pub mod Sizes
 mod Examples
+pub use Rattle.vm_sizes.proofs.Tables

@@ -3,3 +3,7 @@ pub mod Pairs
 pub mod Codes
 pub mod Within
 pub mod Emission
+pub use Rattle.vm_sizes.specs.Counts
+pub use Rattle.vm_sizes.specs.Sizes
+pub use Rattle.vm_sizes.specs.declared.counts.Count
+pub use Rattle.vm_slices.specs.Slots

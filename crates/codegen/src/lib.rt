@@ -25,3 +25,4 @@ mod scope;
 pub use laws::frame_code_is_as_long;
 pub use program::compile_counted;
 pub use scope::PlacedProgram;
+pub use vm_sizes::{FrameCounts, count_frame, count_frames};

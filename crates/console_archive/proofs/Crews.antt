@@ -2,14 +2,14 @@
 use Rattle.std.proofs.Common.{◌≡◌, ℕ, Bool, true, false, if◌then◌else◌, nat_le, refl, arith}
 use Rattle.std.specs.Prelude.{Result, Ok, Err, IfErr}
 use Rattle.crew.specs.declared.fault.CrewFault.TheVariants as crew_fault
-use Rattle.engine_system.specs.declared.event.EngineFault.{EngineFault}
-use Rattle.engine_system.specs.declared.event.EngineFault.TheVariants as refusal
-use Rattle.engine_system.specs.Faults.{faults_by, faults_with, IsNoCrews}
-use Rattle.engine_system.specs.Image.{IsDue}
-use Rattle.engine_system.specs.System.{System, order_event}
-use Rattle.engine_system.specs.declared.event.TheConstants.{MOST_EVENTS}
-use Rattle.engine_history.specs.declared.event.Event.{Event}
-use Rattle.engine_history.specs.declared.event.Event.TheVariants as event
+use Rattle.engine.specs.EngineFault.{EngineFault}
+use Rattle.engine.specs.EngineFault.TheVariants as refusal
+use Rattle.engine.specs.Faults.{faults_by, faults_with, IsNoCrews}
+use Rattle.engine.specs.Image.{IsDue}
+use Rattle.engine.specs.System.{System, order_event}
+use Rattle.engine.specs.event.TheConstants.{MOST_EVENTS}
+use Rattle.engine.specs.Event.{Event}
+use Rattle.engine.specs.Event.TheVariants as event
 use Rattle.alarm_orders.specs.declared.order.Order.{Order}
 use Rattle.console_archive.specs.Refusals.{IsOrderFault}
 

@@ -3,13 +3,13 @@ use Rattle.std.proofs.Common.{◌≡◌, true, List, [], ◌∷◌, ◌++◌, Re
 use Rattle.alarm_machine.specs.Alarms.{PlainAlarm}
 use Rattle.alarm_bank.specs.declared.event.BankEvent.{BankEvent}
 use Rattle.alarm_bank.specs.Moves.{put_all}
-use Rattle.engine_history.specs.declared.event.Event.{Event}
-use Rattle.engine_history.specs.declared.event.Event.TheVariants as event
-use Rattle.plant_config.specs.Plants.{PlainPlant}
-use Rattle.engine_system.specs.declared.event.Reply.{Reply}
-use Rattle.engine_system.specs.States.{PlainPrepared, PlainPreparedOrder}
-use Rattle.engine_system.specs.System.{system, opening_system, after_event, after_scan_event}
-use Rattle.engine_system.proofs.Systems.{alarms_there}
+use Rattle.engine.specs.Event.{Event}
+use Rattle.engine.specs.Event.TheVariants as event
+use Rattle.engine.specs.Plants.{PlainPlant}
+use Rattle.engine.specs.Reply.{Reply}
+use Rattle.engine.specs.States.{PlainPrepared, PlainPreparedOrder}
+use Rattle.engine.specs.System.{system, opening_system, after_event, after_scan_event}
+use Rattle.engine.proofs.Systems.{alarms_there}
 use Rattle.engine.specs.Engines.{PlainEngine, state_of, Fits, FitsOrder, LeavesAlarms}
 use Rattle.console_boards.specs.declared.entry.BoardEntry.{BoardEntry}
 use Rattle.console_boards.specs.declared.entry.BoardEntry.TheVariants as entry

@@ -13,13 +13,13 @@ use Rattle.alarm_machine.specs.Alarms.{PlainAlarm, on_order, after_order}
 use Rattle.alarm_bank.specs.declared.event.BankEvent.TheVariants as bank_event
 use Rattle.alarm_bank.specs.Banks.{PlainBank, after_event, reply_of, told}
 use Rattle.alarm_bank.specs.Moves.{change_from}
-use Rattle.plant_config.specs.declared.rows.AlarmRow.{AlarmRow}
-use Rattle.plant_config.specs.Plants.{PlainPlant}
-use Rattle.plant_config.specs.Orderers.{has_area}
+use Rattle.engine.specs.AlarmRow.{AlarmRow}
+use Rattle.engine.specs.Plants.{PlainPlant}
+use Rattle.engine.specs.Orderers.{has_area}
 use Rattle.alarm_orders.specs.declared.order.Order.{Order}
-use Rattle.engine_system.specs.declared.state.Effect.{Effect}
-use Rattle.engine_system.specs.declared.state.Effect.TheVariants as effect
-use Rattle.engine_system.specs.Orders.{is_console, alarm_effect, order_at, order_outcome, unless_old, alarms_by, reply_by}
+use Rattle.engine.specs.Effect.{Effect}
+use Rattle.engine.specs.Effect.TheVariants as effect
+use Rattle.engine.specs.Orders.{is_console, alarm_effect, order_at, order_outcome, unless_old, alarms_by, reply_by}
 use Rattle.console_boards.specs.declared.entry.AnsweredOrder.{AnsweredOrder}
 use Rattle.alarm_machine.specs.Orders.{is_restart}
 use Rattle.console_boards.specs.Replies.{fault_number, same_change, same_reply, is_outside, after_answer, may_answer}

@@ -3,9 +3,9 @@ use Rattle.std.proofs.Common.{◌≡◌, ◌∙◌, ap, sym, refl, subst, ℕ, s
 use Rattle.std.specs.Prelude.{nat_le, slice_get, filter}
 use Rattle.std.proofs.lemmas.List.{map-append}
 use Rattle.std.proofs.lemmas.Bool.Decides.{nat_tests}
-use Rattle.plant_config.specs.Plants.{PlainPlant}
-use Rattle.engine_history.specs.declared.event.Event.{Event}
-use Rattle.engine_system.specs.System.{System, opening_system, after_event}
+use Rattle.engine.specs.Plants.{PlainPlant}
+use Rattle.engine.specs.Event.{Event}
+use Rattle.engine.specs.System.{System, opening_system, after_event}
 use Rattle.engine.specs.Journal.{NamedEntry, NamedRow, named_text, rows_from, added_entries, added_rows, journal_from, journal_of, IsLine}
 use Rattle.console_archive.specs.Pages.{is_on_page, IsPage}
 use Rattle.console_archive.proofs.Numbered.{NumberedFrom, is_between, numbered_append, none_kept, same_kept, one_more, on_page}

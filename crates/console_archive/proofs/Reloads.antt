@@ -9,11 +9,11 @@ use Rattle.std.proofs.lemmas.Bool.{le-leb, lt-ltb}
 use Rattle.alarm_machine.specs.declared.limits.TheConstants.{LONGEST_SHELVE_MS}
 use Rattle.alarm_bank.specs.declared.rows.Site.{Site}
 use Rattle.alarm_bank.specs.Reloads.{all_fit, is_there, reload_fits, reloaded_in, sites_of as new_sites}
-use Rattle.plant_config.specs.declared.rows.AlarmRow.{AlarmRow}
-use Rattle.plant_config.specs.Plants.{PlainPlant, IsAlarmRow, IsPlant}
-use Rattle.plant_config.specs.Names.{alarm_number}
-use Rattle.engine_system.specs.Reloads.{if_alike, kept_number, latch_alike, new_of, news_of}
-use Rattle.engine_system.specs.System.{System, after_reload_event, sites_of}
+use Rattle.engine.specs.AlarmRow.{AlarmRow}
+use Rattle.engine.specs.Plants.{PlainPlant, IsAlarmRow, IsPlant}
+use Rattle.engine.specs.Names.{alarm_number}
+use Rattle.engine.specs.Reloads.{if_alike, kept_number, latch_alike, new_of, news_of}
+use Rattle.engine.specs.System.{System, after_reload_event, sites_of}
 use Rattle.console_archive.specs.Entries.{panel_of}
 
 both : (a b : Bool) → a ≡ true → b ≡ true → (a && b) ≡ true

@@ -10,11 +10,11 @@ use Rattle.alarm_bank.specs.declared.event.BankEvent.TheVariants as bank_event
 use Rattle.alarm_bank.specs.Banks.{PlainBank, scan_each, after_event}
 use Rattle.alarm_bank.proofs.BankLaws.{conditions_scanned, suppressions_scanned}
 use Rattle.alarm_watch.specs.Watched.{suppression}
-use Rattle.plant_config.specs.declared.rows.AlarmRow.{AlarmRow}
-use Rattle.plant_config.specs.Names.{globals_of}
-use Rattle.engine_system.specs.Programs.{global_in}
-use Rattle.engine_system.specs.System.{System, suppressions, scanned_by, scans_after, after_scan_event}
-use Rattle.engine_system.proofs.Systems.{HasAlarms, length-scans_after}
+use Rattle.engine.specs.AlarmRow.{AlarmRow}
+use Rattle.engine.specs.Names.{globals_of}
+use Rattle.engine.specs.Programs.{global_in}
+use Rattle.engine.specs.System.{System, suppressions, scanned_by, scans_after, after_scan_event}
+use Rattle.engine.proofs.Systems.{HasAlarms, length-scans_after}
 use Rattle.alarm_delays.specs.Delays.{counts}
 use Rattle.console_archive.specs.Entries.{given_by, bank_of}
 

@@ -1,7 +1,7 @@
 -- The board goes on as the engine does.
 use Rattle.std.proofs.Common.{◌≡◌, List, [], ◌∷◌, ◌++◌, ◌+◌, length, true, ◌∙◌, ap, sym, subst, arith, length-append}
-use Rattle.engine_history.specs.declared.event.Event.{Event}
-use Rattle.plant_config.specs.Plants.{PlainPlant}
+use Rattle.engine.specs.Event.{Event}
+use Rattle.engine.specs.Plants.{PlainPlant}
 use Rattle.console_boards.specs.declared.writer.BoardWriter.{BoardWriter}
 use Rattle.console_boards.specs.declared.entry.BoardEntry.{BoardEntry}
 use Rattle.console_boards.specs.declared.picture.Picture.{Picture}

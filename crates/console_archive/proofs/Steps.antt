@@ -1,16 +1,16 @@
 -- A board goes on with a history: the next entry may come, and after it the board's alarms are the system's.
 use Rattle.std.proofs.Common.{◌≡◌, suc, true, List, [], ◌∷◌, ◌++◌, length, fold, Ok, Err, IfOk, refl, ap, sym, ◌∙◌}
 use Rattle.std.specs.declared.result.Result.{Result}
-use Rattle.engine_history.specs.declared.event.Event.{Event}
-use Rattle.engine_history.specs.declared.event.Event.TheVariants as event
-use Rattle.plant_config.specs.Plants.{PlainPlant}
-use Rattle.plant_config.specs.Names.{globals_of}
-use Rattle.engine_system.specs.System.{System, system, opening_system, after_event}
+use Rattle.engine.specs.Event.{Event}
+use Rattle.engine.specs.Event.TheVariants as event
+use Rattle.engine.specs.Plants.{PlainPlant}
+use Rattle.engine.specs.Names.{globals_of}
+use Rattle.engine.specs.System.{System, system, opening_system, after_event}
 use Rattle.alarm_bank.specs.Banks.{PlainBank}
 use Rattle.alarm_bank.specs.Reloads.{PlainAnnunciator}
-use Rattle.engine_system.proofs.Images.{taken_when}
-use Rattle.engine_system.proofs.FoundReload.{reload_found}
-use Rattle.engine_system.proofs.Systems.{HasAlarms, alarms_there, system_next, system_none}
+use Rattle.engine.proofs.Images.{taken_when}
+use Rattle.engine.proofs.FoundReload.{reload_found}
+use Rattle.engine.proofs.Systems.{HasAlarms, alarms_there, system_next, system_none}
 use Rattle.engine.specs.Lawful.{IsTaken}
 use Rattle.console_boards.specs.declared.entry.BoardEntry.{BoardEntry}
 use Rattle.console_boards.specs.declared.picture.Picture.{Picture}

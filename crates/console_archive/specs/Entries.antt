@@ -8,16 +8,16 @@ use Rattle.alarm_bank.specs.Reloads.{PlainAnnunciator}
 use Rattle.alarm_bank.specs.declared.event.BankEvent.{BankEvent}
 use Rattle.alarm_bank.specs.declared.event.BankEvent.TheVariants as bank_event
 use Rattle.alarm_delays.specs.Delays.{counts}
-use Rattle.engine_history.specs.declared.event.Event.{Event}
-use Rattle.engine_history.specs.declared.event.Event.TheVariants as event
+use Rattle.engine.specs.Event.{Event}
+use Rattle.engine.specs.Event.TheVariants as event
 use Rattle.plant_file.specs.declared.console.ListedConsole.{ListedConsole}
-use Rattle.plant_config.specs.Plants.{PlainPlant}
-use Rattle.plant_config.specs.Names.{globals_of}
-use Rattle.engine_system.specs.declared.event.Reply.{Reply}
-use Rattle.engine_system.specs.declared.event.Reply.TheVariants as reply
-use Rattle.engine_system.specs.Programs.{global_in}
-use Rattle.engine_system.specs.Reloads.{news_of}
-use Rattle.engine_system.specs.System.{System, opening_system, after_event, scans_after, suppressions, scanned_by, reply_to, sites_of}
+use Rattle.engine.specs.Plants.{PlainPlant}
+use Rattle.engine.specs.Names.{globals_of}
+use Rattle.engine.specs.Reply.{Reply}
+use Rattle.engine.specs.Reply.TheVariants as reply
+use Rattle.engine.specs.Programs.{global_in}
+use Rattle.engine.specs.Reloads.{news_of}
+use Rattle.engine.specs.System.{System, opening_system, after_event, scans_after, suppressions, scanned_by, reply_to, sites_of}
 use Rattle.console_boards.specs.declared.entry.BoardEntry.{BoardEntry}
 use Rattle.console_boards.specs.declared.entry.BoardEntry.TheVariants as entry
 use Rattle.console_boards.specs.declared.picture.Picture.{Picture}

@@ -1,13 +1,13 @@
 -- What is known of a station's archive, which other threads may have: that there is a book under its lock.
 use Rattle.std.specs.Prelude.{◌≡◌, ℕ, ◌≤◌, List, [], ◌∷◌, ◌++◌, length, Ok}
 use Rattle.plant_types.specs.Pairs.{PlainPair}
-use Rattle.engine_system.specs.declared.event.EngineFault.{EngineFault}
-use Rattle.plant_config.specs.Plants.{PlainPlant}
-use Rattle.engine_system.specs.System.{reload_event, scan_event}
+use Rattle.engine.specs.EngineFault.{EngineFault}
+use Rattle.engine.specs.Plants.{PlainPlant}
+use Rattle.engine.specs.System.{reload_event, scan_event}
 use Rattle.engine.specs.declared.reload.Reloaded.{Reloaded}
 use Rattle.engine.specs.Engines.{PlainEngine, TellsReload, state_of}
-use Rattle.engine_history.specs.declared.event.Event.{Event}
-use Rattle.engine_history.specs.declared.event.Event.TheVariants as event
+use Rattle.engine.specs.Event.{Event}
+use Rattle.engine.specs.Event.TheVariants as event
 use Rattle.console_boards.specs.declared.writer.BoardWriter.{BoardWriter}
 use Rattle.console_boards.specs.Readers.{laid, published}
 use Rattle.console_archive.specs.declared.recorder.Refusal.{Refusal}

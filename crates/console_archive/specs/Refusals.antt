@@ -1,11 +1,11 @@
 -- Why an event isn't made ready in two engines.
 use Rattle.std.specs.Prelude.{◌⊎◌, Result, IsOk}
-use Rattle.engine_history.specs.declared.event.Event.{Event}
-use Rattle.engine_system.specs.declared.event.EngineFault.{EngineFault}
-use Rattle.engine_system.specs.declared.event.EngineFault.TheVariants as refusal
-use Rattle.plant_config.specs.Plants.{PlainPlant}
-use Rattle.engine_system.specs.Image.{IsDue}
-use Rattle.engine_system.specs.System.{System, reload_event}
+use Rattle.engine.specs.Event.{Event}
+use Rattle.engine.specs.EngineFault.{EngineFault}
+use Rattle.engine.specs.EngineFault.TheVariants as refusal
+use Rattle.engine.specs.Plants.{PlainPlant}
+use Rattle.engine.specs.Image.{IsDue}
+use Rattle.engine.specs.System.{System, reload_event}
 use Rattle.engine.specs.Engines.{IsReloadRefusal}
 
 -- why an order is no event: memory was refused, or the history is full

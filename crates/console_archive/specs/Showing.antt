@@ -1,8 +1,8 @@
 -- When a board has a history.
 use Rattle.std.specs.Prelude.{◌≡◌, List}
-use Rattle.engine_history.specs.declared.event.Event.{Event}
-use Rattle.plant_config.specs.Plants.{PlainPlant}
-use Rattle.engine_system.specs.System.{system, opening_system}
+use Rattle.engine.specs.Event.{Event}
+use Rattle.engine.specs.Plants.{PlainPlant}
+use Rattle.engine.specs.System.{system, opening_system}
 use Rattle.console_boards.specs.declared.writer.BoardWriter.{BoardWriter}
 use Rattle.console_boards.specs.Stories.{shown}
 use Rattle.console_boards.specs.Replies.{after}

@@ -1,15 +1,14 @@
 //! How the board of a plant is made.
 
 ghost use Rattle.std.specs.Prelude.{◌≡◌, [], IfOk, All};
-ghost use Rattle.engine_system.specs.System.{opening_system};
+ghost use Rattle.engine.specs.System.{opening_system};
 ghost use Rattle.console_boards.specs.Counts.{consoles_in};
 ghost use Rattle.console_archive.specs.Entries.{bank_of, counted_consoles, panel_of, picture_of};
 ghost use Rattle.console_archive.specs.Showing.{HasHistory};
 
 use alarm_bank::{Annunciator, Bank};
 use console_boards::{Board, BoardWriter, Tally};
-use engine_system::opening_state;
-use plant_config::Plant;
+use engine::{Plant, opening_state};
 use plant_file::ListedConsole;
 use std::alloc::{AllocError, Global};
 use std::sync::Wait;

@@ -1,10 +1,10 @@
 //! The book of an archive: a second engine, and the tally of its events.
 
 ghost use Rattle.std.specs.Prelude.{◌≡◌, ◌+◌, ◌<◌, ◌++◌, [], ◌∷◌, length, map, string_bytes, Ok, IfOk, IfErr};
-ghost use Rattle.engine_history.specs.declared.event.Event.TheVariants as event;
-ghost use Rattle.engine_system.specs.Faults.{IsNoCrews};
-ghost use Rattle.engine_system.specs.Image.{IsDue};
-ghost use Rattle.engine_system.specs.System.{scan_event, order_event};
+ghost use Rattle.engine.specs.Event.TheVariants as event;
+ghost use Rattle.engine.specs.Faults.{IsNoCrews};
+ghost use Rattle.engine.specs.Image.{IsDue};
+ghost use Rattle.engine.specs.System.{scan_event, order_event};
 ghost use Rattle.engine.specs.Engines.{state_of, Fits, FitsOrder, FitsReload, IsReloadRefusal};
 ghost use Rattle.engine.specs.Lawful.{IsLawfulHistory};
 ghost use Rattle.engine.specs.Journal.{journal_of};

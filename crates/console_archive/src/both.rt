@@ -1,10 +1,10 @@
 //! One event in two engines: a station's own and its book's.
 
 ghost use Rattle.std.specs.Prelude.{◌≡◌, ◌+◌, ◌<◌, ◌++◌, [], ◌∷◌, Ok, IfOk, IfErr};
-ghost use Rattle.engine_history.specs.declared.event.Event.TheVariants as event;
-ghost use Rattle.engine_system.specs.Faults.{faults_by};
-ghost use Rattle.engine_system.specs.States.{IsReport};
-ghost use Rattle.engine_system.specs.System.{scan_event, order_event, reply_to};
+ghost use Rattle.engine.specs.Event.TheVariants as event;
+ghost use Rattle.engine.specs.Faults.{faults_by};
+ghost use Rattle.engine.specs.States.{IsReport};
+ghost use Rattle.engine.specs.System.{scan_event, order_event, reply_to};
 ghost use Rattle.engine.specs.Engines.{state_of, Fits, FitsOrder, FitsReload, IsReloadRefusal, TellsReload};
 ghost use Rattle.console_archive.specs.Refusals.{IsDueInBoth, IsOrderFault, IsReloadRefusedInBoth};
 

@@ -3,7 +3,7 @@
 ghost use Rattle.std.specs.Prelude.{◌≡◌, [], ◌∷◌, ◌++◌, map, slice_set, IfOk, MatchResult};
 ghost use Rattle.alarm_bank.specs.declared.event.BankEvent.TheVariants.{Scan};
 ghost use Rattle.alarm_bank.specs.Moves.{put_all};
-ghost use Rattle.engine_history.specs.declared.event.Event.TheVariants.{Order, Reload};
+ghost use Rattle.engine.specs.Event.TheVariants.{Order, Reload};
 ghost use Rattle.engine.specs.Engines.{Fits, FitsOrder, state_of};
 ghost use Rattle.engine.specs.Lawful.{IsTaken};
 ghost use Rattle.console_boards.specs.Readers.{published, log_kept};
@@ -13,9 +13,7 @@ ghost use Rattle.console_archive.specs.Showing.{HasHistory};
 use alarm_bank::BankEvent;
 use alarm_machine::Alarm;
 use console_boards::{AnsweredOrder, BoardEntry, BoardWriter, OrderOutcome};
-use engine::{Engine, Prepared, PreparedOrder};
-use engine_system::{Reply, news_of};
-use plant_config::Plant;
+use engine::{Engine, Plant, Prepared, PreparedOrder, Reply, news_of};
 use plant_types::Items;
 use std::alloc::{AllocError, Global};
 

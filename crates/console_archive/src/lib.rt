@@ -30,5 +30,10 @@ pub use both::{
     ReadyOrder, ReadyReload, ReadyScan, commit_order, commit_reload, commit_scan, ready_order,
     ready_reload, ready_scan,
 };
+pub use console_orders::take_parts;
+pub use engine::{
+    AlarmState, Crew, Done, Engine, EngineFault, Job, ListedConsole, Order, OrderFault, Pair,
+    Plant, ReloadRefused, Reloaded, Reply, Report, Start, Verb,
+};
 pub use lock::Archive;
 pub use recorder::{Recorder, Refusal};

@@ -1,7 +1,7 @@
 //! The recorder: the engine of a station, whose events are recorded in its archive too, and shown on a board.
 
 ghost use Rattle.std.specs.Prelude.{◌≡◌, ◌↔◌, IsTrue, ◌<◌, ◌≤◌, length, IfOk, IfErr, OnOk, OnErr};
-ghost use Rattle.engine_system.specs.Faults.{faults_by};
+ghost use Rattle.engine.specs.Faults.{faults_by};
 ghost use Rattle.engine.specs.Engines.{TakesScan};
 ghost use Rattle.console_boards.specs.Readers.{laid, published, log_kept};
 ghost use Rattle.console_archive.specs.Showing.{HasHistory};

@@ -2,10 +2,10 @@
 use Rattle.std.proofs.Common.{◌≡◌, ℕ, ◌≢◌, Bool, List, [], ◌∷◌, ◌++◌, fold, ap, refl, sym, ◌∙◌, append_assoc, eq-eqb, ne_eqb, if◌then◌else◌}
 use Rattle.std.proofs.lemmas.List.Sums.{fold-append}
 use Rattle.console_link.specs.declared.answer.Answer.{Answer}
-use Rattle.engine_history.specs.declared.event.Event.{Event}
-use Rattle.engine_history.specs.declared.event.Event.TheVariants as event
+use Rattle.engine_system.specs.Event.{Event}
+use Rattle.engine_system.specs.Event.TheVariants as event
 use Rattle.alarm_orders.specs.declared.order.Order.{Order}
-use Rattle.plant_config.specs.Plants.{PlainPlant}
+use Rattle.engine_system.specs.Plants.{PlainPlant}
 use Rattle.engine_system.specs.declared.event.Reply.{Reply}
 use Rattle.engine_system.specs.System.{System, system, after_event, opening_system}
 use Rattle.console_orders.specs.Parts.{answer_to, answers_in, answers_from, answers_of, orders_in, events_by}

@@ -1,10 +1,10 @@
 -- A console's part of a history: its orders, with their replies.
 use Rattle.std.specs.Prelude.{ℕ, ◌==◌, List, [], ◌∷◌, ◌++◌, map, Option, Some, None, if◌then◌else◌}
 use Rattle.console_link.specs.declared.answer.Answer.{Answer}
-use Rattle.engine_history.specs.declared.event.Event.{Event}
-use Rattle.engine_history.specs.declared.event.Event.TheVariants as event
+use Rattle.engine_system.specs.Event.{Event}
+use Rattle.engine_system.specs.Event.TheVariants as event
 use Rattle.alarm_orders.specs.declared.order.Order.{Order}
-use Rattle.plant_config.specs.Plants.{PlainPlant}
+use Rattle.engine_system.specs.Plants.{PlainPlant}
 use Rattle.engine_system.specs.declared.event.Reply.{Reply}
 use Rattle.engine_system.specs.System.{System, opening_system, after_event, reply_to}
 

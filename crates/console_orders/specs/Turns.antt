@@ -2,9 +2,9 @@
 use Rattle.std.specs.Prelude.{◌≡◌, ◌⊎◌, ℕ, ◌+◌, ◌<◌, ◌≤◌, Bool, true, false, List, [], ◌∷◌, ◌++◌, length, Result, Ok, Err, MatchBool, MatchResult}
 use Rattle.console_link.specs.declared.lane.Lane.{Lane}
 use Rattle.console_link.specs.Seats.{orders_taken, orders_known, answers_given, answer_room, SameLane}
-use Rattle.engine_history.specs.declared.event.Event.{Event}
+use Rattle.engine_system.specs.Event.{Event}
 use Rattle.alarm_orders.specs.declared.order.Order.{Order}
-use Rattle.plant_config.specs.Plants.{PlainPlant}
+use Rattle.engine_system.specs.Plants.{PlainPlant}
 use Rattle.engine_system.specs.declared.event.Reply.{Reply}
 use Rattle.engine_system.specs.System.{system}
 use Rattle.console_orders.specs.declared.recording.NotTaken.{NotTaken}

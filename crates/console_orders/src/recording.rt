@@ -2,9 +2,9 @@
 
 ghost use Rattle.std.specs.Prelude.{◌≡◌, ℕ, List, ◌++◌, [], ◌∷◌, IfOk, OnOk, OnErr};
 ghost use Rattle.console_orders.specs.Turns.{UnlessRefused, is_refused};
-ghost use Rattle.engine_history.specs.declared.event.Event.{Event};
-ghost use Rattle.engine_history.specs.declared.event.Event.TheVariants as event;
-ghost use Rattle.plant_config.specs.Plants.{PlainPlant};
+ghost use Rattle.engine_system.specs.Event.{Event};
+ghost use Rattle.engine_system.specs.Event.TheVariants as event;
+ghost use Rattle.engine_system.specs.Plants.{PlainPlant};
 ghost use Rattle.engine_system.specs.System.{system, reply_to};
 ghost use Rattle.logbook.specs.Pages.{Book};
 

@@ -7,10 +7,10 @@ use Rattle.alarm_machine.specs.Alarms.{PlainAlarm}
 use Rattle.journal_core.specs.declared.row.Row.{Row}
 use Rattle.journal_core.specs.Rows.{PlainLog, after_entry, after_entries, last_moment}
 use Rattle.journal_core.specs.declared.row.Entry.TheVariants as entry
-use Rattle.plant_config.specs.Plants.{PlainPlant}
-use Rattle.plant_config.specs.Names.{globals_of}
-use Rattle.engine_history.specs.declared.event.Event.{Event}
-use Rattle.engine_history.specs.declared.event.Event.TheVariants as event
+use Rattle.engine_system.specs.Plants.{PlainPlant}
+use Rattle.engine_system.specs.Names.{globals_of}
+use Rattle.engine_system.specs.Event.{Event}
+use Rattle.engine_system.specs.Event.TheVariants as event
 use Rattle.alarm_orders.specs.declared.order.Order.{Order}
 use Rattle.engine_system.specs.declared.state.Effect.{Effect}
 use Rattle.alarm_bank.specs.Moves.{changes_from}

@@ -3,10 +3,10 @@ use Rattle.std.proofs.Common.{◌≡◌, ℕ, ◌+◌, ◌<◌, ◌≤◌, List,
 use Rattle.std.proofs.lemmas.List.Elements.{All-nil}
 use Rattle.plant_types.specs.Pairs.{PlainPair}
 use Rattle.journal_core.specs.declared.row.Row.{Row}
-use Rattle.plant_config.specs.Plants.{PlainPlant, IsPlant}
-use Rattle.plant_config.specs.Names.{globals_of}
-use Rattle.engine_history.specs.declared.event.Event.{Event}
-use Rattle.engine_history.specs.declared.event.Event.TheVariants as event
+use Rattle.engine_system.specs.Plants.{PlainPlant, IsPlant}
+use Rattle.engine_system.specs.Names.{globals_of}
+use Rattle.engine_system.specs.Event.{Event}
+use Rattle.engine_system.specs.Event.TheVariants as event
 use Rattle.alarm_orders.specs.declared.order.Order.{Order}
 use Rattle.engine_system.specs.declared.event.TheConstants.{MOST_EVENTS}
 use Rattle.engine_system.specs.Orders.{order_outcome, unless_old, alarms_by, faulted_by, reply_by}

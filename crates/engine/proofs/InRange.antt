@@ -1,11 +1,11 @@
 -- Each event that is taken keeps each value in the range of its variable's kind.
 use Rattle.std.proofs.Common.{List}
-use Rattle.vm_logic.specs.Sound.{IsSound}
-use Rattle.vm_logic.proofs.Ranges.{opening_in_range}
-use Rattle.plant_config.specs.Plants.{PlainPlant}
-use Rattle.plant_config.specs.Names.{globals_of}
-use Rattle.engine_history.specs.declared.event.Event.{Event}
-use Rattle.engine_history.specs.declared.event.Event.TheVariants as event
+use Rattle.engine_system.specs.Sound.{IsSound}
+use Rattle.engine_system.proofs.Ranges.{opening_in_range}
+use Rattle.engine_system.specs.Plants.{PlainPlant}
+use Rattle.engine_system.specs.Names.{globals_of}
+use Rattle.engine_system.specs.Event.{Event}
+use Rattle.engine_system.specs.Event.TheVariants as event
 use Rattle.engine_system.specs.System.{System, system, after_event}
 use Rattle.engine_system.proofs.InRange.{taken_fits, scan_in, reload_in}
 use Rattle.engine.specs.Lawful.{IsTaken, IsLawfulHistory, HasValuesInRange}

@@ -3,12 +3,12 @@ use Rattle.std.proofs.Common.{◌≡◌, ℕ, ◌<◌, ◌≤◌, Bool, true, fa
 use Rattle.std.specs.Prelude.{nat_le}
 use Rattle.std.proofs.lemmas.Bool.Decides.{nat_tests}
 use Rattle.alarm_machine.specs.declared.limits.TheConstants.{LAST_MOMENT}
-use Rattle.plant_config.specs.Plants.{PlainPlant, IsPlant}
-use Rattle.plant_config.specs.Names.{globals_of}
+use Rattle.engine_system.specs.Plants.{PlainPlant, IsPlant}
+use Rattle.engine_system.specs.Names.{globals_of}
 use Rattle.engine_system.specs.declared.event.TheConstants.{MOST_EVENTS}
 use Rattle.engine_system.specs.Reloads.{numbers_of}
-use Rattle.engine_history.specs.declared.event.Event.{Event}
-use Rattle.engine_history.specs.declared.event.Event.TheVariants as event
+use Rattle.engine_system.specs.Event.{Event}
+use Rattle.engine_system.specs.Event.TheVariants as event
 use Rattle.alarm_orders.specs.declared.order.Order.{Order}
 use Rattle.engine_system.specs.declared.event.EngineFault.{EngineFault}
 use Rattle.engine_system.specs.declared.event.EngineFault.TheVariants as refusal

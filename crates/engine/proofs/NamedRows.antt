@@ -6,9 +6,9 @@ use Rattle.base_stamps.specs.Stamps.{stamp}
 use Rattle.plant_types.specs.declared.values.Place.{Place}
 use Rattle.plant_types.specs.Values.{Path}
 use Rattle.logic_source.specs.Paths.{paths_of, path_text}
-use Rattle.vm_logic.specs.Runs.{place_spot}
-use Rattle.plant_config.specs.Plants.{PlainPlant}
-use Rattle.plant_config.specs.Names.{body_path}
+use Rattle.engine_system.specs.VmLogicRuns.{place_spot}
+use Rattle.engine_system.specs.Plants.{PlainPlant}
+use Rattle.engine_system.specs.Names.{body_path}
 use Rattle.journal_core.specs.Bodies.{fault_body, body_text, row_text}
 use Rattle.journal_core.specs.declared.row.Entry.{Entry}
 use Rattle.journal_core.specs.declared.row.Entry.TheVariants as entry

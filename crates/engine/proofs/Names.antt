@@ -3,12 +3,12 @@ use Rattle.std.proofs.Common.{◌≡◌, ℕ, zero, suc, ◌+◌, ◌-◌, ◌<�
 use Rattle.std.specs.Prelude.{slice_get}
 use Rattle.std.proofs.lemmas.List.Elements.{All-head, All-tail}
 use Rattle.std.proofs.lemmas.Option.{same_Some, slice_get_cases, slice_get_within}
-use Rattle.plant_config.specs.Plants.{PlainPlant}
+use Rattle.engine_system.specs.Plants.{PlainPlant}
 use Rattle.journal_core.specs.declared.row.Entry.{Entry}
 use Rattle.journal_core.specs.declared.row.Entry.TheVariants as entry
 use Rattle.journal_core.specs.declared.row.Row.{Row}
 use Rattle.journal_core.specs.Rows.{PlainLog, after_entry, after_entries}
-use Rattle.engine_history.specs.declared.event.Event.{Event}
+use Rattle.engine_system.specs.Event.{Event}
 use Rattle.engine_system.specs.System.{system}
 use Rattle.journal_core.specs.Bodies.{row_text}
 use Rattle.engine.specs.Journal.{AreNamed, IsJournal, IsLine, IsNamed, added_entries, journal_of, name_of, named_row, row_plants}

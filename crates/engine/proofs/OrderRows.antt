@@ -13,10 +13,10 @@ use Rattle.alarm_machine.specs.declared.states.OrderFault.TheVariants as fault
 use Rattle.alarm_machine.specs.Codes.{PlainChange, code_of, change_between}
 use Rattle.alarm_machine.specs.Alarms.{PlainAlarm}
 use Rattle.journal_core.specs.declared.row.Entry.TheVariants as entry
-use Rattle.plant_config.specs.declared.rows.AlarmRow.{AlarmRow}
-use Rattle.plant_config.specs.Plants.{PlainPlant}
-use Rattle.plant_config.specs.Names.{programs_of}
-use Rattle.plant_config.specs.Orderers.{has_area}
+use Rattle.engine_system.specs.AlarmRow.{AlarmRow}
+use Rattle.engine_system.specs.Plants.{PlainPlant}
+use Rattle.engine_system.specs.Names.{programs_of}
+use Rattle.engine_system.specs.Orderers.{has_area}
 use Rattle.alarm_orders.specs.declared.order.Order.{Order}
 use Rattle.engine_system.specs.declared.state.Effect.{Effect}
 use Rattle.engine_system.specs.declared.state.Effect.TheVariants as effect

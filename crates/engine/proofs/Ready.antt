@@ -3,8 +3,8 @@ use Rattle.std.proofs.Common.{ℕ, List, length, ap, sym, ◌∙◌, subst}
 use Rattle.std.proofs.lemmas.List.{length-map}
 use Rattle.alarm_delays.specs.Delays.{PlainDelays, since_of}
 use Rattle.journal_core.specs.declared.row.Row.{Row}
-use Rattle.plant_config.specs.Plants.{PlainPlant}
-use Rattle.engine_history.specs.declared.event.Event.{Event}
+use Rattle.engine_system.specs.Plants.{PlainPlant}
+use Rattle.engine_system.specs.Event.{Event}
 use Rattle.engine_system.specs.System.{system}
 use Rattle.engine.specs.Engines.{IsEngine}
 use Rattle.engine_system.specs.States.{PlainState}

@@ -11,8 +11,8 @@ use Rattle.plant_types.specs.declared.values.Value.{Value}
 use Rattle.plant_types.specs.Values.{truth, worth, value_of_kind, is_in_range}
 use Rattle.logic_source.specs.declared.logic.Variable.{Variable}
 use Rattle.logic_source.specs.Worlds.{World, path_of}
-use Rattle.vm_logic.proofs.Ranges.{global_in_range}
-use Rattle.plant_config.specs.Names.{globals_of}
+use Rattle.engine_system.proofs.Ranges.{global_in_range}
+use Rattle.engine_system.specs.Names.{globals_of}
 use Rattle.engine_system.specs.Programs.{global_in}
 use Rattle.engine_system.specs.System.{System, is_output, outputs_from, outputs_of}
 use Rattle.engine_system.proofs.Shown.{kind_of_value}

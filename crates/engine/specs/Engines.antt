@@ -4,13 +4,13 @@ use Rattle.std.specs.Coded.{Coded, code_by, coded×, coded_list, coded_ℕ}
 use Rattle.plant_types.specs.Pairs.{PlainPair}
 use Rattle.plant_types.specs.declared.values.Value.{Value}
 use Rattle.journal_core.specs.declared.row.Row.{Row}
-use Rattle.plant_config.specs.Plants.{PlainPlant, IsPlant}
-use Rattle.plant_config.specs.Code.{plant_code}
+use Rattle.engine_system.specs.Plants.{PlainPlant, IsPlant}
+use Rattle.engine_system.specs.Code.{plant_code}
 use Rattle.alarm_machine.specs.declared.limits.TheConstants.{LAST_MOMENT}
 use Rattle.alarm_bank.specs.Moves.{put_all}
-use Rattle.engine_history.specs.declared.event.Event.{Event}
-use Rattle.engine_history.specs.declared.event.Event.TheVariants as event
-use Rattle.engine_history.specs.contracts.event.Event as event_row
+use Rattle.engine_system.specs.Event.{Event}
+use Rattle.engine_system.specs.Event.TheVariants as event
+use Rattle.engine_system.specs.EngineHistoryEvent as event_row
 use Rattle.engine_system.specs.Reports.{PlainReport}
 use Rattle.engine_system.specs.States.{PlainState, PlainPrepared, PlainPreparedOrder, IsState, IsReport, after_effect}
 use Rattle.engine_system.specs.System.{System, system, after_event, scan_event, reload_event, ordered, reply_to}

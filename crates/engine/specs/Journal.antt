@@ -11,16 +11,16 @@ use Rattle.alarm_machine.specs.Codes.{PlainChange}
 use Rattle.alarm_machine.specs.Alarms.{PlainAlarm}
 use Rattle.st_tree.specs.Meaning.{Spot}
 use Rattle.logic_source.specs.Paths.{path_text}
-use Rattle.vm_logic.specs.Runs.{place_spot}
+use Rattle.engine_system.specs.VmLogicRuns.{place_spot}
 use Rattle.journal_core.specs.declared.row.Entry.{Entry}
 use Rattle.journal_core.specs.declared.row.Entry.TheVariants as entry
 use Rattle.journal_core.specs.declared.row.Row.{Row}
 use Rattle.journal_core.specs.Rows.{fault_entry, change_entry}
 use Rattle.journal_core.specs.Bodies.{fault_body, alarm_body, order_body, reload_body}
-use Rattle.plant_config.specs.Plants.{PlainPlant}
-use Rattle.plant_config.specs.Names.{programs_of, body_paths, tag_of, program_at, body_path}
-use Rattle.engine_history.specs.declared.event.Event.{Event}
-use Rattle.engine_history.specs.declared.event.Event.TheVariants as event
+use Rattle.engine_system.specs.Plants.{PlainPlant}
+use Rattle.engine_system.specs.Names.{programs_of, body_paths, tag_of, program_at, body_path}
+use Rattle.engine_system.specs.Event.{Event}
+use Rattle.engine_system.specs.Event.TheVariants as event
 use Rattle.alarm_orders.specs.declared.order.Order.{Order}
 use Rattle.engine_system.specs.declared.state.Effect.{Effect}
 use Rattle.engine_system.specs.Reports.{PlainReport}

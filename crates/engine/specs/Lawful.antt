@@ -6,10 +6,10 @@ use Rattle.plant_types.specs.declared.values.Value.{Value}
 use Rattle.logic_source.specs.declared.logic.Variable.{Variable}
 use Rattle.logic_source.specs.Worlds.{path_of}
 use Rattle.logic_source.specs.Ranges.{AllInRange}
-use Rattle.plant_config.specs.Plants.{PlainPlant, IsPlant}
-use Rattle.plant_config.specs.Names.{globals_of}
-use Rattle.engine_history.specs.declared.event.Event.{Event}
-use Rattle.engine_history.specs.declared.event.Event.TheVariants as event
+use Rattle.engine_system.specs.Plants.{PlainPlant, IsPlant}
+use Rattle.engine_system.specs.Names.{globals_of}
+use Rattle.engine_system.specs.Event.{Event}
+use Rattle.engine_system.specs.Event.TheVariants as event
 use Rattle.engine_system.specs.System.{System, opening_system, after_event, scan_event, order_event, reload_event, is_output}
 
 -- an event was taken in a state: a scan is the one that some pairs give at its moment, an order is one that isn't refused there, and so is a reload, whose plant keeps the rules of plants

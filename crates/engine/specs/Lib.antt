@@ -2,3 +2,23 @@ pub mod Lawful
 pub mod Journal
 pub mod RowNames
 pub mod Engines
+pub use Rattle.engine_system.specs.AlarmRow
+pub use Rattle.engine_system.specs.Event
+pub use Rattle.engine_system.specs.Faults
+pub use Rattle.engine_system.specs.Image
+pub use Rattle.engine_system.specs.Names
+pub use Rattle.engine_system.specs.Orderers
+pub use Rattle.engine_system.specs.Orders
+pub use Rattle.engine_system.specs.Plants
+pub use Rattle.engine_system.specs.Programs
+pub use Rattle.engine_system.specs.Reloads
+pub use Rattle.engine_system.specs.Reports
+pub use Rattle.engine_system.specs.States
+pub use Rattle.engine_system.specs.System
+pub use Rattle.engine_system.specs.VmLogicRuns
+pub use Rattle.engine_system.specs.contracts.event.Reply as EngineSystemReply
+pub use Rattle.engine_system.specs.declared.event
+pub use Rattle.engine_system.specs.declared.event.EngineFault
+pub use Rattle.engine_system.specs.declared.event.Reply
+pub use Rattle.engine_system.specs.declared.scan.ReadyScan
+pub use Rattle.engine_system.specs.declared.state.Effect

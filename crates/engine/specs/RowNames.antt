@@ -1,7 +1,7 @@
 -- The names with which the rows of a journal are printed.
 use Rattle.std.specs.Prelude.{◌≡◌, ℕ, ◌<◌, ◌≤◌, List, length, slice_get, Some}
 use Rattle.journal_core.specs.declared.row.Row.{Row}
-use Rattle.plant_config.specs.Plants.{PlainPlant}
+use Rattle.engine_system.specs.Plants.{PlainPlant}
 use Rattle.engine.specs.Journal.{IsNamed, name_of}
 
 -- a plant has what each row names from a place on

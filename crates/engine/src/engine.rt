@@ -20,15 +20,13 @@ use alarm_orders::Order;
 use base_names::NameList;
 use base_trace::Shown;
 use crew::Crew;
-use engine_history::{Event, History};
 use engine_system::{
-    Before, EngineFault, MOST_EVENTS, Prepared, PreparedOrder, ReadyReload, ReadyScan, Reply,
-    Report, Room, RunRoom, State, alarm_state, apply, apply_scan, empty_report, may_reload,
-    opening_state, prepared_order, prepared_scan, ready_reload,
+    Before, EngineFault, Event, History, Levelled, MOST_EVENTS, Plant, Prepared, PreparedOrder,
+    ReadyReload, ReadyScan, Reply, Report, Room, RunRoom, State, Workspace, alarm_state, apply,
+    apply_scan, empty_report, may_reload, opening_state, plan_levels, prepared_order,
+    prepared_scan, ready_reload,
 };
 use journal_core::{Entry, Log, row_text};
-use level_scans::{Levelled, Workspace, plan_levels};
-use plant_config::Plant;
 use plant_types::{Items, Pair, Value};
 use slice_store::{Done, Job, Start};
 use std::alloc::{AllocError, Global};
@@ -70,7 +68,7 @@ impl Drop for Engine {
 
 impl Model for Engine {
     ghost use Rattle.std.specs.Prelude.{IfSome, length};
-    ghost use Rattle.level_scans.specs.Levels.{AreLevelsOf};
+    ghost use Rattle.engine_system.specs.Levels.{AreLevelsOf};
     ghost use Rattle.engine.specs.Engines.{PlainEngine, IsEngine, engine_code};
 
     ghost Value = { PlainEngine };

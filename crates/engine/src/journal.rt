@@ -1,7 +1,7 @@
 //! The rows that an event adds to the journal, and the text of a row.
 
 ghost use Rattle.std.specs.Prelude.{◌≡◌, ◌≤◌, ◌+◌, List, IfOk, OnOk, length, string_bytes};
-ghost use Rattle.plant_config.specs.Plants.{PlainPlant};
+ghost use Rattle.engine_system.specs.Plants.{PlainPlant};
 ghost use Rattle.alarm_machine.specs.declared.limits.TheConstants.{LAST_MOMENT};
 ghost use Rattle.journal_core.specs.Bodies.{row_text};
 ghost use Rattle.journal_core.specs.declared.row.Entry.TheVariants as entry;
@@ -14,9 +14,8 @@ use alarm_machine::{Alarm, Change, OrderFault, Verb};
 use alarm_orders::Order;
 use base_names::NameList;
 use base_stamps::Epoch;
-use engine_system::{Effect, Report, State};
+use engine_system::{Effect, Plant, Report, State};
 use journal_core::{Entry, Log, Row, row_text};
-use plant_config::Plant;
 use std::alloc::{AllocError, Global};
 
 /// Why an order is refused, if it is.

@@ -1,9 +1,9 @@
 //! Laws of lawful histories. These functions do nothing: each has a law as its contract, for the crates above.
 
 ghost use Rattle.std.specs.Prelude.{◌≡◌, ◌≤◌, List, [], ◌∷◌, length, All};
-ghost use Rattle.plant_config.specs.Plants.{PlainPlant, IsPlant};
-ghost use Rattle.engine_history.specs.declared.event.Event.{Event};
-ghost use Rattle.engine_history.specs.Reloads.{NoReload};
+ghost use Rattle.engine_system.specs.Plants.{PlainPlant, IsPlant};
+ghost use Rattle.engine_system.specs.Event.{Event};
+ghost use Rattle.engine_system.specs.EngineHistoryReloads.{NoReload};
 ghost use Rattle.engine_system.specs.Reloads.{numbers_of};
 ghost use Rattle.engine_system.specs.System.{System, after_event, system, outputs_of};
 ghost use Rattle.engine.specs.Lawful.{IsLawfulHistory, HasValuesInRange, IsOutputValue};

@@ -20,14 +20,15 @@ pub use alarm_orders::Order;
 pub use base_stamps::Epoch;
 pub use crew::{Alone, Crew, CrewFault};
 pub use engine::Engine;
-pub use engine_history::Event;
-pub use engine_system::{EngineFault, Prepared, PreparedOrder, Reply, Report};
+pub use engine_system::{
+    AlarmRow, ConfigFault, EngineFault, Event, Files, Limit, Plant, Prepared, PreparedOrder, Reply,
+    Report, Variable, news_of, opening_state,
+};
 pub use journal_core::{Entry, Log, Row};
 pub use laws::{
     event_keeps_plant, lawful_history_is_short, lawful_history_keeps_consoles_and_epoch,
     lawful_history_stays_in_range, outputs_are_worth_their_numbers, system_keeps_its_plant,
 };
-pub use plant_config::{AlarmRow, ConfigFault, Files, Limit, Plant, Variable};
 pub use plant_file::ListedConsole;
 pub use plant_types::{Given, Items, Kind, Pair, Place, Region, Text, Trap, Value};
 pub use reload::{PreparedReload, ReloadRefused, Reloaded};

@@ -2,8 +2,7 @@
 
 ghost use Rattle.std.specs.Prelude.{◌≡◌};
 
-use engine_system::{EngineFault, ReadyReload};
-use plant_config::Plant;
+use engine_system::{EngineFault, Plant, ReadyReload};
 use std::marker::Model;
 
 /// A reload that was made ready to be committed.
@@ -20,7 +19,7 @@ impl Drop for PreparedReload {
 
 impl Model for PreparedReload {
     ghost use Rattle.std.specs.Coded.{codes};
-    ghost use Rattle.plant_config.specs.Code.{plant_code};
+    ghost use Rattle.engine_system.specs.Code.{plant_code};
     ghost use Rattle.engine.specs.Engines.{PlainPreparedReload};
 
     ghost Value = { PlainPreparedReload };

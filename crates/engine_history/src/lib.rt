@@ -10,3 +10,4 @@ mod history;
 
 pub use event::Event;
 pub use history::History;
+pub use plant_config::{AlarmRow, ConfigFault, Files, Limit, Plant, Variable};

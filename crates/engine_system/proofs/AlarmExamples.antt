@@ -4,7 +4,7 @@ use Rattle.std.specs.Prelude.{Option, false}
 use Rattle.alarm_machine.specs.Codes.{PlainChange}
 use Rattle.alarm_machine.specs.declared.states.Code.{Code}
 use Rattle.alarm_machine.specs.declared.states.Code.TheVariants.{Norm, Unack, Suppr}
-use Rattle.plant_config.specs.declared.rows.AlarmRow.{AlarmRow}
+use Rattle.engine_history.specs.AlarmRow.{AlarmRow}
 use Rattle.alarm_bank.specs.Moves.{changes_from}
 use Rattle.engine_system.specs.System.{no_scans, opening_alarm, alarms_after, scans_after}
 

@@ -11,11 +11,11 @@ use Rattle.logic_source.specs.declared.logic.Variable.{Variable}
 use Rattle.logic_source.specs.Source.{Source}
 use Rattle.logic_source.specs.Worlds.{World, assign, path_of}
 use Rattle.logic_cells.specs.Cells.{PlainCells, value_at}
-use Rattle.logic_frames.specs.Stands.{StandFor}
-use Rattle.vm_logic.specs.Sound.{IsSound}
-use Rattle.vm_logic.proofs.Standing.{cell_holds, cell_written}
-use Rattle.plant_config.specs.declared.rows.AlarmRow.{AlarmRow}
-use Rattle.plant_config.specs.Plants.{PlainPlant, IsAlarmRow, IsBoolGlobal}
+use Rattle.level_scans.specs.Stands.{StandFor}
+use Rattle.level_scans.specs.Sound.{IsSound}
+use Rattle.level_scans.proofs.Standing.{cell_holds, cell_written}
+use Rattle.engine_history.specs.AlarmRow.{AlarmRow}
+use Rattle.engine_history.specs.Plants.{PlainPlant, IsAlarmRow, IsBoolGlobal}
 use Rattle.engine_system.specs.Programs.{global_in, with_input, with_inputs}
 use Rattle.alarm_bank.specs.Banks.{scan_each}
 use Rattle.std_blocks.specs.Calls.{Call}

@@ -14,9 +14,9 @@ use Rattle.alarm_machine.specs.Alarms.{PlainAlarm, on_order}
 use Rattle.alarm_delays.specs.Delays.{PlainDelays, Follows, has_come}
 use Rattle.alarm_watch.specs.declared.watched.Watch.{Watch}
 use Rattle.alarm_watch.specs.Watched.{Follow}
-use Rattle.plant_config.specs.declared.rows.AlarmRow.{AlarmRow}
-use Rattle.plant_config.specs.Plants.{PlainPlant}
-use Rattle.plant_config.specs.Orderers.{has_area}
+use Rattle.engine_history.specs.AlarmRow.{AlarmRow}
+use Rattle.engine_history.specs.Plants.{PlainPlant}
+use Rattle.engine_history.specs.Orderers.{has_area}
 use Rattle.alarm_orders.specs.declared.order.Order.{Order}
 use Rattle.engine_system.specs.declared.state.Effect.{Effect}
 use Rattle.engine_system.specs.declared.state.Effect.TheVariants as effect

@@ -26,14 +26,14 @@ use Rattle.logic_source.specs.Ranges.{AllInRange}
 use Rattle.logic_source.specs.Carried.{carried}
 use Rattle.logic_source.proofs.Carrying.{carried_in_range}
 use Rattle.logic_cells.specs.Cells.{PlainCells}
-use Rattle.logic_frames.specs.Stands.{StandFor}
-use Rattle.vm_logic.specs.Sound.{IsSound}
-use Rattle.vm_logic.specs.Runs.{HasCells}
-use Rattle.vm_logic.proofs.Small.{sound_named}
-use Rattle.vm_logic.proofs.Standing.{are_there}
-use Rattle.vm_logic.proofs.Ranges.{run_program_keeps, assigned_global_keeps, opening_in_range}
-use Rattle.plant_config.specs.Plants.{PlainPlant}
-use Rattle.plant_config.specs.Names.{globals_of}
+use Rattle.level_scans.specs.Stands.{StandFor}
+use Rattle.level_scans.specs.Sound.{IsSound}
+use Rattle.level_scans.specs.VmLogicRuns.{HasCells}
+use Rattle.level_scans.proofs.Small.{sound_named}
+use Rattle.level_scans.proofs.Standing.{are_there}
+use Rattle.level_scans.proofs.Ranges.{run_program_keeps, assigned_global_keeps, opening_in_range}
+use Rattle.engine_history.specs.Plants.{PlainPlant}
+use Rattle.engine_history.specs.Names.{globals_of}
 use Rattle.engine_history.specs.declared.event.Event.TheVariants as event
 use Rattle.engine_system.specs.declared.image.Input.{Input}
 use Rattle.engine_system.specs.Image.{input_at, input_of, inputs_of, values_of, FitsGlobal}

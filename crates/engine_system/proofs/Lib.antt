@@ -12,3 +12,4 @@ pub mod InRange
 pub mod Shown
 mod Watches
 mod Follows
+pub use Rattle.level_scans.proofs.Ranges

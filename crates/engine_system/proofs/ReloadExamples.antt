@@ -5,8 +5,8 @@ use Rattle.alarm_machine.specs.Alarms.{PlainAlarm}
 use Rattle.alarm_machine.specs.declared.states.AlarmState.TheVariants as state
 use Rattle.plant_file.specs.declared.console.ListedConsole.{ListedConsole}
 use Rattle.logic_source.specs.Source.{Source}
-use Rattle.plant_config.specs.declared.rows.AlarmRow.{AlarmRow}
-use Rattle.plant_config.specs.Plants.{PlainPlant}
+use Rattle.engine_history.specs.AlarmRow.{AlarmRow}
+use Rattle.engine_history.specs.Plants.{PlainPlant}
 use Rattle.engine_history.specs.declared.event.Event.TheVariants as event
 use Rattle.engine_system.specs.declared.event.EngineFault.TheVariants as refusal
 use Rattle.std_blocks.specs.Calls.{Call}

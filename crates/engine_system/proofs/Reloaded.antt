@@ -15,11 +15,11 @@ use Rattle.alarm_delays.proofs.Keeping.{kept_agree}
 use Rattle.logic_source.specs.Worlds.{World}
 use Rattle.logic_source.specs.Carried.{carried}
 use Rattle.logic_cells.specs.Cells.{PlainCells, value_at}
-use Rattle.logic_frames.specs.Stands.{StandFor}
-use Rattle.vm_logic.specs.Sound.{IsSound}
-use Rattle.plant_config.specs.declared.rows.AlarmRow.{AlarmRow}
-use Rattle.plant_config.specs.Plants.{PlainPlant, IsPlant, IsAlarmRow}
-use Rattle.plant_config.specs.Names.{alarm_number, globals_of}
+use Rattle.level_scans.specs.Stands.{StandFor}
+use Rattle.level_scans.specs.Sound.{IsSound}
+use Rattle.engine_history.specs.AlarmRow.{AlarmRow}
+use Rattle.engine_history.specs.Plants.{PlainPlant, IsPlant, IsAlarmRow}
+use Rattle.engine_history.specs.Names.{alarm_number, globals_of}
 use Rattle.engine_system.specs.Programs.{global_in}
 use Rattle.engine_system.specs.Reloads.{if_alike, kept_number, kept_numbers, kept_of, latch_alike, new_of, news_of}
 use Rattle.engine_system.specs.System.{System, after_reload_event, delays_of, sites_of}

@@ -9,8 +9,8 @@ use Rattle.plant_types.specs.Values.{kind_of, value_of_kind, is_in_range}
 use Rattle.logic_source.specs.declared.logic.Variable.{Variable}
 use Rattle.logic_source.specs.Source.{Source}
 use Rattle.logic_cells.specs.Cells.{PlainCells, value_at}
-use Rattle.vm_logic.proofs.Standing.{cell_holds}
-use Rattle.vm_logic.proofs.Ranges.{global_in_range}
+use Rattle.level_scans.proofs.Standing.{cell_holds}
+use Rattle.level_scans.proofs.Ranges.{global_in_range}
 use Rattle.engine_system.specs.System.{is_output, outputs_from}
 use Rattle.engine_system.specs.Steps.{IsShowable, AreShowable, StandInRange}
 

@@ -21,10 +21,10 @@ use Rattle.logic_source.specs.Source.{Source}
 use Rattle.logic_source.specs.Worlds.{World, opening, run_program}
 use Rattle.logic_source.specs.Paths.{paths_of, path_text}
 use Rattle.logic_cells.specs.Cells.{PlainCells, value_at}
-use Rattle.logic_frames.specs.Stands.{StandFor}
-use Rattle.vm_logic.specs.Sound.{IsSound}
-use Rattle.plant_config.specs.declared.rows.AlarmRow.{AlarmRow}
-use Rattle.plant_config.specs.Plants.{PlainPlant, IsPlant, IsAlarmRow}
+use Rattle.level_scans.specs.Stands.{StandFor}
+use Rattle.level_scans.specs.Sound.{IsSound}
+use Rattle.engine_history.specs.AlarmRow.{AlarmRow}
+use Rattle.engine_history.specs.Plants.{PlainPlant, IsPlant, IsAlarmRow}
 use Rattle.engine_system.specs.declared.event.TheConstants.{MOST_EVENTS}
 use Rattle.engine_history.specs.declared.event.Event.{Event}
 use Rattle.engine_history.specs.declared.event.Event.TheVariants as event
@@ -34,7 +34,7 @@ use Rattle.engine_system.specs.declared.event.EngineFault.{EngineFault}
 use Rattle.engine_system.specs.declared.event.EngineFault.TheVariants as refusal
 use Rattle.engine_system.specs.declared.state.Effect.{Effect}
 use Rattle.engine_system.specs.declared.state.Effect.TheVariants as effect
-use Rattle.plant_config.specs.Names.{globals_of, programs_of, body_paths}
+use Rattle.engine_history.specs.Names.{globals_of, programs_of, body_paths}
 use Rattle.level_scans.specs.Scans.{Scanned, after_run, programs_from}
 use Rattle.engine_system.specs.Programs.{opening_faulted, with_inputs, global_in, world_after}
 use Rattle.engine_system.specs.Orders.{order_outcome, unless_old, alarms_by, faulted_by}

@@ -8,7 +8,7 @@ use Rattle.alarm_bank.specs.Banks.{scan_each}
 use Rattle.std_blocks.specs.Calls.{Call}
 use Rattle.alarm_delays.specs.Delays.{PlainDelays, after_conditions, delayed_each, since_of}
 use Rattle.alarm_delays.proofs.DelayLaws.{counts_scans, since_scans}
-use Rattle.plant_config.specs.declared.rows.AlarmRow.{AlarmRow}
+use Rattle.engine_history.specs.AlarmRow.{AlarmRow}
 use Rattle.alarm_watch.specs.declared.watched.Watch.{Watch}
 use Rattle.alarm_watch.specs.Watched.{suppression, watched_conditions, watched_suppressions, alarms_watched}
 use Rattle.engine_system.specs.System.{conditions, delays_of, no_scans, suppressions, alarms_after, scans_after}

@@ -11,8 +11,8 @@ use Rattle.alarm_machine.specs.Alarms.{PlainAlarm, after_order}
 use Rattle.alarm_machine.specs.Codes.{PlainChange}
 use Rattle.alarm_bank.specs.Moves.{change_from}
 use Rattle.plant_file.specs.declared.console.ListedConsole.{ListedConsole}
-use Rattle.plant_config.specs.Plants.{PlainPlant}
-use Rattle.plant_config.specs.Orderers.{has_area}
+use Rattle.engine_history.specs.Plants.{PlainPlant}
+use Rattle.engine_history.specs.Orderers.{has_area}
 use Rattle.alarm_orders.specs.Orders.{order_with}
 use Rattle.alarm_orders.specs.declared.order.Order.{Order}
 use Rattle.engine_system.specs.declared.event.Reply.{Reply}

@@ -6,8 +6,8 @@ use Rattle.plant_types.specs.Values.{worth}
 use Rattle.logic_source.specs.declared.logic.Variable.{Variable}
 use Rattle.logic_source.specs.Worlds.{World, assign, path_of}
 use Rattle.level_scans.specs.Scans.{Scanned, programs_from}
-use Rattle.plant_config.specs.Plants.{PlainPlant}
-use Rattle.plant_config.specs.Names.{globals_of}
+use Rattle.engine_history.specs.Plants.{PlainPlant}
+use Rattle.engine_history.specs.Names.{globals_of}
 
 -- before the first event none of the programs is faulted
 abbrev pub opening_faulted : List (List ℕ) → List Bool

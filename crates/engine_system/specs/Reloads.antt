@@ -4,9 +4,9 @@ use Rattle.std.specs.List.{count_by}
 use Rattle.std.specs.Option.{is_none, is_some, option_map_or, option_and_then}
 use Rattle.alarm_bank.specs.declared.rows.NewAlarm.{NewAlarm}
 use Rattle.plant_file.specs.declared.console.ListedConsole.{ListedConsole}
-use Rattle.plant_config.specs.declared.rows.AlarmRow.{AlarmRow}
-use Rattle.plant_config.specs.Plants.{PlainPlant}
-use Rattle.plant_config.specs.Names.{alarm_number}
+use Rattle.engine_history.specs.AlarmRow.{AlarmRow}
+use Rattle.engine_history.specs.Plants.{PlainPlant}
+use Rattle.engine_history.specs.Names.{alarm_number}
 
 -- two alarms latch alike: both do, or neither does
 abbrev pub latch_alike : Bool → Bool → Bool

@@ -2,8 +2,8 @@
 use Rattle.std.specs.Prelude.{◌≡◌, ℕ, ◌<◌, ◌≤◌, Bool, true, false, List, length, map, All, Result}
 use Rattle.plant_types.specs.declared.values.Value.{Value}
 use Rattle.logic_cells.specs.Cells.{PlainCells, value_at}
-use Rattle.logic_frames.specs.Stands.{StandFor}
-use Rattle.vm_logic.specs.Runs.{place_spot}
+use Rattle.level_scans.specs.Stands.{StandFor}
+use Rattle.level_scans.specs.VmLogicRuns.{place_spot}
 use Rattle.alarm_machine.specs.Alarms.{PlainAlarm}
 use Rattle.alarm_machine.specs.declared.states.OrderFault.{OrderFault}
 use Rattle.alarm_machine.specs.declared.limits.TheConstants.{LAST_MOMENT}
@@ -13,8 +13,8 @@ use Rattle.alarm_bank.specs.Moves.{put_all}
 use Rattle.alarm_delays.specs.Delays.{PlainDelays, after_met, since_of}
 use Rattle.alarm_watch.specs.declared.watched.Watch.{Watch}
 use Rattle.alarm_watch.specs.Watched.{Follow}
-use Rattle.plant_config.specs.Plants.{PlainPlant}
-use Rattle.plant_config.specs.Names.{globals_of, programs_of, body_paths}
+use Rattle.engine_history.specs.Plants.{PlainPlant}
+use Rattle.engine_history.specs.Names.{globals_of, programs_of, body_paths}
 use Rattle.engine_history.specs.declared.event.Event.{Event}
 use Rattle.alarm_orders.specs.declared.order.Order.{Order}
 use Rattle.engine_system.specs.declared.event.Reply.{Reply}

@@ -10,10 +10,10 @@ use Rattle.logic_source.specs.Worlds.{World}
 use Rattle.logic_source.specs.Ranges.{AllInRange}
 use Rattle.logic_source.specs.Paths.{paths_of}
 use Rattle.logic_cells.specs.Cells.{PlainCells, value_at, assigned}
-use Rattle.logic_frames.specs.Stands.{StandFor}
-use Rattle.plant_config.specs.Plants.{IsPlant, PlainPlant}
-use Rattle.plant_config.specs.Names.{globals_of, programs_of}
-use Rattle.vm_logic.specs.Sound.{IsSound}
+use Rattle.level_scans.specs.Stands.{StandFor}
+use Rattle.engine_history.specs.Plants.{IsPlant, PlainPlant}
+use Rattle.engine_history.specs.Names.{globals_of, programs_of}
+use Rattle.level_scans.specs.Sound.{IsSound}
 use Rattle.alarm_bank.specs.Moves.{changes_from}
 use Rattle.alarm_machine.specs.declared.limits.TheConstants.{LAST_MOMENT}
 use Rattle.engine_history.specs.declared.event.Event.TheVariants as event

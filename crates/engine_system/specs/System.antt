@@ -22,9 +22,9 @@ use Rattle.alarm_bank.specs.Banks.{scan_each, counted}
 use Rattle.alarm_bank.specs.Reloads.{alarm_of}
 use Rattle.alarm_bank.specs.Moves.{changes_from}
 use Rattle.alarm_watch.specs.Watched.{suppression}
-use Rattle.plant_config.specs.declared.rows.AlarmRow.{AlarmRow}
-use Rattle.plant_config.specs.Plants.{PlainPlant}
-use Rattle.plant_config.specs.Names.{globals_of, programs_of}
+use Rattle.engine_history.specs.AlarmRow.{AlarmRow}
+use Rattle.engine_history.specs.Plants.{PlainPlant}
+use Rattle.engine_history.specs.Names.{globals_of, programs_of}
 use Rattle.alarm_machine.specs.declared.limits.TheConstants.{LAST_MOMENT}
 use Rattle.engine_system.specs.declared.event.TheConstants.{MOST_EVENTS}
 use Rattle.engine_history.specs.declared.event.Event.{Event}

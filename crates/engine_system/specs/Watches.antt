@@ -1,6 +1,6 @@
 -- What each alarm of a plant watches.
 use Rattle.std.specs.Prelude.{List, map}
-use Rattle.plant_config.specs.declared.rows.AlarmRow.{AlarmRow}
+use Rattle.engine_history.specs.AlarmRow.{AlarmRow}
 use Rattle.alarm_watch.specs.declared.watched.Watch.{Watch}
 
 -- the globals that an alarm watches

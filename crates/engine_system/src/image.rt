@@ -2,7 +2,7 @@
 
 ghost use Rattle.std.specs.Prelude.{◌≡◌, ◌<◌, length, All, IfOk, IfErr, IfSome, OnOk, Ok, Some, None, ◌≤◌, ◌==◌, if◌then◌else◌};
 ghost use Rattle.std.specs.List.{list_any};
-ghost use Rattle.plant_config.specs.Names.{globals_of};
+ghost use Rattle.engine_history.specs.Names.{globals_of};
 ghost use Rattle.engine_system.specs.Faults.{IsNoCrews};
 ghost use Rattle.engine_system.specs.Image.{input_of, inputs_of, has_twin, values_of, image_of, IsDue};
 ghost use Rattle.engine_system.specs.System.{taken_scan};
@@ -11,7 +11,7 @@ ghost use Rattle.engine_history.specs.declared.event.Event.TheVariants.{Scan};
 use crate::event::{EngineFault, MOST_EVENTS};
 use crate::scan::Room;
 use alarm_machine::LAST_MOMENT;
-use plant_config::Plant;
+use engine_history::Plant;
 use plant_types::{Given, Kind, Pair, Region, Value, fitted};
 use std::alloc::{AllocError, Global};
 

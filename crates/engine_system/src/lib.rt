@@ -18,8 +18,10 @@ mod scan;
 mod state;
 mod steps;
 
+pub use engine_history::{AlarmRow, ConfigFault, Event, Files, History, Limit, Plant, Variable};
 pub use event::{EngineFault, MOST_EVENTS, Reply, Report};
 pub use image::Input;
+pub use level_scans::{Levelled, Workspace, plan_levels};
 pub use orders::{PreparedOrder, prepared_order};
 pub use reloading::{ReadyReload, ready_reload};
 pub use reloads::{may_reload, news_of};

@@ -14,7 +14,7 @@ use crate::state::{Effect, State};
 use alarm_bank::Bank;
 use alarm_machine::{Alarm, Change, OrderFault, Verb};
 use alarm_orders::Order;
-use plant_config::Plant;
+use engine_history::Plant;
 use plant_file::ListedConsole;
 use std::marker::Model;
 

@@ -3,7 +3,7 @@
 ghost use Rattle.std.specs.Prelude.{◌≡◌, ◌<◌, IfOk, length};
 ghost use Rattle.alarm_bank.specs.Reloads.{bank_reloaded};
 ghost use Rattle.alarm_delays.specs.Delays.{delays_reloaded};
-ghost use Rattle.plant_config.specs.Plants.{IsPlant};
+ghost use Rattle.engine_history.specs.Plants.{IsPlant};
 ghost use Rattle.engine_system.specs.Reloads.{kept_numbers, news_of};
 ghost use Rattle.engine_system.specs.States.{bank_in};
 ghost use Rattle.engine_system.specs.Steps.{IsReady, IsReadyReload};
@@ -15,9 +15,9 @@ use crate::state::{State, state_with};
 use crate::steps::delays_of;
 use alarm_bank::{Bank, NewAlarm};
 use alarm_delays::Delays;
-use plant_config::Plant;
+use engine_history::Plant;
+use level_scans::carry;
 use std::alloc::{AllocError, Global};
-use vm_carry::carry;
 
 /// A reload that was made ready: what it leaves of a state, and what it tells of the alarms.
 #[derive(Drop)]

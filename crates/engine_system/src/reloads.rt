@@ -8,7 +8,7 @@ ghost use Rattle.engine_system.specs.System.{taken_reload};
 
 use crate::event::{EngineFault, MOST_EVENTS};
 use alarm_bank::{NewAlarm, Site};
-use plant_config::Plant;
+use engine_history::Plant;
 use plant_file::ListedConsole;
 use std::alloc::{AllocError, Global};
 

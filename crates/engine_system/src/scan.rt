@@ -2,7 +2,7 @@
 
 ghost use Rattle.std.specs.Prelude.{◌≡◌, ◌≤◌, All, Ok, IfOk, OnOk, IfErr, IfSome};
 ghost use Rattle.alarm_machine.specs.declared.limits.TheConstants.{LAST_MOMENT};
-ghost use Rattle.plant_config.specs.Names.{globals_of};
+ghost use Rattle.engine_history.specs.Names.{globals_of};
 ghost use Rattle.engine_history.specs.declared.event.Event.TheVariants.{Scan};
 ghost use Rattle.level_scans.specs.Levels.{AreLevelsOf};
 ghost use Rattle.engine_system.specs.Faults.{faults_by};
@@ -17,10 +17,9 @@ use crate::state::{ScanEffect, State, copy_cells, copy_flags, empty_effect};
 use crate::steps::{list_changed, renew, set_inputs, step_alarms};
 use alarm_bank::Marks;
 use crew::Crew;
-use level_scans::{Levelled, ScanChanged, ScanGiven, Workspace, run_programs};
-use plant_config::Plant;
+use engine_history::Plant;
+use level_scans::{Done, Job, Levelled, ScanChanged, ScanGiven, Start, Workspace, run_programs};
 use plant_types::{Pair, Value};
-use slice_store::{Done, Job, Start};
 use std::alloc::{AllocError, Global};
 use std::marker::Model;
 use std::mem::swap;

@@ -16,9 +16,9 @@ use alarm_bank::{Marks, Site};
 use alarm_delays::Listed;
 use alarm_machine::Alarm;
 use alarm_watch::{LastScan, Watch, value_at};
+use engine_history::AlarmRow;
 use logic_cells::Cells;
 use logic_source::Variable;
-use plant_config::AlarmRow;
 use plant_types::{Region, Value};
 use std::alloc::{AllocError, Global};
 

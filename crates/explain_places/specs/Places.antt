@@ -2,7 +2,7 @@
 use Rattle.std.specs.Prelude.{ℕ, ◌-◌, List, [], slice_index_or}
 use Rattle.st_lexer.specs.Lexes.{mark_len, unmarked}
 use Rattle.st_lexer.specs.Places.{line_at, column_at}
-use Rattle.plant_config.specs.Files.{Texts}
+use Rattle.plant_folder.specs.Files.{Texts}
 use Rattle.explain_tokens.specs.declared.spot.FileOf.{FileOf}
 use Rattle.explain_tokens.specs.declared.spot.FileOf.TheVariants as f
 use Rattle.explain_places.specs.declared.place.TextPlace.{TextPlace}

@@ -1,3 +1,9 @@
 pub mod Faults
 pub mod Spotted
 pub mod Gathers
+pub use Rattle.level_runs.specs.Accesses
+pub use Rattle.level_runs.specs.Plans
+pub use Rattle.level_runs.specs.Programs
+pub use Rattle.level_runs.specs.Stores
+pub use Rattle.slice_store.specs.Level
+pub use Rattle.slice_store.specs.Splits

@@ -17,4 +17,6 @@ pub use laws::{
     gathered_level_is_taken, gathered_levels_run_as_in_order, planned_levels_can_split,
     planned_parts_can_be_split,
 };
+pub use level_runs::plan_of;
 pub use running::run_levels;
+pub use slice_store::{Done, Job, Parts, Reserve, Start, Store};

@@ -9,21 +9,21 @@ use Rattle.logic_source.specs.Source.{Source, global_cells}
 use Rattle.logic_source.specs.Worlds.{World}
 use Rattle.logic_cells.specs.Cells.{PlainCells}
 use Rattle.plant_types.specs.Values.{Path}
-use Rattle.logic_frames.specs.Stands.{StandFor}
+use Rattle.vm_carry.specs.Stands.{StandFor}
 use Rattle.acc_vm.specs.Codes.{PlainCode}
 use Rattle.vm_slices.specs.Parts.{PlainPart}
 use Rattle.vm_slices.specs.Slots.{Names, NamesClock}
-use Rattle.level_runs.specs.Stores.{in_order}
-use Rattle.level_runs.specs.Accesses.{HaveOwnCells}
-use Rattle.level_runs.specs.Plans.{IsPlanOf}
-use Rattle.level_runs.specs.Programs.{no_code, code_at, programs_at}
-use Rattle.slice_store.specs.Level.{Stored}
-use Rattle.slice_store.specs.Splits.{ArePartsOf, CanSplit}
+use Rattle.level_jobs.specs.Stores.{in_order}
+use Rattle.level_jobs.specs.Accesses.{HaveOwnCells}
+use Rattle.level_jobs.specs.Plans.{IsPlanOf}
+use Rattle.level_jobs.specs.Programs.{no_code, code_at, programs_at}
+use Rattle.level_jobs.specs.Level.{Stored}
+use Rattle.level_jobs.specs.Splits.{ArePartsOf, CanSplit}
 use Rattle.level_jobs.specs.declared.fault.ProgramFault.{ProgramFault}
 use Rattle.level_jobs.specs.Gathers.{FitCells, EndsInOrder}
 use Rattle.level_jobs.specs.Spotted.{HasItsPath, spotted}
 use Rattle.level_jobs.proofs.Planned.{planned_can_split, parts_are}
-use Rattle.vm_logic.specs.Runs.{HasCells, IsProgramCode, paths_in}
+use Rattle.vm_carry.specs.Runs.{HasCells, IsProgramCode, paths_in}
 use Rattle.level_scans.specs.Scans.{programs_from}
 use Rattle.level_scans.specs.Runs.{ProgramsRan}
 use Rattle.level_scans.specs.Levels.{PlainLevelled, AreProgramCodes, AreLevelsOf}

@@ -6,13 +6,13 @@ use Rattle.st_tree.specs.Meaning.{Ran, Done, Trapped, Spot}
 use Rattle.logic_source.specs.Source.{Source}
 use Rattle.logic_source.specs.Worlds.{World, run_program}
 use Rattle.logic_cells.specs.Cells.{PlainCells}
-use Rattle.logic_frames.specs.Stands.{StandFor}
+use Rattle.vm_carry.specs.Stands.{StandFor}
 use Rattle.acc_vm.specs.Machine.{Run, Over}
 use Rattle.acc_vm.specs.Codes.{PlainCode}
-use Rattle.level_runs.specs.Stores as programs
-use Rattle.level_runs.specs.Stores.{Outcome, with_program, in_order}
-use Rattle.level_runs.specs.Programs.{as_ran, programs_at}
-use Rattle.vm_logic.specs.Runs.{Agree, paths_in}
+use Rattle.level_jobs.specs.Stores as programs
+use Rattle.level_jobs.specs.Stores.{Outcome, with_program, in_order}
+use Rattle.level_jobs.specs.Programs.{as_ran, programs_at}
+use Rattle.vm_carry.specs.Runs.{Agree, paths_in}
 use Rattle.level_scans.specs.Scans.{Scanned, with_flag, after_run, programs_from}
 use Rattle.level_scans.specs.Levels.{AreProgramCodes}
 

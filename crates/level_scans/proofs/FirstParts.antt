@@ -5,9 +5,9 @@ use Rattle.std.proofs.lemmas.List.{length_push, get_or_push, get_or_append_left}
 use Rattle.logic_source.specs.Source.{Source}
 use Rattle.acc_vm.specs.Codes.{PlainCode}
 use Rattle.vm_slices.specs.Parts.{PlainPart, IsPartOf}
-use Rattle.level_runs.specs.Accesses.{ArePartsOf}
-use Rattle.level_runs.specs.Programs.{no_code, code_at}
-use Rattle.vm_logic.specs.Runs.{IsProgramCode}
+use Rattle.level_jobs.specs.Accesses.{ArePartsOf}
+use Rattle.level_jobs.specs.Programs.{no_code, code_at}
+use Rattle.vm_carry.specs.Runs.{IsProgramCode}
 
 -- parts are those of the codes of the first so many programs
 pub record AreFirstParts (source : Source) (k : ℕ) (parts : List PlainPart) : Type 0 where

@@ -9,8 +9,8 @@ use Rattle.logic_source.specs.Paths.{paths_of}
 use Rattle.logic_cells.specs.Runs.{spot_of}
 use Rattle.level_jobs.specs.declared.fault.ProgramFault.{ProgramFault}
 use Rattle.level_jobs.specs.Spotted.{spotted}
-use Rattle.vm_logic.specs.Bases.{program_paths_base}
-use Rattle.vm_logic.specs.Runs.{paths_in, place_spot, placed_from}
+use Rattle.vm_carry.specs.Bases.{program_paths_base}
+use Rattle.vm_carry.specs.Runs.{paths_in, place_spot, placed_from}
 use Rattle.level_scans.specs.Faults.{IsOfProgram, placed_fault}
 
 -- a program's places are the same spots by the paths of the source

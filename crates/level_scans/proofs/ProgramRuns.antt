@@ -9,8 +9,8 @@ use Rattle.st_tree.specs.Meaning.{Ran, Done, Trapped, Spot}
 use Rattle.logic_source.specs.Source.{Source}
 use Rattle.logic_source.specs.Worlds.{World, run_program}
 use Rattle.logic_cells.specs.Cells.{PlainCells}
-use Rattle.logic_frames.specs.Stands.{StandFor}
-use Rattle.vm_logic.specs.Runs.{place_spot, Agree}
+use Rattle.vm_carry.specs.Stands.{StandFor}
+use Rattle.vm_carry.specs.Runs.{place_spot, Agree}
 use Rattle.level_scans.specs.Scans.{Scanned, with_flag, with_fault, after_run, programs_from}
 use Rattle.level_scans.specs.Runs.{ProgramsRan, run_by, ended_by}
 

@@ -4,8 +4,8 @@ use Rattle.plant_types.specs.declared.values.Place.{Place}
 use Rattle.plant_types.specs.declared.values.Trap.{Trap}
 use Rattle.logic_source.specs.Source.{Source}
 use Rattle.level_jobs.specs.declared.fault.ProgramFault.{ProgramFault}
-use Rattle.vm_logic.specs.Bases.{program_paths_base}
-use Rattle.vm_logic.specs.Runs.{paths_in, placed_from}
+use Rattle.vm_carry.specs.Bases.{program_paths_base}
+use Rattle.vm_carry.specs.Runs.{paths_in, placed_from}
 
 -- a fault is of a program of the source, at one of its paths
 pub record IsOfProgram (source : Source) (fault : ProgramFault) : Type 0 where

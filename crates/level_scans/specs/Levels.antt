@@ -3,10 +3,10 @@ use Rattle.std.specs.Prelude.{◌≡◌, ℕ, ◌<◌, List, length}
 use Rattle.logic_source.specs.Source.{Source, global_cells}
 use Rattle.acc_vm.specs.Codes.{PlainCode}
 use Rattle.vm_slices.specs.Parts.{PlainPart}
-use Rattle.level_runs.specs.Accesses.{ArePartsOf}
-use Rattle.level_runs.specs.Plans.{IsPlanOf}
-use Rattle.level_runs.specs.Programs.{code_at}
-use Rattle.vm_logic.specs.Runs.{IsProgramCode}
+use Rattle.level_jobs.specs.Accesses.{ArePartsOf}
+use Rattle.level_jobs.specs.Plans.{IsPlanOf}
+use Rattle.level_jobs.specs.Programs.{code_at}
+use Rattle.vm_carry.specs.Runs.{IsProgramCode}
 
 -- the programs' parts of the cells, and their levels
 pub record PlainLevelled : Type 0 where

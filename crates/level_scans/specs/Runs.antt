@@ -6,8 +6,8 @@ use Rattle.st_tree.specs.Meaning.{Ran, Done, Trapped}
 use Rattle.logic_source.specs.Source.{Source}
 use Rattle.logic_source.specs.Worlds.{World, run_program}
 use Rattle.logic_cells.specs.Cells.{PlainCells}
-use Rattle.logic_frames.specs.Stands.{StandFor}
-use Rattle.vm_logic.specs.Runs.{place_spot}
+use Rattle.vm_carry.specs.Stands.{StandFor}
+use Rattle.vm_carry.specs.Runs.{place_spot}
 use Rattle.level_scans.specs.Scans.{Scanned, programs_from}
 
 -- what a program does, by its flag: a faulted one is skipped

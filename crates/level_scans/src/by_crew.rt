@@ -3,7 +3,7 @@
 ghost use Rattle.std.specs.Prelude.{◌≡◌, ◌<◌, length, map, IfOk, OnOk, All};
 ghost use Rattle.logic_source.specs.Paths.{paths_of};
 ghost use Rattle.crew.specs.Faults.{faults_after};
-ghost use Rattle.vm_logic.specs.Runs.{HasCells};
+ghost use Rattle.vm_carry.specs.Runs.{HasCells};
 ghost use Rattle.level_scans.specs.Runs.{ProgramsRanInOrder};
 ghost use Rattle.level_scans.specs.Levels.{AreLevelsOf};
 ghost use Rattle.level_scans.specs.Faults.{IsOfProgram, placed_fault};
@@ -11,12 +11,11 @@ ghost use Rattle.level_scans.specs.Faults.{IsOfProgram, placed_fault};
 use crate::given::{LevelsGiven, ScanChanged};
 use crate::placing::list_placed;
 use crew::{Crew, CrewFault};
-use level_jobs::{ProgramFault, run_levels};
+use level_jobs::{Done, Job, ProgramFault, Reserve, Start, Store, run_levels};
 use logic_cells::Cells;
-use slice_store::{Done, Job, Reserve, Start, Store};
 use std::alloc::Global;
 use std::mem::replace;
-use vm_logic::{place_is_in_source, programs_share_no_cell, sound_source_is_small};
+use vm_carry::{place_is_in_source, programs_share_no_cell, sound_source_is_small};
 
 /// Runs the programs level by level by a crew, and tells the faults by their programs' own paths. Its jobs take the memory of earlier
 /// ones, and the store that of the cells and flags.

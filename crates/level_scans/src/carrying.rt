@@ -5,13 +5,12 @@
 ghost use Rattle.std.specs.Prelude.{◌≡◌, [], false, length, replicate, IfOk};
 ghost use Rattle.logic_source.specs.Worlds.{World};
 ghost use Rattle.logic_source.specs.Carried.{carried};
-ghost use Rattle.logic_frames.specs.Stands.{StandFor};
+ghost use Rattle.vm_carry.specs.Stands.{StandFor};
 
+use level_jobs::Store;
 use logic_cells::Cells;
-use slice_store::Store;
 use std::alloc::{AllocError, Global};
-use vm_carry::carry;
-use vm_logic::Framed;
+use vm_carry::{Framed, carry};
 
 /// A copy of the cells of a store.
 fn cells_of(alloc: Global, store: &Store) -> Result<Cells, AllocError>

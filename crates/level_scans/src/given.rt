@@ -4,7 +4,7 @@ use crate::levels::Levelled;
 use crate::workspace::Workspace;
 use logic_cells::Cells;
 use plant_types::{Place, Trap};
-use vm_logic::Framed;
+use vm_carry::Framed;
 
 /// What a scan's programs are given.
 #[derive(Clone, Copy)]

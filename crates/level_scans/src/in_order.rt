@@ -3,15 +3,15 @@
 ghost use Rattle.std.specs.Prelude.{◌≡◌, ◌<◌, length, IfOk, OnOk, IfSome, All};
 ghost use Rattle.logic_source.specs.Worlds.{World};
 ghost use Rattle.logic_source.specs.Paths.{paths_of};
-ghost use Rattle.logic_frames.specs.Stands.{StandFor};
-ghost use Rattle.vm_logic.specs.Runs.{Agree, HasCells};
+ghost use Rattle.vm_carry.specs.Stands.{StandFor};
+ghost use Rattle.vm_carry.specs.Runs.{Agree, HasCells};
 ghost use Rattle.level_scans.specs.Runs.{run_by, ended_by, ProgramsRanInOrder};
 
 use crate::given::{ScanChanged, ScanGiven};
 use logic_cells::Cells;
 use plant_types::{Place, Trap};
 use std::alloc::AllocError;
-use vm_logic::{Stack, Walked, run, sound_source_is_small};
+use vm_carry::{Stack, Walked, run, sound_source_is_small};
 
 /// Runs the program of a number, from 0, unless it is faulted, and returns its fault. What it assigned before a fault is kept.
 fn run_program(

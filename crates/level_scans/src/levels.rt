@@ -5,13 +5,12 @@ ghost use Rattle.std.specs.Arc.{arc_value};
 ghost use Rattle.level_scans.specs.Levels.{AreLevelsOf};
 
 use crate::parts::{parts_of, shared};
+use level_jobs::{Parts, plan_of};
 use level_plan::Levels;
-use level_runs::plan_of;
-use slice_store::Parts;
 use std::alloc::{AllocError, Global};
 use std::marker::Model;
 use std::sync::Arc;
-use vm_logic::Framed;
+use vm_carry::Framed;
 
 /// The programs of a plant, each in its part of the cells, and the levels in which they may run together. Contracts see these.
 pub struct Levelled {

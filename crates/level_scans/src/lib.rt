@@ -20,6 +20,8 @@ pub use by_crew::run_by_crew;
 pub use carrying::carry_store;
 pub use given::{LevelsGiven, ScanChanged, ScanGiven};
 pub use in_order::run_in_order;
+pub use level_jobs::{Done, Job, Start};
 pub use levels::Levelled;
 pub use running::{plan_levels, run_programs};
+pub use vm_carry::carry;
 pub use workspace::Workspace;

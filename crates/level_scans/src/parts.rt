@@ -6,10 +6,10 @@ ghost use Rattle.vm_slices.specs.Parts.{IsPartOf};
 ghost use Rattle.level_scans.specs.Levels.{AreProgramParts};
 
 use acc_vm::Code;
-use slice_store::Parts;
+use level_jobs::Parts;
 use std::alloc::{AllocError, Global};
 use std::sync::Arc;
-use vm_logic::{Framed, sound_source_is_small};
+use vm_carry::{Framed, sound_source_is_small};
 use vm_slices::{Part, relocate};
 
 /// Makes a table as long as a code needs it.

@@ -6,7 +6,7 @@ ghost use Rattle.level_scans.specs.Faults.{IsOfProgram, placed_fault};
 use level_jobs::ProgramFault;
 use plant_types::{Place, Trap};
 use std::alloc::AllocError;
-use vm_logic::Framed;
+use vm_carry::Framed;
 
 /// A fault, with the number that its path has among those of all programs.
 fn placed(framed: &Framed, fault: &ProgramFault) -> (Place, Trap)

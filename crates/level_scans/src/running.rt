@@ -3,7 +3,7 @@
 ghost use Rattle.std.specs.Prelude.{◌≡◌, ◌<◌, length, All, OnOk, IfSome};
 ghost use Rattle.crew.specs.Faults.{faults_after};
 ghost use Rattle.logic_source.specs.Paths.{paths_of};
-ghost use Rattle.vm_logic.specs.Runs.{HasCells};
+ghost use Rattle.vm_carry.specs.Runs.{HasCells};
 ghost use Rattle.level_scans.specs.Runs.{ProgramsRanInOrder};
 ghost use Rattle.level_scans.specs.Levels.{AreLevelsOf};
 
@@ -12,9 +12,9 @@ use crate::given::{LevelsGiven, ScanChanged, ScanGiven};
 use crate::in_order::run_in_order;
 use crate::levels::Levelled;
 use crew::{Crew, CrewFault};
-use slice_store::{Done, Job, Start};
+use level_jobs::{Done, Job, Start};
 use std::alloc::{AllocError, Global};
-use vm_logic::Framed;
+use vm_carry::Framed;
 
 /// Makes the levels of a plant's programs, unless they are there or the crew that is to run these is alone.
 pub fn plan_levels(

@@ -1,8 +1,8 @@
 //! Memory for the runs of programs.
 
-use slice_store::Reserve;
+use level_jobs::Reserve;
 use std::alloc::Global;
-use vm_logic::Stack;
+use vm_carry::Stack;
 
 /// Memory for the programs' runs, which one scan after another uses: for runs in program order, and for the jobs of a crew. What it holds
 /// doesn't matter.

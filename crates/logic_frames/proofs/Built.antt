@@ -9,7 +9,7 @@ use Rattle.std.proofs.lemmas.List.Sums.{sum_by_more, sum_by_more_le}
 use Rattle.std.proofs.lemmas.List.Folds.{list_any-append}
 use Rattle.std.proofs.lemmas.Option.{slice_get-get_or, slice_get-map}
 use Rattle.plant_types.specs.Values.{row_length}
-use Rattle.st_names.specs.Taken.{is_among, repeats}
+use Rattle.logic_source.specs.Taken.{is_among, repeats}
 use Rattle.logic_source.specs.declared.logic.Routine.{Routine}
 use Rattle.logic_source.specs.declared.logic.Row.{Row}
 use Rattle.logic_source.specs.Source.{view_routine}

@@ -12,16 +12,16 @@ use Rattle.st_tree.specs.Plain.{PlainExpr, literal, read, output_of, element, un
 use Rattle.st_tree.specs.Operators.{Outcome}
 use Rattle.st_tree.specs.Kinds.{is_kind}
 use Rattle.st_tree.specs.Mapping.{Known, expr_known, body_known}
-use Rattle.st_parser.specs.declared.unit.SectionKind.{SectionKind}
-use Rattle.st_parser.specs.declared.unit.SectionKind.TheVariants as sections
-use Rattle.st_parser.specs.declared.unit.Sort.{Sort}
-use Rattle.st_parser.specs.declared.unit.Sort.TheVariants as sort
-use Rattle.st_parser.specs.Units.{PlainUnit}
-use Rattle.st_names.specs.DeclaredNames.{PlainDeclared}
-use Rattle.st_names.specs.Scopes as scopes
-use Rattle.st_names.specs.Scopes.{is_external}
-use Rattle.st_typing.specs.Kinds.{instance_fits, array_stands, initial_fits, sort_fits, declared_fits}
-use Rattle.st_typing.specs.Constants.{meant_constant, has_value, is_initial, initial_constant, sort_in_order, declared_constant}
+use Rattle.logic_source.specs.SectionKind.{SectionKind}
+use Rattle.logic_source.specs.SectionKind.TheVariants as sections
+use Rattle.logic_source.specs.Sort.{Sort}
+use Rattle.logic_source.specs.Sort.TheVariants as sort
+use Rattle.logic_source.specs.StParserUnits.{PlainUnit}
+use Rattle.logic_source.specs.DeclaredNames.{PlainDeclared}
+use Rattle.logic_source.specs.Scopes as scopes
+use Rattle.logic_source.specs.Scopes.{is_external}
+use Rattle.logic_source.specs.Kinds.{instance_fits, array_stands, initial_fits, sort_fits, declared_fits}
+use Rattle.logic_source.specs.Constants.{meant_constant, has_value, is_initial, initial_constant, sort_in_order, declared_constant}
 use Rattle.logic_source.specs.declared.logic.Variable.{Variable}
 use Rattle.logic_source.specs.declared.logic.Local.{Local}
 use Rattle.logic_source.specs.Units.{global_of, local_of, start_by, start_of, listed, starts_in}

@@ -13,20 +13,20 @@ use Rattle.st_tree.specs.Every.{every}
 use Rattle.st_tree.specs.Fits.{all_fit}
 use Rattle.st_tree.specs.Plain.{PlainExpr, for_to, PlainBody}
 use Rattle.st_tree.specs.Mapping.{body_known}
-use Rattle.st_parser.specs.declared.unit.SectionKind.{SectionKind}
-use Rattle.st_parser.specs.declared.unit.SectionKind.TheVariants as sections
-use Rattle.st_parser.specs.declared.unit.Sort.{Sort}
-use Rattle.st_parser.specs.declared.unit.Sort.TheVariants as sort
-use Rattle.st_parser.specs.Units.{PlainDeclaration, PlainSection, PlainPou, PlainUnit}
-use Rattle.st_names.specs.First.{first_that}
-use Rattle.st_names.specs.DeclaredNames.{PlainDeclared, declared_as, declared_together, declared_by, declared_in, declared_words, is_instance_sort}
-use Rattle.st_names.specs.Shared.{Shared, global, pou, shared_name, shared_in, is_block, as_global, global_named}
-use Rattle.st_names.specs.Scopes.{variable_kind, region_named, is_input, is_assignable, is_control}
-use Rattle.st_names.specs.Taken.{or_place, repeats}
-use Rattle.st_names.specs.Faults.{first_pou, first_unit}
-use Rattle.st_typing.specs.Kinds.{context_of, instance_fits, sort_fits, declared_fits, is_global_section, is_global, globals_misfit, pou_misfit}
-use Rattle.st_typing.specs.Constants.{declared_constant, bounds_allowed, never_assigns, stmt_allowed, globals_inconstant, pou_inconstant}
-use Rattle.st_typing.specs.Faults.{AreTyped}
+use Rattle.logic_source.specs.SectionKind.{SectionKind}
+use Rattle.logic_source.specs.SectionKind.TheVariants as sections
+use Rattle.logic_source.specs.Sort.{Sort}
+use Rattle.logic_source.specs.Sort.TheVariants as sort
+use Rattle.logic_source.specs.StParserUnits.{PlainDeclaration, PlainSection, PlainPou, PlainUnit}
+use Rattle.logic_source.specs.First.{first_that}
+use Rattle.logic_source.specs.DeclaredNames.{PlainDeclared, declared_as, declared_together, declared_by, declared_in, declared_words, is_instance_sort}
+use Rattle.logic_source.specs.Shared.{Shared, global, pou, shared_name, shared_in, is_block, as_global, global_named}
+use Rattle.logic_source.specs.Scopes.{variable_kind, region_named, is_input, is_assignable, is_control}
+use Rattle.logic_source.specs.Taken.{or_place, repeats}
+use Rattle.logic_source.specs.StNamesFaults.{first_pou, first_unit}
+use Rattle.logic_source.specs.Kinds.{context_of, instance_fits, sort_fits, declared_fits, is_global_section, is_global, globals_misfit, pou_misfit}
+use Rattle.logic_source.specs.Constants.{declared_constant, bounds_allowed, never_assigns, stmt_allowed, globals_inconstant, pou_inconstant}
+use Rattle.logic_source.specs.Faults.{AreTyped}
 use Rattle.logic_source.specs.Source.{PlainRoutine, Source, global_cells}
 use Rattle.logic_source.specs.Pous.{pous_of, block_pous, program_pous, block_names}
 use Rattle.logic_source.specs.Units.{routine_of, declared_globals, source_in}

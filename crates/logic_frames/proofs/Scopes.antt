@@ -15,7 +15,7 @@ use Rattle.st_tree.specs.Plain.{PlainBody}
 use Rattle.st_tree.specs.Mapping.{mapped_body}
 use Rattle.st_tree.specs.Kinds.{KindsOf, resolved_body}
 use Rattle.st_tree.specs.Numbers.{numbered}
-use Rattle.st_names.specs.Scopes.{or_other}
+use Rattle.logic_source.specs.Scopes.{or_other}
 use Rattle.base_words.specs.Names.{find_name}
 use Rattle.logic_source.specs.declared.logic.Local.{Local}
 use Rattle.logic_source.specs.declared.logic.Row.{Row}

@@ -9,18 +9,18 @@ use Rattle.std.proofs.lemmas.Option.{slice_get-map}
 use Rattle.plant_types.specs.Words.{folded, same_word}
 use Rattle.plant_types.specs.declared.values.Kind.{Kind}
 use Rattle.base_words.specs.Names.{find_name, is_among}
-use Rattle.st_parser.specs.declared.unit.SectionKind.{SectionKind}
-use Rattle.st_parser.specs.declared.unit.SectionKind.TheVariants as sections
-use Rattle.st_parser.specs.declared.unit.Sort.{Sort}
-use Rattle.st_parser.specs.declared.unit.Sort.TheVariants as sort
-use Rattle.st_parser.specs.Units.{PlainPou, PlainUnit}
-use Rattle.st_names.specs.First.{first_that}
-use Rattle.st_names.specs.DeclaredNames.{PlainDeclared, declared_in, first_declared, find_declared, sort_kind, is_instance_sort}
-use Rattle.st_names.specs.Shared.{Shared, global, pou, shared_name, shared_in, is_block, as_block, block_named, global_named}
-use Rattle.st_names.specs.BlockTypes.{BlockType, ton, tof, r_trig, declared_block, block_type, Member, is_input_section, is_output_section, member_of, members_in, timer_inputs, timer_outputs, inputs_of, outputs_of, find_member}
-use Rattle.st_names.specs.Scopes.{or_other, is_external, sort_type, instance_type, input_kind, output_kind}
-use Rattle.st_names.proofs.Entries.{same_turned}
-use Rattle.st_typing.specs.Kinds.{instance_fits, sort_fits, declared_fits, pou_misfit}
+use Rattle.logic_source.specs.SectionKind.{SectionKind}
+use Rattle.logic_source.specs.SectionKind.TheVariants as sections
+use Rattle.logic_source.specs.Sort.{Sort}
+use Rattle.logic_source.specs.Sort.TheVariants as sort
+use Rattle.logic_source.specs.StParserUnits.{PlainPou, PlainUnit}
+use Rattle.logic_source.specs.First.{first_that}
+use Rattle.logic_source.specs.DeclaredNames.{PlainDeclared, declared_in, first_declared, find_declared, sort_kind, is_instance_sort}
+use Rattle.logic_source.specs.Shared.{Shared, global, pou, shared_name, shared_in, is_block, as_block, block_named, global_named}
+use Rattle.logic_source.specs.BlockTypes.{BlockType, ton, tof, r_trig, declared_block, block_type, Member, is_input_section, is_output_section, member_of, members_in, timer_inputs, timer_outputs, inputs_of, outputs_of, find_member}
+use Rattle.logic_source.specs.Scopes.{or_other, is_external, sort_type, instance_type, input_kind, output_kind}
+use Rattle.logic_source.proofs.Entries.{same_turned}
+use Rattle.logic_source.specs.Kinds.{instance_fits, sort_fits, declared_fits, pou_misfit}
 use Rattle.logic_source.specs.declared.logic.Local.{Local}
 use Rattle.logic_source.specs.declared.logic.Instance.{Instance}
 use Rattle.logic_source.specs.declared.logic.BlockRef.TheVariants.{Ton, Tof, RTrig, Declared}

@@ -10,19 +10,19 @@ use Rattle.plant_types.specs.Words.{folded, same_word}
 use Rattle.plant_types.specs.declared.values.Kind.{Kind}
 use Rattle.st_tree.specs.Kinds.{is_kind}
 use Rattle.st_tree.specs.Plain.{PlainExpr}
-use Rattle.st_parser.specs.declared.unit.SectionKind.{SectionKind}
-use Rattle.st_parser.specs.declared.unit.SectionKind.TheVariants as sections
-use Rattle.st_parser.specs.declared.unit.Sort.{Sort}
-use Rattle.st_parser.specs.declared.unit.Sort.TheVariants as sort
-use Rattle.st_parser.specs.Units.{PlainPou, PlainUnit}
-use Rattle.st_names.specs.First.{first_that}
-use Rattle.st_names.specs.DeclaredNames.{PlainDeclared, declared_in, find_declared, sort_kind, is_instance_sort}
-use Rattle.st_names.specs.Shared.{Shared, global, pou, shared_name, shared_in, as_global, global_named}
-use Rattle.st_names.specs.Scopes as scopes
-use Rattle.st_names.specs.Scopes.{or_other, is_external, variable_kind, can_control, is_control, sort_type, instance_type}
-use Rattle.st_names.proofs.Entries.{same_turned}
+use Rattle.logic_source.specs.SectionKind.{SectionKind}
+use Rattle.logic_source.specs.SectionKind.TheVariants as sections
+use Rattle.logic_source.specs.Sort.{Sort}
+use Rattle.logic_source.specs.Sort.TheVariants as sort
+use Rattle.logic_source.specs.StParserUnits.{PlainPou, PlainUnit}
+use Rattle.logic_source.specs.First.{first_that}
+use Rattle.logic_source.specs.DeclaredNames.{PlainDeclared, declared_in, find_declared, sort_kind, is_instance_sort}
+use Rattle.logic_source.specs.Shared.{Shared, global, pou, shared_name, shared_in, as_global, global_named}
+use Rattle.logic_source.specs.Scopes as scopes
+use Rattle.logic_source.specs.Scopes.{or_other, is_external, variable_kind, can_control, is_control, sort_type, instance_type}
+use Rattle.logic_source.proofs.Entries.{same_turned}
 use Rattle.st_tree.specs.Fits.{all_fit}
-use Rattle.st_typing.specs.Kinds.{context_of, initial_fits, sort_fits, instance_fits, declared_fits, pou_misfit}
+use Rattle.logic_source.specs.Kinds.{context_of, initial_fits, sort_fits, instance_fits, declared_fits, pou_misfit}
 use Rattle.logic_source.specs.declared.logic.Variable.{Variable}
 use Rattle.logic_source.specs.declared.logic.Local.{Local}
 use Rattle.logic_source.specs.declared.logic.Instance.{Instance}

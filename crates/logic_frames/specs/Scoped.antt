@@ -10,7 +10,7 @@ use Rattle.st_tree.specs.Plain.{PlainExpr, PlainArgument, PlainStmt, PlainBody, 
 use Rattle.st_tree.specs.Numbers.{numbered_stmt, numbered, numbered_branches, numbered_choices}
 use Rattle.st_tree.specs.Kinds.{KindsOf, resolved_expr, resolved_argument, resolved_stmt, resolved_body, resolved_branches, resolved_choices}
 use Rattle.st_tree.specs.Mapping.{Mapping, mapped_expr, mapped_argument, mapped_stmt, mapped_body, mapped_branches, mapped_choices}
-use Rattle.st_names.specs.Scopes.{or_other}
+use Rattle.logic_source.specs.Scopes.{or_other}
 use Rattle.base_words.specs.Names.{find_name}
 use Rattle.logic_source.specs.declared.logic.Local.{Local}
 use Rattle.logic_source.specs.declared.logic.Row.{Row}

@@ -1,7 +1,7 @@
 //! The names of variables, of arrays and of instances, which are found without a look at each.
 
 ghost use Rattle.std.specs.Prelude.{◌≡◌, [], false, map, IfOk, IfSome, ◌<◌, ◌+◌, ◌^◌, length};
-ghost use Rattle.st_names.specs.Taken.{repeats};
+ghost use Rattle.logic_source.specs.Taken.{repeats};
 ghost use Rattle.base_words.specs.Names.{find_name};
 ghost use Rattle.logic_source.specs.Names.{global_words, own_words, row_words, instance_words};
 ghost use Rattle.logic_source.specs.Source.{row_cells};

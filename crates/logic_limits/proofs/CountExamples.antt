@@ -6,7 +6,7 @@ use Rattle.st_tree.specs.declared.tree.Literal.TheVariants.{Integer}
 use Rattle.st_tree.specs.declared.tree.Binary.TheVariants.{Add}
 use Rattle.st_tree.specs.Plain.{literal, read, binary, output, PlainExpr, assign, call, for_to, PlainBody, done, next}
 use Rattle.st_tree.proofs.Counting.{turns_up}
-use Rattle.st_typing.specs.Constants.{for_turns}
+use Rattle.logic_source.specs.Constants.{for_turns}
 use Rattle.logic_source.specs.declared.logic.Local.{Local}
 use Rattle.logic_source.specs.declared.logic.Row.{Row}
 use Rattle.logic_source.specs.declared.logic.Instance.{Instance}

@@ -3,7 +3,7 @@ use Rattle.std.specs.Prelude.{ℕ, ◌+◌, List, map}
 use Rattle.std.specs.List.{sum_by}
 use Rattle.std.specs.Option.{option_map_or}
 use Rattle.st_tree.specs.Costs.{body_cost, body_size}
-use Rattle.st_typing.specs.Constants.{for_turns}
+use Rattle.logic_source.specs.Constants.{for_turns}
 use Rattle.logic_source.specs.declared.logic.BlockRef.{BlockRef}
 use Rattle.logic_source.specs.declared.logic.BlockRef.TheVariants as block
 use Rattle.logic_source.specs.declared.logic.Instance.{Instance}

@@ -2,7 +2,7 @@
 use Rattle.std.specs.Prelude.{◌≡◌, ℕ, ◌+◌, max, min, List, length, Option, Some, None, slice_get}
 use Rattle.std.specs.Option.{option_map_or, option_and_then}
 use Rattle.st_tree.specs.Plain.{PlainExpr}
-use Rattle.st_typing.specs.Constants.{for_turns}
+use Rattle.logic_source.specs.Constants.{for_turns}
 use Rattle.base_words.specs.Names.{find_name}
 use Rattle.logic_source.specs.declared.logic.BlockRef.{BlockRef}
 use Rattle.logic_source.specs.Source.{PlainRoutine}

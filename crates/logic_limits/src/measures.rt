@@ -5,9 +5,9 @@ ghost use Rattle.st_tree.specs.View.{view_expr, view_option};
 ghost use Rattle.logic_limits.specs.Measures.{joined, turns_by, last_of, weight_in};
 
 use crate::stopping::narrow;
+use logic_source::for_turns;
 use plant_types::Text;
 use st_tree::Expr;
-use st_typing::for_turns;
 
 /// Where a count of slots stops: one above its limit (this profile).
 pub const LAST_SLOTS: u64 = 65_537;

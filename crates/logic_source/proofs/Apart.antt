@@ -6,18 +6,18 @@ use Rattle.std.proofs.lemmas.List.Elements.{filter-append, filter_map-append}
 use Rattle.std.specs.Prelude.{if◌then◌else◌, filter_map}
 use Rattle.std.specs.List.{list_any, cons_option}
 use Rattle.plant_types.specs.Words.{folded}
-use Rattle.st_parser.specs.Units.{PlainPou, PlainUnit}
-use Rattle.st_names.specs.declared.place.UnitPlace.{UnitPlace}
-use Rattle.st_names.specs.DeclaredNames.{PlainDeclared, declared_in, declared_words}
-use Rattle.st_names.specs.Shared.{Shared, global, pou, shared_name, shared_in, is_block}
-use Rattle.st_names.specs.Taken as taken
-use Rattle.st_names.specs.Taken.{is_standard, is_among, repeats, is_taken, or_place, first_taken, pou_words}
-use Rattle.st_names.specs.Scanned.{one_taken, first_taken_pou, first_taken_of, first_taken_after}
-use Rattle.st_names.specs.Asked.{repeats_after}
-use Rattle.st_names.specs.Known.{globals_misnamed, pou_misnamed}
-use Rattle.st_names.specs.Faults.{first_unit, is_earlier, earlier, first_misnamed}
-use Rattle.st_names.proofs.Scanned.{first_after}
-use Rattle.st_names.proofs.Twice.{repeats_first}
+use Rattle.st_typing.specs.Units.{PlainPou, PlainUnit}
+use Rattle.st_typing.specs.UnitPlace.{UnitPlace}
+use Rattle.st_typing.specs.DeclaredNames.{PlainDeclared, declared_in, declared_words}
+use Rattle.st_typing.specs.Shared.{Shared, global, pou, shared_name, shared_in, is_block}
+use Rattle.st_typing.specs.Taken as taken
+use Rattle.st_typing.specs.Taken.{is_standard, is_among, repeats, is_taken, or_place, first_taken, pou_words}
+use Rattle.st_typing.specs.Scanned.{one_taken, first_taken_pou, first_taken_of, first_taken_after}
+use Rattle.st_typing.specs.Asked.{repeats_after}
+use Rattle.st_typing.specs.Known.{globals_misnamed, pou_misnamed}
+use Rattle.st_typing.specs.StNamesFaults.{first_unit, is_earlier, earlier, first_misnamed}
+use Rattle.st_typing.proofs.Scanned.{first_after}
+use Rattle.st_typing.proofs.Twice.{repeats_first}
 use Rattle.st_typing.specs.Faults.{AreTyped}
 use Rattle.logic_source.specs.Pous.{pous_of, block_pous, pou_word}
 use Rattle.logic_source.proofs.Picked.{picked_apart}

@@ -18,17 +18,17 @@ use Rattle.st_tree.specs.Meaning.{Ran, Done, Trapped, run_all}
 use Rattle.st_tree.specs.Plain.{PlainExpr, PlainStmt, assign, for_to, PlainBody}
 use Rattle.st_tree.specs.Ranges.{Leaves}
 use Rattle.st_tree.proofs.RangeLaws.{InRange}
-use Rattle.st_parser.specs.declared.unit.SectionKind.{SectionKind}
-use Rattle.st_parser.specs.declared.unit.SectionKind.TheVariants as sections
-use Rattle.st_parser.specs.declared.unit.Sort.{Sort}
-use Rattle.st_parser.specs.declared.unit.Sort.TheVariants as sort
-use Rattle.st_parser.specs.Units.{PlainSection, PlainPou, PlainUnit}
-use Rattle.st_names.specs.DeclaredNames.{PlainDeclared, declared_in, declared_words, find_declared, sort_kind, is_instance_sort}
-use Rattle.st_names.specs.Faults.{first_pou, first_unit}
-use Rattle.st_names.specs.Scopes as scopes
-use Rattle.st_names.specs.Scopes.{or_other, is_external, variable_kind}
-use Rattle.st_names.specs.Shared.{global, pou, shared_by, shared_in, find_shared, as_global, global_named}
-use Rattle.st_names.specs.Taken.{or_place, repeats}
+use Rattle.st_typing.specs.SectionKind.{SectionKind}
+use Rattle.st_typing.specs.SectionKind.TheVariants as sections
+use Rattle.st_typing.specs.Sort.{Sort}
+use Rattle.st_typing.specs.Sort.TheVariants as sort
+use Rattle.st_typing.specs.Units.{PlainSection, PlainPou, PlainUnit}
+use Rattle.st_typing.specs.DeclaredNames.{PlainDeclared, declared_in, declared_words, find_declared, sort_kind, is_instance_sort}
+use Rattle.st_typing.specs.StNamesFaults.{first_pou, first_unit}
+use Rattle.st_typing.specs.Scopes as scopes
+use Rattle.st_typing.specs.Scopes.{or_other, is_external, variable_kind}
+use Rattle.st_typing.specs.Shared.{global, pou, shared_by, shared_in, find_shared, as_global, global_named}
+use Rattle.st_typing.specs.Taken.{or_place, repeats}
 use Rattle.st_typing.specs.Faults.{AreTyped}
 use Rattle.st_typing.specs.Kinds.{context_of, initial_fits, instance_fits, array_stands, sort_fits, declared_fits, is_global, pou_misfit}
 use Rattle.logic_source.specs.declared.logic.Instance.{Instance}

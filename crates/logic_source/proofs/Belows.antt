@@ -13,15 +13,15 @@ use Rattle.plant_types.specs.Words.{folded, same_word}
 use Rattle.base_words.specs.Names.{find_name}
 use Rattle.st_blocks.specs.Chains.{Among}
 use Rattle.st_blocks.specs.Blocks.{first_of, IsOrder, AreOrdered}
-use Rattle.st_parser.specs.declared.unit.Sort.{Sort}
-use Rattle.st_parser.specs.declared.unit.Sort.TheVariants as sort
-use Rattle.st_parser.specs.declared.unit.SectionKind.{SectionKind}
-use Rattle.st_parser.specs.Units.{PlainDeclaration, PlainSection, PlainPou, PlainUnit}
-use Rattle.st_names.specs.DeclaredNames.{PlainDeclared, declared_as, declared_together, declared_by, declared_in}
-use Rattle.st_names.specs.Shared.{is_block}
-use Rattle.st_names.specs.Scopes.{is_external}
-use Rattle.st_names.specs.Taken.{is_among, repeats}
-use Rattle.st_names.proofs.Entries.{turned}
+use Rattle.st_typing.specs.Sort.{Sort}
+use Rattle.st_typing.specs.Sort.TheVariants as sort
+use Rattle.st_typing.specs.SectionKind.{SectionKind}
+use Rattle.st_typing.specs.Units.{PlainDeclaration, PlainSection, PlainPou, PlainUnit}
+use Rattle.st_typing.specs.DeclaredNames.{PlainDeclared, declared_as, declared_together, declared_by, declared_in}
+use Rattle.st_typing.specs.Shared.{is_block}
+use Rattle.st_typing.specs.Scopes.{is_external}
+use Rattle.st_typing.specs.Taken.{is_among, repeats}
+use Rattle.st_typing.proofs.Entries.{turned}
 use Rattle.st_typing.specs.Blocks.{declaration_types, section_types, block_of, pou_blocks, blocks_among, blocks_of}
 use Rattle.st_typing.specs.Faults.{AreTyped}
 use Rattle.logic_source.specs.declared.logic.Instance.{Instance}

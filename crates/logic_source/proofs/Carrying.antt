@@ -10,7 +10,7 @@ use Rattle.plant_types.specs.Values.{is_in_range, Path}
 use Rattle.std_blocks.specs.Calls.{Call}
 use Rattle.st_blocks.specs.Chains.{Among}
 use Rattle.st_tree.specs.Kinds.{same_kind}
-use Rattle.st_names.specs.First.{first_that}
+use Rattle.st_typing.specs.First.{first_that}
 use Rattle.logic_source.specs.Source.{Source}
 use Rattle.logic_source.specs.Worlds.{World, same_path, opening}
 use Rattle.logic_source.specs.Layout.{NoneTwice, IsDistinctlyNamed}

@@ -7,16 +7,16 @@ use Rattle.std.specs.Prelude.{◌&&◌, filter_map, flat_map}
 use Rattle.std.specs.List.{list_all, cons_option, All}
 use Rattle.std.specs.Str.{bytes_eq}
 use Rattle.plant_types.specs.Words.{folded}
-use Rattle.st_parser.specs.declared.unit.Sort.{Sort}
-use Rattle.st_parser.specs.declared.unit.Sort.TheVariants as sort
-use Rattle.st_parser.specs.Units.{PlainSection, PlainPou, PlainUnit}
-use Rattle.st_names.specs.DeclaredNames.{PlainDeclared, declared_in, declared_words}
-use Rattle.st_names.specs.Shared.{Shared, global, pou, shared_in, is_block}
-use Rattle.st_names.specs.Scopes.{is_external}
-use Rattle.st_names.specs.Taken as taken
-use Rattle.st_names.specs.Taken.{is_among, repeats, or_place}
-use Rattle.st_names.specs.Known.{body_known, declared_known, globals_misnamed, pou_misnamed}
-use Rattle.st_names.specs.Faults.{first_pou, first_unit, first_misnamed}
+use Rattle.st_typing.specs.Sort.{Sort}
+use Rattle.st_typing.specs.Sort.TheVariants as sort
+use Rattle.st_typing.specs.Units.{PlainSection, PlainPou, PlainUnit}
+use Rattle.st_typing.specs.DeclaredNames.{PlainDeclared, declared_in, declared_words}
+use Rattle.st_typing.specs.Shared.{Shared, global, pou, shared_in, is_block}
+use Rattle.st_typing.specs.Scopes.{is_external}
+use Rattle.st_typing.specs.Taken as taken
+use Rattle.st_typing.specs.Taken.{is_among, repeats, or_place}
+use Rattle.st_typing.specs.Known.{body_known, declared_known, globals_misnamed, pou_misnamed}
+use Rattle.st_typing.specs.StNamesFaults.{first_pou, first_unit, first_misnamed}
 use Rattle.st_typing.specs.Faults.{AreTyped}
 use Rattle.logic_source.specs.declared.logic.Variable.{Variable}
 use Rattle.logic_source.specs.declared.logic.Local.{Local}

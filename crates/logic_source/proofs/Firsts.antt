@@ -11,9 +11,9 @@ use Rattle.std.proofs.lemmas.Bool.Decides.{nat_tests}
 use Rattle.plant_types.specs.Words.{folded}
 use Rattle.base_words.specs.Names.{find_name}
 use Rattle.st_blocks.specs.Chains.{Among}
-use Rattle.st_names.specs.First.{first_that}
-use Rattle.st_names.specs.Taken.{is_among, repeats}
-use Rattle.st_names.proofs.Entries.{turned}
+use Rattle.st_typing.specs.First.{first_that}
+use Rattle.st_typing.specs.Taken.{is_among, repeats}
+use Rattle.st_typing.proofs.Entries.{turned}
 use Rattle.logic_source.specs.Names.{find_word}
 
 within_some : {P : Type 0} {X : Type 0} (xs : List X) (i : ℕ) → i < length xs → slice_get xs i ≡ None → P

@@ -8,8 +8,8 @@ use Rattle.std.proofs.lemmas.List.Folds.{list_any-append}
 use Rattle.std.specs.List.{list_any}
 use Rattle.plant_types.specs.Words.{folded, same_word}
 use Rattle.base_words.specs.Names as index
-use Rattle.st_names.specs.Taken.{is_among, repeats}
-use Rattle.st_names.proofs.Entries.{turned}
+use Rattle.st_typing.specs.Taken.{is_among, repeats}
+use Rattle.st_typing.proofs.Entries.{turned}
 
 -- one list made of another in two steps
 pub fused : {A B C : Type 0} (g : B → C) (f : A → B) (xs : List A) → map (λ a. g (f a)) xs ≡ map g (map f xs)

@@ -17,17 +17,17 @@ use Rattle.base_words.specs.Names as index
 use Rattle.st_blocks.specs.Chains.{Among}
 use Rattle.st_tree.specs.Plain.{PlainExpr}
 use Rattle.st_tree.proofs.RangeLaws.{InRange, truth_in}
-use Rattle.st_parser.specs.declared.unit.SectionKind.{SectionKind}
-use Rattle.st_parser.specs.declared.unit.SectionKind.TheVariants as sections
-use Rattle.st_parser.specs.declared.unit.Sort.{Sort}
-use Rattle.st_parser.specs.declared.unit.Sort.TheVariants as sort
-use Rattle.st_parser.specs.Units.{PlainPou, PlainUnit}
-use Rattle.st_names.specs.First.{first_that}
-use Rattle.st_names.specs.DeclaredNames.{PlainDeclared, declared_in, declared_words, find_declared, first_declared, sort_kind, is_instance_sort}
-use Rattle.st_names.specs.Shared.{Shared, global, pou, shared_in, find_shared, as_block, global_named, block_named}
-use Rattle.st_names.specs.BlockTypes.{BlockType, ton, tof, r_trig, declared_block, block_type, Member, member_of, members_in, is_input_section, is_output_section, inputs_of, outputs_of, find_member}
-use Rattle.st_names.specs.Scopes.{or_other, is_external, sort_type, instance_type}
-use Rattle.st_names.specs.Taken.{repeats}
+use Rattle.st_typing.specs.SectionKind.{SectionKind}
+use Rattle.st_typing.specs.SectionKind.TheVariants as sections
+use Rattle.st_typing.specs.Sort.{Sort}
+use Rattle.st_typing.specs.Sort.TheVariants as sort
+use Rattle.st_typing.specs.Units.{PlainPou, PlainUnit}
+use Rattle.st_typing.specs.First.{first_that}
+use Rattle.st_typing.specs.DeclaredNames.{PlainDeclared, declared_in, declared_words, find_declared, first_declared, sort_kind, is_instance_sort}
+use Rattle.st_typing.specs.Shared.{Shared, global, pou, shared_in, find_shared, as_block, global_named, block_named}
+use Rattle.st_typing.specs.BlockTypes.{BlockType, ton, tof, r_trig, declared_block, block_type, Member, member_of, members_in, is_input_section, is_output_section, inputs_of, outputs_of, find_member}
+use Rattle.st_typing.specs.Scopes.{or_other, is_external, sort_type, instance_type}
+use Rattle.st_typing.specs.Taken.{repeats}
 use Rattle.st_typing.specs.Kinds.{instance_fits, sort_fits, declared_fits}
 use Rattle.std_blocks.specs.Calls.{Call}
 use Rattle.std_blocks.specs.Timers as timers

@@ -10,15 +10,15 @@ use Rattle.plant_types.specs.Words.{folded, same_word}
 use Rattle.base_words.specs.Names.{find_name}
 use Rattle.st_blocks.specs.Chains.{Among}
 use Rattle.st_blocks.specs.Blocks.{first_of}
-use Rattle.st_parser.specs.Units.{PlainPou, PlainUnit}
-use Rattle.st_names.specs.First.{first_that}
-use Rattle.st_names.specs.DeclaredNames.{declared_in, declared_words}
-use Rattle.st_names.specs.Shared.{Shared, global, pou, shared_name, shared_in, as_block, is_block, block_named, global_named}
-use Rattle.st_names.specs.BlockTypes.{ton, tof, r_trig, declared_block, block_type}
-use Rattle.st_names.specs.Scopes.{is_external}
-use Rattle.st_names.specs.Taken.{repeats}
-use Rattle.st_names.specs.Known.{body_known, declared_known, sort_known, option_known, globals_misnamed, pou_misnamed}
-use Rattle.st_names.proofs.Entries.{same_turned}
+use Rattle.st_typing.specs.Units.{PlainPou, PlainUnit}
+use Rattle.st_typing.specs.First.{first_that}
+use Rattle.st_typing.specs.DeclaredNames.{declared_in, declared_words}
+use Rattle.st_typing.specs.Shared.{Shared, global, pou, shared_name, shared_in, as_block, is_block, block_named, global_named}
+use Rattle.st_typing.specs.BlockTypes.{ton, tof, r_trig, declared_block, block_type}
+use Rattle.st_typing.specs.Scopes.{is_external}
+use Rattle.st_typing.specs.Taken.{repeats}
+use Rattle.st_typing.specs.Known.{body_known, declared_known, sort_known, option_known, globals_misnamed, pou_misnamed}
+use Rattle.st_typing.proofs.Entries.{same_turned}
 use Rattle.st_typing.specs.Blocks.{block_of}
 use Rattle.st_typing.specs.Faults.{AreTyped}
 use Rattle.logic_source.specs.declared.logic.BlockRef.TheVariants.{Ton, Tof, RTrig, Declared}

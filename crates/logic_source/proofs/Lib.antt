@@ -23,3 +23,7 @@ pub mod Fitting
 pub mod Members
 pub mod Carrying
 mod CarriedExamples
+pub use Rattle.st_typing.proofs.Decided
+pub use Rattle.st_typing.proofs.Entries
+pub use Rattle.st_typing.proofs.OneFault
+pub use Rattle.st_typing.proofs.Settled

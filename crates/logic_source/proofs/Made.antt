@@ -2,8 +2,8 @@
 use Rattle.std.proofs.Common.{◌≡◌, ◌∙◌, ap, ℕ, List, map}
 use Rattle.std.specs.Prelude.{flat_map}
 use Rattle.st_tree.specs.Plain.{PlainBody}
-use Rattle.st_parser.specs.Units.{PlainPou, PlainUnit}
-use Rattle.st_names.specs.DeclaredNames.{PlainDeclared}
+use Rattle.st_typing.specs.Units.{PlainPou, PlainUnit}
+use Rattle.st_typing.specs.DeclaredNames.{PlainDeclared}
 use Rattle.logic_source.specs.declared.logic.Variable.{Variable}
 use Rattle.logic_source.specs.declared.logic.Row.{Row}
 use Rattle.logic_source.specs.Source.{PlainRoutine}

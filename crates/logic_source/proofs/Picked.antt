@@ -6,9 +6,9 @@ use Rattle.std.specs.Prelude.{if◌then◌else◌, filter_map, option_and_then}
 use Rattle.std.specs.List.{list_any, cons_option}
 use Rattle.std.specs.Str.{bytes_eq}
 use Rattle.std.specs.Cmp.Lexicographic.{bytes_decides}
-use Rattle.st_names.specs.First.{first_that}
-use Rattle.st_names.specs.Taken.{is_among, repeats}
-use Rattle.st_names.proofs.Entries.{turned}
+use Rattle.st_typing.specs.First.{first_that}
+use Rattle.st_typing.specs.Taken.{is_among, repeats}
+use Rattle.st_typing.proofs.Entries.{turned}
 
 -- none of a list has a word that is not among its words
 none_first : {A : Type 0} (word : A → List ℕ) (items : List A) (w : List ℕ) → is_among (map word items) w ≡ false → first_that (λ a. bytes_eq (word a) w) items ≡ None

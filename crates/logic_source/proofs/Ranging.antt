@@ -20,13 +20,13 @@ use Rattle.st_tree.specs.Plain.{PlainExpr, PlainStmt, for_to, PlainBody}
 use Rattle.st_tree.specs.Ranges.{IsInvariant, Leaves}
 use Rattle.st_tree.proofs.RangeLaws.{InRange}
 use Rattle.st_tree.proofs.RunLaws.{run_all_keeps}
-use Rattle.st_parser.specs.Units.{PlainPou, PlainUnit}
-use Rattle.st_names.specs.BlockTypes.{Member, inputs_of, outputs_of, find_member}
-use Rattle.st_names.specs.DeclaredNames.{PlainDeclared, declared_in, declared_words, find_declared, sort_kind, is_instance_sort}
-use Rattle.st_names.specs.Known.{body_known, declared_known, globals_misnamed, pou_misnamed}
-use Rattle.st_names.specs.Scopes.{variable_kind, element_kind, instance_type, input_named, input_kind, output_named, output_kind, is_external, can_control, is_control}
-use Rattle.st_names.specs.Shared.{shared_in, is_block, global_named}
-use Rattle.st_names.specs.Taken.{repeats}
+use Rattle.st_typing.specs.Units.{PlainPou, PlainUnit}
+use Rattle.st_typing.specs.BlockTypes.{Member, inputs_of, outputs_of, find_member}
+use Rattle.st_typing.specs.DeclaredNames.{PlainDeclared, declared_in, declared_words, find_declared, sort_kind, is_instance_sort}
+use Rattle.st_typing.specs.Known.{body_known, declared_known, globals_misnamed, pou_misnamed}
+use Rattle.st_typing.specs.Scopes.{variable_kind, element_kind, instance_type, input_named, input_kind, output_named, output_kind, is_external, can_control, is_control}
+use Rattle.st_typing.specs.Shared.{shared_in, is_block, global_named}
+use Rattle.st_typing.specs.Taken.{repeats}
 use Rattle.st_typing.specs.Constants.{declared_constant, bounds_allowed, never_assigns, stmt_allowed, globals_inconstant, pou_inconstant}
 use Rattle.st_typing.specs.Faults.{AreTyped}
 use Rattle.st_typing.specs.Kinds.{context_of, declared_fits, globals_misfit, pou_misfit}

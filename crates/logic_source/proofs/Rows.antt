@@ -10,7 +10,7 @@ use Rattle.std.proofs.lemmas.List.Sums.{sum_by-cons}
 use Rattle.plant_types.specs.declared.values.Bounds.{Bounds}
 use Rattle.plant_types.specs.Values.{has_index, row_length, Path}
 use Rattle.plant_types.specs.Words.{folded}
-use Rattle.st_names.specs.Taken.{is_among, repeats}
+use Rattle.st_typing.specs.Taken.{is_among, repeats}
 use Rattle.logic_source.specs.declared.logic.Row.{Row}
 use Rattle.logic_source.specs.Source.{row_cells}
 use Rattle.logic_source.specs.Names.{row_words}

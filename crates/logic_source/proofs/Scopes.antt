@@ -15,17 +15,17 @@ use Rattle.plant_types.specs.declared.values.Kind.TheVariants as kind
 use Rattle.st_blocks.specs.Chains.{Among}
 use Rattle.st_tree.specs.Kinds.{is_kind, same_kind}
 use Rattle.st_tree.proofs.FittedLaws.{kind_is}
-use Rattle.st_parser.specs.declared.unit.SectionKind.{SectionKind}
-use Rattle.st_parser.specs.declared.unit.SectionKind.TheVariants as sections
-use Rattle.st_parser.specs.declared.unit.Sort.{Sort}
-use Rattle.st_parser.specs.declared.unit.Sort.TheVariants as sort
-use Rattle.st_parser.specs.Units.{PlainPou, PlainUnit}
-use Rattle.st_names.specs.First.{first_that}
-use Rattle.st_names.specs.DeclaredNames.{PlainDeclared, declared_in, declared_words, find_declared, sort_kind, sort_array}
-use Rattle.st_names.specs.Shared.{Shared, global, pou, shared_name, shared_in, find_shared, as_global, is_block, global_named}
-use Rattle.st_names.specs.Scopes as scopes
-use Rattle.st_names.specs.Scopes.{or_other, is_external, variable_kind, element_kind}
-use Rattle.st_names.specs.Taken.{repeats}
+use Rattle.st_typing.specs.SectionKind.{SectionKind}
+use Rattle.st_typing.specs.SectionKind.TheVariants as sections
+use Rattle.st_typing.specs.Sort.{Sort}
+use Rattle.st_typing.specs.Sort.TheVariants as sort
+use Rattle.st_typing.specs.Units.{PlainPou, PlainUnit}
+use Rattle.st_typing.specs.First.{first_that}
+use Rattle.st_typing.specs.DeclaredNames.{PlainDeclared, declared_in, declared_words, find_declared, sort_kind, sort_array}
+use Rattle.st_typing.specs.Shared.{Shared, global, pou, shared_name, shared_in, find_shared, as_global, is_block, global_named}
+use Rattle.st_typing.specs.Scopes as scopes
+use Rattle.st_typing.specs.Scopes.{or_other, is_external, variable_kind, element_kind}
+use Rattle.st_typing.specs.Taken.{repeats}
 use Rattle.st_typing.specs.Kinds.{initial_fits, is_array, array_stands, sort_fits, declared_fits}
 use Rattle.logic_source.specs.declared.logic.Variable.{Variable}
 use Rattle.logic_source.specs.declared.logic.Local.{Local}

@@ -12,7 +12,7 @@ use Rattle.std.proofs.Math.ListN.{set}
 use Rattle.plant_types.specs.declared.values.Bounds.{Bounds}
 use Rattle.plant_types.specs.Values.{has_index, row_length, row_place, Path}
 use Rattle.plant_types.specs.Words.{folded}
-use Rattle.st_names.specs.Scopes.{or_other}
+use Rattle.st_typing.specs.Scopes.{or_other}
 use Rattle.std_blocks.specs.Calls.{Call}
 use Rattle.logic_source.specs.declared.logic.Variable.{Variable}
 use Rattle.logic_source.specs.declared.logic.Local.{Local}

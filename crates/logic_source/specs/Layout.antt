@@ -4,7 +4,7 @@ use Rattle.plant_types.specs.Words.{folded}
 use Rattle.plant_types.specs.Values.{row_length, Path}
 use Rattle.plant_types.specs.declared.values.Bounds.{Bounds}
 use Rattle.std_blocks.specs.Calls.{Call}
-use Rattle.st_names.specs.Taken.{repeats}
+use Rattle.st_typing.specs.Taken.{repeats}
 use Rattle.std.specs.List.{All}
 use Rattle.logic_source.specs.declared.logic.Variable.{Variable}
 use Rattle.logic_source.specs.declared.logic.Local.{Local}

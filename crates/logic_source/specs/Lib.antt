@@ -10,3 +10,17 @@ pub mod Paths
 pub mod Code
 pub mod Ranges
 pub mod Carried
+pub use Rattle.st_typing.specs.BlockTypes
+pub use Rattle.st_typing.specs.Constants
+pub use Rattle.st_typing.specs.DeclaredNames
+pub use Rattle.st_typing.specs.Faults
+pub use Rattle.st_typing.specs.First
+pub use Rattle.st_typing.specs.Kinds
+pub use Rattle.st_typing.specs.Scopes
+pub use Rattle.st_typing.specs.SectionKind
+pub use Rattle.st_typing.specs.Shared
+pub use Rattle.st_typing.specs.Sort
+pub use Rattle.st_typing.specs.StNamesFaults
+pub use Rattle.st_typing.specs.Taken
+pub use Rattle.st_typing.specs.Units as StParserUnits
+pub use Rattle.st_typing.specs.declared.fault.TypeFault

@@ -9,7 +9,7 @@ use Rattle.plant_types.specs.declared.values.Kind.{Kind}
 use Rattle.plant_types.specs.declared.values.Kind.TheVariants as kind
 use Rattle.st_tree.specs.Plain.{PlainBody}
 use Rattle.st_tree.specs.Kinds.{KindsOf, meant}
-use Rattle.st_names.specs.Scopes.{or_other}
+use Rattle.st_typing.specs.Scopes.{or_other}
 use Rattle.logic_source.specs.declared.logic.Variable.{Variable}
 use Rattle.logic_source.specs.declared.logic.Local.{Local}
 use Rattle.logic_source.specs.declared.logic.Row.{Row}

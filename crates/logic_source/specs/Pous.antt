@@ -1,8 +1,8 @@
 -- The blocks and programs of a plant's units, in order of text.
 use Rattle.std.specs.Prelude.{ℕ, not, List, map, flat_map, filter}
 use Rattle.plant_types.specs.Words.{folded}
-use Rattle.st_parser.specs.Units.{PlainPou, PlainUnit}
-use Rattle.st_names.specs.Shared.{is_block}
+use Rattle.st_typing.specs.Units.{PlainPou, PlainUnit}
+use Rattle.st_typing.specs.Shared.{is_block}
 
 -- the blocks and programs of all units, in order of text
 abbrev pub pous_of : List PlainUnit → List PlainPou

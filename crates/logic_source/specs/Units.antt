@@ -3,11 +3,11 @@ use Rattle.std.specs.Prelude.{ℕ, if◌then◌else◌, List, [], ◌∷◌, map
 use Rattle.plant_types.specs.Words.{same_word}
 use Rattle.base_words.specs.Names.{find_name}
 use Rattle.st_tree.specs.Plain.{PlainExpr, PlainStmt, assign, PlainBody, done, next}
-use Rattle.st_parser.specs.declared.unit.Sort.{Sort}
-use Rattle.st_parser.specs.declared.unit.Sort.TheVariants as sort
-use Rattle.st_parser.specs.Units.{PlainPou, PlainUnit}
-use Rattle.st_names.specs.DeclaredNames.{PlainDeclared, declared_in}
-use Rattle.st_names.specs.Scopes.{is_external}
+use Rattle.st_typing.specs.Sort.{Sort}
+use Rattle.st_typing.specs.Sort.TheVariants as sort
+use Rattle.st_typing.specs.Units.{PlainPou, PlainUnit}
+use Rattle.st_typing.specs.DeclaredNames.{PlainDeclared, declared_in}
+use Rattle.st_typing.specs.Scopes.{is_external}
 use Rattle.logic_source.specs.declared.logic.Variable.{Variable}
 use Rattle.logic_source.specs.declared.logic.Local.{Local}
 use Rattle.logic_source.specs.declared.logic.Row.{Row}

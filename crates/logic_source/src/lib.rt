@@ -22,4 +22,5 @@ pub use laws::{
     value_of_number, value_written, values_stand_once,
 };
 pub use logic::{BlockRef, Instance, Local, Logic, Routine, Row, Variable, row_cells};
+pub use st_typing::{Mistyped, TypeFault, Typed, check, for_turns};
 pub use units::logic_of;

@@ -1,12 +1,12 @@
 //! The blocks and programs of all units, in order of text.
 
 ghost use Rattle.std.specs.Prelude.{◌≡◌, ◌++◌, IfOk, map, false};
-ghost use Rattle.st_names.specs.Taken.{repeats};
-ghost use Rattle.st_parser.specs.Units.{PlainPou, view_pou, view_unit};
+ghost use Rattle.st_typing.specs.Taken.{repeats};
+ghost use Rattle.st_typing.specs.Units.{PlainPou, view_pou, view_unit};
 ghost use Rattle.logic_source.specs.Pous.{pous_of, block_pous, program_pous, pou_word};
 
 use base_words::Names;
-use st_parser::{Pou, PouKind, Unit};
+use st_typing::{Pou, PouKind, Unit};
 use std::alloc::{AllocError, Global};
 use std::mem::replace;
 

@@ -1,14 +1,14 @@
 //! From units to the source that they make.
 
 ghost use Rattle.std.specs.Prelude.{◌≡◌, ◌++◌, IfOk, map, flat_map, false, not};
-ghost use Rattle.st_names.specs.Scopes.{is_external};
+ghost use Rattle.st_typing.specs.Scopes.{is_external};
 ghost use Rattle.st_tree.specs.View.{view_stmt, view_body};
 ghost use Rattle.st_blocks.specs.Blocks.{AreOrdered};
 ghost use Rattle.st_typing.specs.Blocks.{blocks_of};
 ghost use Rattle.st_typing.specs.Faults.{AreTyped};
-ghost use Rattle.st_parser.specs.Units.{view_pou, view_section, view_unit};
-ghost use Rattle.st_names.specs.DeclaredNames.{declared_in};
-ghost use Rattle.st_names.specs.Taken.{repeats};
+ghost use Rattle.st_typing.specs.Units.{view_pou, view_section, view_unit};
+ghost use Rattle.st_typing.specs.DeclaredNames.{declared_in};
+ghost use Rattle.st_typing.specs.Taken.{repeats};
 ghost use Rattle.logic_source.specs.Pous.{pous_of, block_pous, pou_word};
 ghost use Rattle.logic_source.specs.Source.{view_routine, source_of};
 ghost use Rattle.logic_source.specs.Units.{block_ref, global_of, local_of, global_row_of, own_row_of, instance_of, start_of, starts_in, routine_of, declared_globals, source_in};
@@ -17,10 +17,8 @@ use crate::logic::{BlockRef, Instance, Local, Logic, Routine, Row, Variable};
 use crate::pous::{Pous, names_of, pous_of};
 use base_words::Names;
 use plant_types::{Text, same_word};
-use st_names::{Declared, declared_in};
-use st_parser::{Pou, Section, SectionKind, Sort, Unit};
 use st_tree::{Stmt, copy_expr};
-use st_typing::Typed;
+use st_typing::{Declared, Pou, Section, SectionKind, Sort, Typed, Unit, declared_in};
 use std::alloc::{AllocError, Global};
 use std::mem::replace;
 

@@ -16,8 +16,8 @@ use Rattle.alarm_db.specs.declared.column.Column.TheVariants as column
 use Rattle.alarm_db.specs.declared.row.DatabaseRow.{DatabaseRow}
 use Rattle.alarm_db.specs.Rows.{IsDatabaseRow}
 use Rattle.alarm_db.specs.Databases.{tags_of as database_tags}
-use Rattle.logic_source.specs.declared.logic.Variable.{Variable}
-use Rattle.logic_source.specs.Names.{find_global}
+use Rattle.vm_logic.specs.Variable.{Variable}
+use Rattle.vm_logic.specs.Names.{find_global}
 use Rattle.plant_config.specs.declared.rows.AlarmRow.{AlarmRow}
 use Rattle.plant_config.specs.Alarms.{area_number, is_bool, is_bool_at, if_bool, bool_number, is_unknown, unknown_column, first_unknown, alarm_of, alarms_of}
 use Rattle.plant_config.specs.Plants.{PlainPlant, IsBoolGlobal, IsAlarmRow, HaveDifferentTags, tags_of}

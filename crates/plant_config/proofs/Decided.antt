@@ -10,21 +10,21 @@ use Rattle.std.proofs.lemmas.Bool.{cases_Bool, both_ways}
 use Rattle.std.proofs.lemmas.Option.{same_Some}
 use Rattle.base_stamps.specs.Stamps.{epoch_bound, epoch_text}
 use Rattle.st_parser.specs.Units.{PlainUnit}
-use Rattle.st_names.specs.declared.place.UnitPlace.{UnitPlace}
+use Rattle.st_sources.specs.UnitPlace.{UnitPlace}
 use Rattle.st_sources.specs.UnitNames.{unit_name}
-use Rattle.st_typing.specs.Faults.{IsTypeFault}
-use Rattle.st_typing.specs.declared.fault.TypeFault.{TypeFault}
-use Rattle.st_typing.specs.declared.fault.TypeFault.TheVariants as type_fault
-use Rattle.st_typing.proofs.Decided.{typed_or_not}
+use Rattle.vm_logic.specs.Faults.{IsTypeFault}
+use Rattle.vm_logic.specs.TypeFault.{TypeFault}
+use Rattle.vm_logic.specs.TypeFault.TheVariants as type_fault
+use Rattle.vm_logic.proofs.Decided.{typed_or_not}
 use Rattle.plant_file.specs.PlantFiles.{PlainPlantFile, plant_file}
 use Rattle.plant_file.specs.Read.{document_in, plant_file_in}
 use Rattle.st_sources.specs.Sources.{IsSourceFault}
 use Rattle.st_sources.specs.declared.fault.SourceFault.{SourceFault}
 use Rattle.st_sources.specs.declared.fault.SourceFault.TheVariants as source_fault
 use Rattle.st_sources.proofs.Decided as sources
-use Rattle.logic_source.specs.Units.{source_in}
-use Rattle.logic_limits.specs.declared.fault.LimitFault.{LimitFault}
-use Rattle.logic_limits.specs.declared.fault.LimitFault.TheVariants as limit_fault
+use Rattle.vm_logic.specs.Units.{source_in}
+use Rattle.vm_logic.specs.LimitFault.{LimitFault}
+use Rattle.vm_logic.specs.LimitFault.TheVariants as limit_fault
 use Rattle.alarm_db.specs.Databases.{is_among, is_even, version_of, first_wrong, first_twice, tags_of, rows_fault, records_fault, records_of, first_fault, rows_of}
 use Rattle.alarm_db.specs.Rows.{wrong_column, row_of}
 use Rattle.alarm_db.specs.declared.column.Column.{Column}

@@ -3,8 +3,8 @@ use Rattle.std.proofs.Common.{◌≡◌, refl, ℕ, ◌≤◌, Bool, true, false
 use Rattle.std.specs.Prelude.{if◌then◌else◌, nat_lt}
 use Rattle.std.proofs.lemmas.Bool.Decides.{nat_tests}
 use Rattle.st_parser.specs.Units.{PlainUnit}
-use Rattle.logic_source.specs.Source.{Source}
-use Rattle.logic_source.specs.Units.{source_in}
+use Rattle.vm_logic.specs.Source.{Source}
+use Rattle.vm_logic.specs.Units.{source_in}
 use Rattle.vm_logic.specs.Sound.{IsSound}
 use Rattle.vm_logic.proofs.Small.{few_globals, few_programs}
 use Rattle.alarm_db.specs.Databases.{IsDatabase, rows_of}

@@ -1,16 +1,16 @@
 -- Texts are refused for one fault.
 use Rattle.std.proofs.Common.{◌≡◌, ◌≢◌, ◌∙◌, ap, sym, subst, refl, ◌⊎◌, ℕ, Some, None, inl, inr}
 use Rattle.std.proofs.lemmas.Option.{same_Some}
-use Rattle.st_typing.specs.Faults.{IsTypeFault}
-use Rattle.st_typing.proofs.OneFault as typing
-use Rattle.st_typing.proofs.Settled.{settled}
+use Rattle.vm_logic.specs.Faults.{IsTypeFault}
+use Rattle.vm_logic.proofs.OneFault as typing
+use Rattle.vm_logic.proofs.Settled.{settled}
 use Rattle.plant_file.specs.Read.{document_in, plant_file_in}
 use Rattle.st_sources.specs.Sources.{SameFault}
 use Rattle.st_sources.specs.declared.fault.SourceFault.{SourceFault}
 use Rattle.st_sources.specs.declared.fault.SourceFault.TheVariants as source_fault
 use Rattle.st_sources.proofs.Answers.{same_fault}
-use Rattle.logic_source.specs.Units.{source_in}
-use Rattle.logic_limits.specs.Limits.{IsLimitFault}
+use Rattle.vm_logic.specs.Units.{source_in}
+use Rattle.vm_logic.specs.Limits.{IsLimitFault}
 use Rattle.alarm_db.specs.Databases.{rows_of}
 use Rattle.alarm_db.specs.declared.column.Column.{Column}
 use Rattle.plant_config.specs.declared.fault.ConfigFault.{ConfigFault}

@@ -4,7 +4,7 @@ use Rattle.std.specs.Prelude.{not, position, slice_index_or}
 use Rattle.std.specs.List.{prefix_len}
 use Rattle.std.proofs.lemmas.List.{length-map}
 use Rattle.plant_types.specs.Words.{same_word}
-use Rattle.logic_source.specs.Source.{PlainRoutine}
+use Rattle.vm_logic.specs.Source.{PlainRoutine}
 use Rattle.vm_logic.specs.declared.headings.Heading.{Heading}
 use Rattle.vm_logic.specs.Headings.{PlainHeading, heading_of, view_heading}
 

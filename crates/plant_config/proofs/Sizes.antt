@@ -4,11 +4,11 @@ use Rattle.std.specs.List.{Any}
 use Rattle.std.proofs.lemmas.Bool.{cases_Bool}
 use Rattle.std.proofs.lemmas.Bool.Decides.{nat_tests}
 use Rattle.std.proofs.lemmas.List.Elements.{All-nil, All-cons}
-use Rattle.logic_source.specs.Source.{Source}
-use Rattle.logic_limits.specs.Counts.{slot_count, plant_size, program_costs}
-use Rattle.logic_limits.specs.Limits.{KeepsLimits, IsLimitFault}
-use Rattle.logic_limits.specs.declared.fault.LimitFault.{LimitFault}
-use Rattle.logic_limits.specs.declared.fault.LimitFault.TheVariants as limit_fault
+use Rattle.vm_logic.specs.Source.{Source}
+use Rattle.vm_logic.specs.Counts.{slot_count, plant_size, program_costs}
+use Rattle.vm_logic.specs.Limits.{KeepsLimits, IsLimitFault}
+use Rattle.vm_logic.specs.LimitFault.{LimitFault}
+use Rattle.vm_logic.specs.LimitFault.TheVariants as limit_fault
 
 kept_or_past_one : (bound n : ℕ) → (n ≤ bound) ⊎ (bound < n)
 kept_or_past_one bound n =

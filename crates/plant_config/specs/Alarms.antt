@@ -7,8 +7,8 @@ use Rattle.plant_types.specs.declared.values.Kind.TheVariants as kind
 use Rattle.alarm_db.specs.declared.column.Column.{Column}
 use Rattle.alarm_db.specs.declared.column.Column.TheVariants as column
 use Rattle.alarm_db.specs.declared.row.DatabaseRow.{DatabaseRow}
-use Rattle.logic_source.specs.declared.logic.Variable.{Variable}
-use Rattle.logic_source.specs.Names.{find_global}
+use Rattle.vm_logic.specs.Variable.{Variable}
+use Rattle.vm_logic.specs.Names.{find_global}
 use Rattle.plant_config.specs.declared.alarms.AlarmFault.{AlarmFault}
 use Rattle.plant_config.specs.declared.alarms.AlarmFault.TheVariants as fault
 use Rattle.plant_config.specs.declared.rows.AlarmRow.{AlarmRow}

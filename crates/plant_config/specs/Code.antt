@@ -3,8 +3,8 @@ use Rattle.std.specs.Prelude.{ℕ, List, refl}
 use Rattle.std.specs.Coded.{Coded, code_by, coded×, coded_list, coded_ℕ}
 use Rattle.plant_file.specs.contracts.console.ListedConsole as console
 use Rattle.plant_file.specs.declared.console.ListedConsole.{ListedConsole}
-use Rattle.logic_source.specs.Source.{Source}
-use Rattle.logic_source.specs.Code.{source_code}
+use Rattle.vm_logic.specs.Source.{Source}
+use Rattle.vm_logic.specs.Code.{source_code}
 use Rattle.plant_config.specs.contracts.rows.AlarmRow as row
 use Rattle.plant_config.specs.declared.rows.AlarmRow.{AlarmRow}
 use Rattle.plant_config.specs.Plants.{PlainPlant}

@@ -2,8 +2,8 @@
 use Rattle.std.specs.Prelude.{◌≡◌, ℕ, List, None}
 use Rattle.st_parser.specs.Units.{PlainUnit}
 use Rattle.plant_file.specs.PlantFiles.{PlainPlantFile}
-use Rattle.logic_source.specs.Source.{Source}
-use Rattle.logic_source.specs.Units.{source_in}
+use Rattle.vm_logic.specs.Source.{Source}
+use Rattle.vm_logic.specs.Units.{source_in}
 use Rattle.vm_logic.specs.Sound.{IsSound}
 use Rattle.alarm_db.specs.Databases.{rows_of}
 use Rattle.plant_config.specs.declared.rows.AlarmRow.{AlarmRow}

@@ -3,10 +3,10 @@ use Rattle.std.specs.Prelude.{ℕ, List, [], map, Option, slice_get, slice_index
 use Rattle.std.specs.Option.{option_map_or}
 use Rattle.std.specs.Str.{bytes_eq}
 use Rattle.plant_types.specs.Words.{same_word}
-use Rattle.logic_source.specs.declared.logic.Variable.{Variable}
-use Rattle.logic_source.specs.Source.{PlainRoutine}
-use Rattle.logic_source.specs.Names.{find_global}
-use Rattle.logic_source.specs.Paths.{paths_of, path_text}
+use Rattle.vm_logic.specs.Variable.{Variable}
+use Rattle.vm_logic.specs.Source.{PlainRoutine}
+use Rattle.vm_logic.specs.Names.{find_global}
+use Rattle.vm_logic.specs.Paths.{paths_of, path_text}
 use Rattle.plant_config.specs.Plants.{PlainPlant, tags_of}
 
 -- the globals, in order of declaration

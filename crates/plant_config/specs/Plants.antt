@@ -6,8 +6,8 @@ use Rattle.base_stamps.specs.Stamps.{epoch_bound}
 use Rattle.plant_file.specs.Lists.{repeats}
 use Rattle.plant_file.specs.PlantFiles.{PlainPlantFile, IsConsole, numbers_clash}
 use Rattle.plant_file.specs.declared.console.ListedConsole.{ListedConsole}
-use Rattle.logic_source.specs.declared.logic.Variable.{Variable}
-use Rattle.logic_source.specs.Source.{Source}
+use Rattle.vm_logic.specs.Variable.{Variable}
+use Rattle.vm_logic.specs.Source.{Source}
 use Rattle.vm_logic.specs.Sound.{IsSound}
 use Rattle.plant_config.specs.declared.rows.AlarmRow.{AlarmRow}
 

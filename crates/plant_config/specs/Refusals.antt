@@ -3,20 +3,20 @@ use Rattle.std.specs.Prelude.{◌≡◌, ◌≢◌, ◌⊎◌, ⊤, ℕ, ◌<◌
 use Rattle.toml.specs.Data.{Members}
 use Rattle.base_stamps.specs.Stamps.{epoch_bound, epoch_text}
 use Rattle.st_parser.specs.Units.{PlainUnit}
-use Rattle.st_names.specs.declared.place.UnitPlace.{UnitPlace}
-use Rattle.st_typing.specs.Faults.{IsTypeFault}
-use Rattle.st_typing.specs.declared.fault.TypeFault.{TypeFault}
-use Rattle.st_typing.specs.declared.fault.TypeFault.TheVariants as type_fault
+use Rattle.st_sources.specs.UnitPlace.{UnitPlace}
+use Rattle.vm_logic.specs.Faults.{IsTypeFault}
+use Rattle.vm_logic.specs.TypeFault.{TypeFault}
+use Rattle.vm_logic.specs.TypeFault.TheVariants as type_fault
 use Rattle.plant_file.specs.PlantFiles.{PlainPlantFile, plant_file}
 use Rattle.plant_file.specs.Read.{document_in, plant_file_in}
 use Rattle.st_sources.specs.Sources.{IsSourceFault}
 use Rattle.st_sources.specs.UnitNames.{unit_name}
 use Rattle.st_sources.specs.declared.fault.SourceFault.{SourceFault}
 use Rattle.st_sources.specs.declared.fault.SourceFault.TheVariants as source_fault
-use Rattle.logic_source.specs.Units.{source_in}
-use Rattle.logic_limits.specs.Limits.{IsLimitFault}
-use Rattle.logic_limits.specs.declared.fault.LimitFault.{LimitFault}
-use Rattle.logic_limits.specs.declared.fault.LimitFault.TheVariants as limit_fault
+use Rattle.vm_logic.specs.Units.{source_in}
+use Rattle.vm_logic.specs.Limits.{IsLimitFault}
+use Rattle.vm_logic.specs.LimitFault.{LimitFault}
+use Rattle.vm_logic.specs.LimitFault.TheVariants as limit_fault
 use Rattle.alarm_db.specs.Databases.{first_fault, rows_of}
 use Rattle.alarm_db.specs.declared.column.Column.{Column}
 use Rattle.alarm_db.specs.declared.fault.DbFault.{DbFault}

@@ -2,17 +2,17 @@
 use Rattle.std.specs.Prelude.{◌≡◌, ℕ, ◌<◌, true, List, Some, None}
 use Rattle.base_stamps.specs.Stamps.{epoch_bound, epoch_text}
 use Rattle.st_parser.specs.Units.{PlainUnit}
-use Rattle.st_typing.specs.Faults.{AreTyped}
+use Rattle.vm_logic.specs.Faults.{AreTyped}
 use Rattle.plant_file.specs.PlantFiles.{PlainPlantFile}
 use Rattle.plant_file.specs.Read.{plant_file_in}
 use Rattle.st_sources.specs.Sources.{HaveUnits}
-use Rattle.logic_source.specs.Units.{source_in}
-use Rattle.logic_limits.specs.Limits.{KeepsLimits}
+use Rattle.vm_logic.specs.Units.{source_in}
+use Rattle.vm_logic.specs.Limits.{KeepsLimits}
 use Rattle.alarm_db.specs.Databases.{first_fault, rows_of}
 use Rattle.plant_config.specs.Alarms.{first_unknown, alarms_of}
 use Rattle.plant_config.specs.Files.{Texts, same_texts}
 use Rattle.plant_config.specs.Limits.{first_limit}
-use Rattle.logic_source.specs.Source.{Source}
+use Rattle.vm_logic.specs.Source.{Source}
 use Rattle.plant_config.specs.declared.rows.AlarmRow.{AlarmRow}
 use Rattle.plant_config.specs.Plants.{PlainPlant, IsPlant, plant_with, tags_of}
 

@@ -6,11 +6,10 @@ ghost use Rattle.plant_config.specs.Alarms.{area_number, is_bool, is_bool_at, bo
 use crate::rows::AlarmRow;
 use alarm_db::{Column, DatabaseRow};
 use base_trace::Shown;
-use logic_source::Variable;
 use plant_file::TextSet;
 use plant_types::{Kind, Text};
 use std::alloc::{AllocError, AllocFailed, Global};
-use vm_logic::Framed;
+use vm_logic::{Framed, Variable};
 
 /// Why there are no alarms of rows. Rows count from 1.
 #[derive(Clone, Copy, Drop)]

@@ -3,7 +3,7 @@
 ghost use Rattle.std.specs.Prelude.{map};
 ghost use Rattle.st_parser.specs.Units.{view_unit};
 ghost use Rattle.st_sources.specs.Sources.{HaveUnits};
-ghost use Rattle.st_typing.specs.Faults.{AreTyped};
+ghost use Rattle.vm_logic.specs.Faults.{AreTyped};
 
 use st_parser::Unit;
 use std::alloc::Global;

@@ -8,7 +8,7 @@ ghost use Rattle.plant_file.specs.Read.{plant_file_in};
 ghost use Rattle.vm_logic.specs.declared.headings.Heading.{Heading};
 ghost use Rattle.plant_config.specs.Files.{files_of, texts_of};
 ghost use Rattle.alarm_db.specs.Databases.{IsDatabase, first_fault, rows_of, tags_of as database_tags};
-ghost use Rattle.logic_limits.specs.Counts.{program_costs};
+ghost use Rattle.vm_logic.specs.Counts.{program_costs};
 ghost use Rattle.plant_file.specs.PlantFiles.{IsPlantFile};
 ghost use Rattle.plant_config.specs.Logics.{AreKnown, HasLogic};
 ghost use Rattle.plant_config.specs.Plants.{PlainPlant, IsPlant, plant_with, tags_of};
@@ -28,15 +28,13 @@ use crate::running::{database_of, known_alarms, logic_of};
 use crate::spelling::{refused, units_of};
 use alarm_db::Tags;
 use base_stamps::Epoch;
-use logic_source::Variable;
 use plant_file::{ListedConsole, PlantFile};
 use plant_types::{Items, same_word};
 use st_parser::Unit;
-use st_typing::{Typed, check};
 use std::alloc::{AllocError, Global};
 use std::marker::Model;
 use std::thread::Threads;
-use vm_logic::{Framed, Heading};
+use vm_logic::{Framed, Heading, Typed, Variable, check};
 
 /// An accepted plant. Its areas, alarms, globals and programs are numbered from 0: areas as the plant file lists them, alarms in the order of the
 /// database, globals and programs in the order of the sources and, in a source, of its text.

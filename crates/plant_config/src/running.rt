@@ -14,11 +14,9 @@ use crate::rows::AlarmRow;
 use crate::told::told;
 use alarm_db::{AlarmDatabase, DatabaseRow, DbFault};
 use base_stamps::Epoch;
-use logic_limits::LimitFault;
 use plant_file::PlantFile;
-use st_typing::Typed;
 use std::alloc::Global;
-use vm_logic::Framed;
+use vm_logic::{Framed, LimitFault, Typed};
 
 /// The logic of well-formed sources, made ready to run, or the first limit on slots, size and cost that it is past: C10. The sources are let go.
 #[tactic(auto, unfolding(crate::specs::Refusals::IsRefused))]

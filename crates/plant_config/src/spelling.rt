@@ -5,7 +5,7 @@ ghost use Rattle.st_parser.specs.Units.{view_unit};
 ghost use Rattle.plant_file.specs.PlantFiles.{PlainPlantFile};
 ghost use Rattle.st_sources.specs.Sources.{IsSourceFault};
 ghost use Rattle.st_sources.specs.UnitNames.{unit_name};
-ghost use Rattle.st_typing.specs.Faults.{IsTypeFault};
+ghost use Rattle.vm_logic.specs.Faults.{IsTypeFault};
 ghost use Rattle.plant_config.specs.Stages.{IsLimited, HasUnits};
 ghost use Rattle.plant_config.specs.Refusals.{IsRefused};
 
@@ -14,12 +14,11 @@ use crate::files::Handed;
 use base_stamps::Epoch;
 use plant_file::PlantFile;
 use plant_types::Text;
-use st_names::UnitPlace;
 use st_parser::Unit;
-use st_sources::{SourceFault, unit_name};
-use st_typing::{Mistyped, TypeFault};
+use st_sources::{SourceFault, UnitPlace, unit_name};
 use std::alloc::{AllocError, Global};
 use std::thread::Threads;
+use vm_logic::{Mistyped, TypeFault};
 
 /// The name of a source by its number; empty if there is none.
 fn name_at(alloc: Global, sources: &[(&str, &[u8])], number: usize) -> Result<Text, AllocError>

@@ -13,5 +13,6 @@ mod verdicts;
 
 pub use folder::{Disk, FileFault, Folder, PlantFiles};
 pub use listener::{Deaf, Listener, PlantTexts};
+pub use plant_config::{ConfigFault, Files, Plant};
 pub use texts::{FetchFault, Fetched, SourceText, fetch};
 pub use verdicts::{accepted_line, files_verdict, verdict};

@@ -6,9 +6,9 @@ use Rattle.plant_types.specs.declared.values.Trap.{Trap}
 use Rattle.serve_answers.specs.Answers.{spots_of}
 use Rattle.logic_source.specs.Source.{Source}
 use Rattle.logic_source.specs.Paths.{path_text}
-use Rattle.vm_logic.specs.Runs.{place_spot}
-use Rattle.plant_config.specs.Plants.{PlainPlant}
-use Rattle.plant_config.specs.Names.{body_path}
+use Rattle.engine.specs.VmLogicRuns.{place_spot}
+use Rattle.engine.specs.Plants.{PlainPlant}
+use Rattle.engine.specs.Names.{body_path}
 use Rattle.engine.proofs.NamedRows as rows
 use Rattle.std.proofs.lemmas.Str.{IsUtf8-from_is_utf8}
 

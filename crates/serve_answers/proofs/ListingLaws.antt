@@ -6,8 +6,8 @@ use Rattle.std.proofs.Math.Seq.{take-suc}
 use Rattle.std.proofs.lemmas.Grind.{flat_map-append}
 use Rattle.std.proofs.lemmas.Option.{none-some, get_or_from_slice_get}
 use Rattle.serve_lines.specs.Lines.{row_line}
-use Rattle.plant_config.specs.Plants.{PlainPlant}
-use Rattle.engine_history.specs.declared.event.Event.{Event}
+use Rattle.engine.specs.Plants.{PlainPlant}
+use Rattle.engine.specs.Event.{Event}
 use Rattle.engine.specs.Journal.{journal_of, IsLine}
 use Rattle.serve_answers.specs.Listings.{HasListed, HasRow, text_of, named_line}
 

@@ -4,8 +4,8 @@ use Rattle.std.proofs.lemmas.List.{take-append-drop, map-append}
 use Rattle.std.proofs.lemmas.Grind.{flat_map-append}
 use Rattle.std.specs.Io.KnownBytes.{Appends}
 use Rattle.std.proofs.KnownBytes.{Appends-nil, Appends-trans}
-use Rattle.plant_config.specs.Plants.{PlainPlant}
-use Rattle.engine_history.specs.declared.event.Event.{Event}
+use Rattle.engine.specs.Plants.{PlainPlant}
+use Rattle.engine.specs.Event.{Event}
 use Rattle.engine.specs.Journal.{journal_of}
 use Rattle.serve_faults.specs.Begun.{IsBegun}
 use Rattle.serve_lines.specs.Lines.{end_line}

@@ -9,21 +9,21 @@ use Rattle.plant_types.specs.declared.values.Trap.{Trap}
 use Rattle.st_tree.specs.Meaning.{Spot}
 use Rattle.logic_source.specs.Source.{Source}
 use Rattle.logic_source.specs.Paths.{path_text}
-use Rattle.vm_logic.specs.Runs.{place_spot}
+use Rattle.engine.specs.VmLogicRuns.{place_spot}
 use Rattle.alarm_machine.specs.Codes.{PlainChange}
 use Rattle.alarm_machine.specs.declared.states.Verb.{Verb}
-use Rattle.plant_config.specs.Plants.{PlainPlant}
-use Rattle.plant_config.specs.Names.{alarm_number, program_number, tag_of, global_of}
+use Rattle.engine.specs.Plants.{PlainPlant}
+use Rattle.engine.specs.Names.{alarm_number, program_number, tag_of, global_of}
 use Rattle.alarm_orders.specs.Orders.{order_with}
-use Rattle.engine_history.specs.declared.event.Event.{Event}
-use Rattle.engine_system.specs.declared.event.EngineFault.{EngineFault}
-use Rattle.engine_system.specs.Faults.{fault_text}
-use Rattle.engine_system.specs.Reports.{PlainReport}
+use Rattle.engine.specs.Event.{Event}
+use Rattle.engine.specs.EngineFault.{EngineFault}
+use Rattle.engine.specs.Faults.{fault_text}
+use Rattle.engine.specs.Reports.{PlainReport}
 use Rattle.alarm_orders.specs.declared.order.Order.{Order as OrderMade}
-use Rattle.engine_system.specs.declared.event.Reply.{Reply}
-use Rattle.engine_system.specs.declared.event.Reply.TheVariants as reply
+use Rattle.engine.specs.Reply.{Reply}
+use Rattle.engine.specs.Reply.TheVariants as reply
 use Rattle.alarm_machine.specs.Orders.{is_restart}
-use Rattle.engine_system.specs.System.{System, system, after_event, scan_event, order_event, reply_to, faults_of, changes_of, outs_of}
+use Rattle.engine.specs.System.{System, system, after_event, scan_event, order_event, reply_to, faults_of, changes_of, outs_of}
 use Rattle.engine.specs.Engines.{PlainEngine}
 use Rattle.serve_lines.specs.Commands.{PlainCommand, Nothing, Unknown, Scan, Order, Listing, Journal, command_of}
 use Rattle.serve_answers.specs.Listings.{list_text, journal_text}

@@ -10,11 +10,11 @@ use Rattle.alarm_machine.specs.Codes.{code_of, same_code}
 use Rattle.alarm_bank.specs.declared.rows.Counted.{Counted}
 use Rattle.alarm_bank.specs.Counts.{count_of}
 use Rattle.serve_lines.specs.Lines.{state_line, count_line, row_line, end_line}
-use Rattle.plant_config.specs.Plants.{PlainPlant}
-use Rattle.plant_config.specs.Names.{tag_of, area_of, priority_of}
-use Rattle.engine_history.specs.declared.event.Event.{Event}
+use Rattle.engine.specs.Plants.{PlainPlant}
+use Rattle.engine.specs.Names.{tag_of, area_of, priority_of}
+use Rattle.engine.specs.Event.{Event}
 use Rattle.engine.specs.Journal.{NamedRow, named_text, journal_of}
-use Rattle.engine_system.specs.System.{System, summary_of}
+use Rattle.engine.specs.System.{System, summary_of}
 use Rattle.serve_answers.specs.declared.spilling.Half.{Half}
 use Rattle.serve_answers.specs.declared.spilling.Half.TheVariants as half
 

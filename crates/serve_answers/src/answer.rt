@@ -1,22 +1,21 @@
 ghost use Rattle.std.specs.Prelude.{◌≡◌, ◌++◌, ◌∷◌, [], List, ◌⊎◌, ◌<◌, ◌^◌, ◌+◌, ℕ, OnOk, OnErr, IfOk, IfSome, All, length, false, string_bytes, decimal};
 ghost use Rattle.engine.specs.Engines.{state_of};
-ghost use Rattle.engine_history.specs.declared.event.Event.{Event};
-ghost use Rattle.engine_history.specs.declared.event.Event.TheVariants as event;
+ghost use Rattle.engine.specs.Event.{Event};
+ghost use Rattle.engine.specs.Event.TheVariants as event;
 ghost use Rattle.alarm_orders.specs.declared.order.Order.{Order as OrderMade};
-ghost use Rattle.plant_config.specs.Plants.{PlainPlant};
-ghost use Rattle.plant_config.specs.Names.{tag_of, globals_of, global_of, body_paths};
+ghost use Rattle.engine.specs.Plants.{PlainPlant};
+ghost use Rattle.engine.specs.Names.{tag_of, globals_of, global_of, body_paths};
 ghost use Rattle.logic_source.specs.Paths.{path_text};
-ghost use Rattle.vm_logic.specs.Runs.{place_spot};
+ghost use Rattle.engine.specs.VmLogicRuns.{place_spot};
 ghost use Rattle.alarm_machine.specs.Orders.{is_restart};
-ghost use Rattle.engine_system.specs.System.{system, scan_event};
+ghost use Rattle.engine.specs.System.{system, scan_event};
 ghost use Rattle.serve_answers.specs.Answers.{spots_of, named_by, target_of, tag_for, order_for, order_answer, fault_lines, alarm_lines, out_lines, report_lines, order_text, scan_answer, named_order, HasAdded, MayHaveAdded, history_after, line_answer};
 ghost use Rattle.serve_faults.specs.Faults.{is_read, is_write, crew_faults};
 ghost use Rattle.serve_answers.specs.Listings.{list_text, journal_text};
 
 use alarm_machine::{Change, Verb};
-use engine::{Crew, Done, Engine, EngineFault, Job, Order, Reply, Report, Start};
+use engine::{Crew, Done, Engine, EngineFault, Job, Order, Plant, Reply, Report, Start};
 use itoa::Buffer;
-use plant_config::Plant;
 use plant_types::{Pair, Place, Trap, Value};
 use serve_faults::ServeFault;
 use serve_lines::{

@@ -12,4 +12,5 @@ mod listings;
 mod spilling;
 
 pub use answer::{Said, answer_line};
+pub use engine::{Crew, Done, Engine, EngineFault, Job, Start};
 pub use spilling::{write_journal, write_list};

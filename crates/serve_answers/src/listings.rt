@@ -9,8 +9,7 @@ ghost use Rattle.serve_answers.specs.Listings.{state_lines_of, code_lines, prior
 
 use alarm_bank::Summary;
 use alarm_machine::Code;
-use engine::Engine;
-use plant_config::Plant;
+use engine::{Engine, Plant};
 use serve_lines::{push_count, push_row, push_state};
 use std::alloc::{AllocError, Global};
 

@@ -11,8 +11,7 @@ ghost use Rattle.serve_answers.specs.Listings.{text_of, half_total, half_lines_o
 
 use crate::listings::{push_area, push_numbered, push_shown, row_total};
 use base_streams::Sink;
-use engine::Engine;
-use plant_config::Plant;
+use engine::{Engine, Plant};
 use serve_faults::{ServeFault, put_all};
 use serve_lines::push_end;
 use std::alloc::{AllocError, Global};

@@ -3,7 +3,7 @@ use Rattle.std.proofs.Common.{◌≡◌, ℕ, true, false, List, [], ◌∷◌, 
 use Rattle.std.specs.Prelude.{codes}
 use Rattle.alarm_machine.specs.declared.states.Code.TheVariants.{Norm, Unack, Acked, Oos}
 use Rattle.alarm_machine.specs.declared.states.Verb.TheVariants as verb
-use Rattle.engine.specs.Journal.{NamedRow, ChangeOf, OrderBy, rows_from}
+use Rattle.serve_session.specs.Journal.{NamedRow, ChangeOf, OrderBy, rows_from}
 use Rattle.serve_lines.specs.Reloads.{reload_size, reload_sizes, sizes_after}
 use Rattle.serve_requests.specs.Requests.{Request, requests_of}
 use Rattle.serve_requests.proofs.Beginnings.{requests_end}

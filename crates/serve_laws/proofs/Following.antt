@@ -14,7 +14,7 @@ use Rattle.plant_config.specs.Plants.{PlainPlant, IsPlant}
 use Rattle.plant_config.specs.Names.{tag_of}
 use Rattle.engine_system.specs.System.{System, system, after_event, faults_of, changes_of}
 use Rattle.engine_system.proofs.Systems.{system_alarms}
-use Rattle.engine.specs.Journal.{NamedEntry, NamedRow, ChangeOf, fault_entries, change_entries, added_entries, rows_from, added_rows, journal_of}
+use Rattle.serve_session.specs.Journal.{NamedEntry, NamedRow, ChangeOf, fault_entries, change_entries, added_entries, rows_from, added_rows, journal_of}
 use Rattle.serve_laws.proofs.Journals.{since_next}
 use Rattle.serve_laws.specs.Told.{code_told, code_after, code_at, code_in, told_code, rows_since}
 use Rattle.serve_laws.proofs.Tags.{AreApart, tags_apart}

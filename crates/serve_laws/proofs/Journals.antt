@@ -4,7 +4,7 @@ use Rattle.std.proofs.lemmas.List.Sums.{fold-append}
 use Rattle.engine_history.specs.declared.event.Event.{Event}
 use Rattle.plant_config.specs.Plants.{PlainPlant}
 use Rattle.engine_system.specs.System.{System, system, opening_system, after_event}
-use Rattle.engine.specs.Journal.{NamedEntry, NamedRow, added_entries, rows_from, added_rows, journal_from, journal_of}
+use Rattle.serve_session.specs.Journal.{NamedEntry, NamedRow, added_entries, rows_from, added_rows, journal_from, journal_of}
 use Rattle.serve_laws.specs.Told.{rows_since}
 
 length-rows_from : (n moment : ℕ) (entries : List NamedEntry) → length (rows_from n moment entries) ≡ length entries

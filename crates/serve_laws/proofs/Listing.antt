@@ -13,8 +13,8 @@ use Rattle.plant_config.specs.declared.rows.AlarmRow.{AlarmRow}
 use Rattle.plant_config.specs.Plants.{PlainPlant, IsPlant}
 use Rattle.plant_config.specs.Names.{tag_of}
 use Rattle.engine_system.specs.System.{System, system, sites_of, summary_of}
-use Rattle.engine.specs.Journal.{NamedRow}
-use Rattle.serve_answers.specs.Listings.{with_end, lines_below, shown_alarm, state_lines_of, state_lines, count_lines, list_text}
+use Rattle.serve_session.specs.Journal.{NamedRow}
+use Rattle.serve_session.specs.Listings.{with_end, lines_below, shown_alarm, state_lines_of, state_lines, count_lines, list_text}
 use Rattle.serve_laws.specs.Told.{code_at, told_code, rows_since, code_line, told_lines, told_alarm, told_list}
 use Rattle.serve_laws.proofs.Tags.{tags_apart}
 use Rattle.serve_laws.proofs.Telling.{plant_since, codes_told, as_many}

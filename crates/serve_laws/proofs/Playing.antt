@@ -4,12 +4,12 @@ use Rattle.engine_history.specs.declared.event.Event.{Event}
 use Rattle.plant_config.specs.Plants.{PlainPlant}
 use Rattle.engine_system.specs.System.{System, system, after_event, scan_event}
 use Rattle.engine_system.proofs.Systems.{system_next}
-use Rattle.engine.specs.Journal.{NamedRow, added_rows}
+use Rattle.serve_session.specs.Journal.{NamedRow, added_rows}
 use Rattle.serve_laws.proofs.Journals.{journal_next}
 use Rattle.serve_lines.specs.Commands.{PlainCommand, Nothing, Unknown, Scan, Order, Listing, Journal}
 use Rattle.serve_lines.specs.Reloads.{PlainSizes, reload_sizes, reload_size}
-use Rattle.serve_answers.specs.Listings.{list_text, journal_text, named_line, with_end}
-use Rattle.serve_answers.specs.Answers.{after_command, answer_after, command_answer, command_events, event_text, scan_text, order_answer, order_for}
+use Rattle.serve_session.specs.Listings.{list_text, journal_text, named_line, with_end}
+use Rattle.serve_session.specs.ServeAnswersAnswers.{after_command, answer_after, command_answer, command_events, event_text, scan_text, order_answer, order_for}
 use Rattle.serve_requests.specs.Requests.{Request, has_lf, without_cr, begun_request, requests_of}
 use Rattle.serve_requests.proofs.RequestLaws.{cut}
 use Rattle.serve_requests.proofs.Beginnings.{requests_end}

@@ -23,9 +23,9 @@ use Rattle.plant_config.specs.Plants.{PlainPlant, IsPlant}
 use Rattle.plant_config.specs.Names.{alarm_number, tag_of}
 use Rattle.engine_system.specs.System.{System, system, opening_system, opening_alarm, after_event, faults_of, changes_of}
 use Rattle.engine_system.proofs.Systems.{event_keeps_plant, system_next, system_none, system_alarms}
-use Rattle.engine.specs.Journal.{NamedEntry, NamedRow, fault_entries, change_entries, added_entries, rows_from, added_rows, journal_of}
+use Rattle.serve_session.specs.Journal.{NamedEntry, NamedRow, fault_entries, change_entries, added_entries, rows_from, added_rows, journal_of}
 use Rattle.serve_laws.proofs.Journals.{since_next}
-use Rattle.serve_answers.specs.Listings.{all_codes}
+use Rattle.serve_session.specs.Listings.{all_codes}
 use Rattle.serve_laws.proofs.Tags.{AreApart, tags_apart, number_of_tag}
 use Rattle.serve_laws.specs.Told.{code_told, code_after, code_at, code_in, told_code, rows_since}
 

@@ -4,7 +4,7 @@ use Rattle.std.specs.List.{list_all}
 use Rattle.engine_history.specs.declared.event.Event.{Event}
 use Rattle.plant_config.specs.Plants.{PlainPlant}
 use Rattle.engine_system.specs.System.{system}
-use Rattle.engine.specs.Journal.{journal_of}
+use Rattle.serve_session.specs.Journal.{journal_of}
 use Rattle.serve_lines.specs.Commands.{PlainCommand, Nothing, Unknown, Listing, Journal}
 use Rattle.serve_lines.specs.Reloads.{reload_size, reload_sizes}
 use Rattle.serve_requests.specs.Requests.{Request, is_lf, has_lf, without_cr, requests_of, begun_request}

@@ -14,8 +14,8 @@ use Rattle.plant_config.specs.Names.{alarm_number, tag_of, priority_of}
 use Rattle.engine_history.specs.declared.event.Event.{Event}
 use Rattle.engine_history.specs.Reloads.{NoReload}
 use Rattle.engine_system.specs.System.{System, system}
-use Rattle.engine.specs.Journal.{NamedEntry, NamedRow, ChangeOf, journal_from, journal_of}
-use Rattle.serve_answers.specs.Listings.{with_end, lines_below, count_lines, state_lines, list_text}
+use Rattle.serve_session.specs.Journal.{NamedEntry, NamedRow, ChangeOf, journal_from, journal_of}
+use Rattle.serve_session.specs.Listings.{with_end, lines_below, count_lines, state_lines, list_text}
 
 -- the code of the alarm with a tag after an entry, by its code before: a change of this alarm leads to another, and nothing else does
 abbrev pub code_told : List ℕ → Code → NamedEntry → Code

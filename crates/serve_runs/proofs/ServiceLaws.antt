@@ -2,7 +2,7 @@
 use Rattle.std.proofs.Common.{ℕ, List, [], subst, refl, Option, Some, Ok, Err, inr}
 use Rattle.std.specs.Io.KnownBytes.{Appends}
 use Rattle.std.proofs.KnownBytes.{Appends-trans}
-use Rattle.engine_history.specs.declared.event.Event.{Event}
+use Rattle.serve_session.specs.Event.{Event}
 use Rattle.plant_config.specs.Plants.{PlainPlant}
 use Rattle.serve_faults.specs.declared.fault.ServeFault.{ServeFault}
 use Rattle.serve_faults.specs.declared.fault.ServeFault.TheVariants as fault

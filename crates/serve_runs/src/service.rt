@@ -7,11 +7,10 @@ ghost use Rattle.serve_runs.specs.Services.{moved, IsServed, IsStopped, IsRun};
 
 use crate::verdict::{admit, admit_from};
 use base_streams::{Feed, Sink};
-use engine::{Crew, Done, Engine, Job, Start};
 use plant_config::Plant;
 use plant_folder::{Folder, Listener, PlantFiles, PlantTexts};
 use serve_faults::ServeFault;
-use serve_session::serve;
+use serve_session::{Crew, Done, Engine, Job, Start, serve};
 use std::alloc::Global;
 use std::sync::Wait;
 use std::thread::Threads;

@@ -1,13 +1,13 @@
 -- Requests that are answered, and more after them.
 use Rattle.std.proofs.Common.{◌≡◌, ◌⊎◌, inl, inr, ℕ, Bool, true, false, cond, List, [], ◌∷◌, ◌++◌, Option, Some, None, ap, refl, sym, ◌∙◌, subst, append_assoc, append-nil, ltb, length}
-use Rattle.engine_history.specs.declared.event.Event.{Event}
-use Rattle.plant_config.specs.Files.{Texts}
-use Rattle.plant_config.specs.Plants.{PlainPlant}
-use Rattle.plant_config.proofs.OneAnswer.{one_plant, apart as accepted_apart}
-use Rattle.plant_config.proofs.OneRefusal.{one_refusal}
-use Rattle.plant_config.proofs.Decided.{accepted_or_refused}
+use Rattle.serve_answers.specs.Event.{Event}
+use Rattle.plant_folder.specs.Files.{Texts}
+use Rattle.plant_folder.specs.Plants.{PlainPlant}
+use Rattle.plant_folder.proofs.OneAnswer.{one_plant, apart as accepted_apart}
+use Rattle.plant_folder.proofs.OneRefusal.{one_refusal}
+use Rattle.plant_folder.proofs.Decided.{accepted_or_refused}
 use Rattle.plant_folder.specs.Verdicts.{refusal_line, IsVerdict}
-use Rattle.engine_system.specs.System.{System, system, reload_event}
+use Rattle.serve_answers.specs.System.{System, system, reload_event}
 use Rattle.serve_lines.specs.Reloads.{PlainSizes, total_size, reload_sizes}
 use Rattle.std.specs.Prelude.{codes}
 use Rattle.serve_lines.specs.Lines.{refused_line}

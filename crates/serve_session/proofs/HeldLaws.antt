@@ -2,8 +2,8 @@
 use Rattle.std.proofs.Common.{◌≡◌, ℕ, List, [], ◌++◌, ap, refl, sym, ◌∙◌, append_assoc, append-nil, subst, Option}
 use Rattle.std.specs.Io.KnownBytes.{Consumes}
 use Rattle.std.proofs.KnownBytes.{Consumes-trans}
-use Rattle.engine_history.specs.declared.event.Event.{Event}
-use Rattle.plant_config.specs.Plants.{PlainPlant}
+use Rattle.serve_answers.specs.Event.{Event}
+use Rattle.plant_folder.specs.Plants.{PlainPlant}
 use Rattle.serve_faults.specs.declared.fault.ServeFault.{ServeFault}
 use Rattle.serve_faults.specs.declared.fault.ServeFault.TheVariants as fault
 use Rattle.serve_requests.specs.Requests.{Request, last_request, ended_from, begun_from, begun_request, ended_requests, requests_of}

@@ -5,12 +5,12 @@ use Rattle.std.proofs.Common.{inl, inr, ap, append_assoc, arith, Result, Ok, Err
 use Rattle.std.specs.Prelude.{OnOk, is_ok}
 use Rattle.std.proofs.lemmas.Bool.Decides.{nat_tests}
 use Rattle.std.proofs.lemmas.List.{at_drop_more, at_drop_all}
-use Rattle.plant_config.specs.Plants.{PlainPlant}
+use Rattle.plant_folder.specs.Plants.{PlainPlant}
 use Rattle.plant_folder.specs.Verdicts.{IsVerdict}
-use Rattle.engine_system.specs.System.{reload_event}
+use Rattle.serve_answers.specs.System.{reload_event}
 use Rattle.serve_answers.specs.Answers.{event_added}
-use Rattle.plant_config.specs.Files.{Texts, texts_of}
-use Rattle.engine.specs.Engines.{PlainEngine, state_of}
+use Rattle.plant_folder.specs.Files.{Texts, texts_of}
+use Rattle.serve_answers.specs.Engines.{PlainEngine, state_of}
 use Rattle.serve_lines.specs.Reloads.{PlainSizes, total_size}
 use Rattle.serve_lines.specs.Lines.{refused_line}
 use Rattle.serve_session.specs.Reloads.{handed_texts, texts_in, names_in, names_for, reload_answer, IsReloaded, HasReloaded, MayHaveReloaded}

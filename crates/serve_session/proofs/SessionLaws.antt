@@ -2,14 +2,14 @@
 use Rattle.std.proofs.Common.{◌≡◌, ◌<◌, ◌≤◌, ℕ, zero, suc, List, length, [], ◌∷◌, ◌++◌, ap, refl, sym, ◌∙◌, arith, ◌⊎◌, inl, inr, append_assoc, append-nil, subst, take, Option, None, Some, IfSome, false, Result, Ok, Err}
 use Rattle.std.specs.Io.KnownBytes.{Appends, Consumes, IsAtEnd}
 use Rattle.std.proofs.KnownBytes.{Appends-nil, Appends-trans, Consumes-trans}
-use Rattle.engine_history.specs.declared.event.Event.{Event}
-use Rattle.plant_config.specs.Plants.{PlainPlant}
+use Rattle.serve_answers.specs.Event.{Event}
+use Rattle.plant_folder.specs.Plants.{PlainPlant}
 use Rattle.serve_lines.specs.Commands.{command_of}
 use Rattle.serve_lines.specs.Reloads.{PlainSizes, reload_sizes}
 use Rattle.serve_answers.specs.Answers.{after_command, answer_after}
 use Rattle.serve_requests.specs.Requests.{Request, requests_of}
 use Rattle.serve_requests.specs.Splitting.{AsksAlike, AskAlike}
-use Rattle.engine.specs.Engines.{PlainEngine}
+use Rattle.serve_answers.specs.Engines.{PlainEngine}
 use Rattle.serve_faults.specs.Faults.{crew_faults, is_crew}
 use Rattle.serve_faults.specs.declared.fault.ServeFault.{ServeFault}
 use Rattle.serve_faults.specs.declared.fault.ServeFault.TheVariants as fault

@@ -1,9 +1,9 @@
 -- What requests may be answered, one after another, and which history they leave: a relation, since of a plant that is refused by C5 the place is left open, and nothing else is.
 use Rattle.std.specs.Prelude.{◌≡◌, ◌⊎◌, ℕ, List, [], ◌∷◌, ◌++◌, Option, Some, None}
-use Rattle.plant_config.specs.Plants.{PlainPlant}
-use Rattle.engine_history.specs.declared.event.Event.{Event}
-use Rattle.engine_system.specs.System.{system}
-use Rattle.engine.specs.Engines.{PlainEngine}
+use Rattle.plant_folder.specs.Plants.{PlainPlant}
+use Rattle.serve_answers.specs.Event.{Event}
+use Rattle.serve_answers.specs.System.{system}
+use Rattle.serve_answers.specs.Engines.{PlainEngine}
 use Rattle.serve_lines.specs.Commands.{PlainCommand, command_of}
 use Rattle.serve_lines.specs.Reloads.{PlainSizes, reload_sizes}
 use Rattle.serve_answers.specs.Answers.{after_command, answer_after}

@@ -1,9 +1,9 @@
 -- Laws of answers.
 use Rattle.std.specs.Prelude.{◌≡◌, ◌⊎◌, ℕ, List, [], ◌∷◌, ◌++◌}
-use Rattle.engine_history.specs.declared.event.Event.{Event}
-use Rattle.plant_config.specs.declared.fault.ConfigFault.{ConfigFault}
-use Rattle.plant_config.specs.Plants.{PlainPlant}
-use Rattle.plant_config.specs.Refusals.{unplaced}
+use Rattle.serve_answers.specs.Event.{Event}
+use Rattle.plant_folder.specs.ConfigFault.{ConfigFault}
+use Rattle.plant_folder.specs.Plants.{PlainPlant}
+use Rattle.plant_folder.specs.Refusals.{unplaced}
 use Rattle.plant_folder.specs.Verdicts.{refusal_line}
 use Rattle.serve_requests.specs.Requests.{Request, requests_of}
 use Rattle.serve_session.specs.Answers.{AreAnswered}

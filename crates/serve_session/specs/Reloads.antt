@@ -1,13 +1,13 @@
 -- What a reload may be answered, and which history it leaves.
 use Rattle.std.specs.Prelude.{◌≡◌, ◌⊎◌, ℕ, nat_lt, false, cond, List, [], ◌∷◌, ◌++◌, length, take, drop, codes, Option, Some, None}
 use Rattle.plant_file.specs.Read.{plant_file_in}
-use Rattle.plant_config.specs.Files.{Texts, texts_of}
-use Rattle.plant_config.specs.Plants.{PlainPlant}
+use Rattle.plant_folder.specs.Files.{Texts, texts_of}
+use Rattle.plant_folder.specs.Plants.{PlainPlant}
 use Rattle.plant_folder.specs.Verdicts.{IsVerdict}
-use Rattle.engine_history.specs.declared.event.Event.{Event}
-use Rattle.engine_system.specs.Reloads.{kept_numbers, kept_count, fresh_count}
-use Rattle.engine_system.specs.System.{System, reload_event}
-use Rattle.engine.specs.Engines.{PlainEngine, state_of}
+use Rattle.serve_answers.specs.Event.{Event}
+use Rattle.serve_answers.specs.Reloads.{kept_numbers, kept_count, fresh_count}
+use Rattle.serve_answers.specs.System.{System, reload_event}
+use Rattle.serve_answers.specs.Engines.{PlainEngine, state_of}
 use Rattle.serve_lines.specs.Reloads.{PlainSizes, total_size}
 use Rattle.serve_lines.specs.Lines.{refused_line, reloaded_line}
 use Rattle.serve_answers.specs.Answers.{event_text, event_added}

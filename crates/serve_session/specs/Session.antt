@@ -2,9 +2,9 @@
 use Rattle.std.specs.Prelude.{◌≡◌, ℕ, ◌≤◌, ◌<◌, ◌⊎◌, ◌||◌, Bool, false, List, [], ◌++◌, length, Option, OnOk, OnErr}
 use Rattle.std.specs.declared.result.Result.{Result}
 use Rattle.std.specs.Io.KnownBytes.{Appends, Consumes, IsAtEnd}
-use Rattle.engine_history.specs.declared.event.Event.{Event}
-use Rattle.engine.specs.Engines.{PlainEngine}
-use Rattle.plant_config.specs.Plants.{PlainPlant}
+use Rattle.serve_answers.specs.Event.{Event}
+use Rattle.serve_answers.specs.Engines.{PlainEngine}
+use Rattle.plant_folder.specs.Plants.{PlainPlant}
 use Rattle.serve_faults.specs.declared.fault.ServeFault.{ServeFault}
 use Rattle.serve_faults.specs.declared.fault.ServeFault.TheVariants as fault
 use Rattle.serve_faults.specs.Faults.{is_read, is_write}

@@ -15,6 +15,7 @@ mod session;
 
 pub use base_streams::{Failed, Feed, Reading, Sink, Writing};
 pub use laws::out_text_is_one;
+pub use serve_answers::{Crew, Done, Engine, Job, Start};
 pub use serve_faults::{ServeFault, put_all};
 pub use serve_requests::requests_end;
 pub use session::{Session, Step, serve};

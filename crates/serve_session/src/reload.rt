@@ -2,8 +2,8 @@
 
 ghost use Rattle.std.specs.Prelude.{◌≡◌, ◌++◌, ◌∷◌, [], IfOk, OnOk, OnErr, List, ℕ, take, drop, map, Some, false};
 ghost use Rattle.serve_lines.specs.Reloads.{reload_sizes};
-ghost use Rattle.engine.specs.Engines.{state_of};
-ghost use Rattle.engine_system.specs.System.{reload_event};
+ghost use Rattle.serve_answers.specs.Engines.{state_of};
+ghost use Rattle.serve_answers.specs.System.{reload_event};
 ghost use Rattle.serve_answers.specs.Answers.{HasAdded, MayHaveAdded};
 ghost use Rattle.serve_requests.specs.Requests.{Request};
 ghost use Rattle.serve_faults.specs.Faults.{is_crew};
@@ -13,10 +13,9 @@ ghost use Rattle.serve_session.specs.Session.{AsksFor, Serves, Continues};
 
 use crate::room::Room;
 use base_streams::Sink;
-use engine::{Engine, EngineFault};
-use plant_config::{ConfigFault, Files, Plant};
-use plant_folder::{Listener, PlantTexts, verdict};
+use plant_folder::{ConfigFault, Files, Listener, Plant, PlantTexts, verdict};
 use plant_types::{Items, Text};
+use serve_answers::{Engine, EngineFault};
 use serve_faults::{ServeFault, put_all};
 use serve_lines::{TextSizes, push_refused, push_reloaded};
 use std::alloc::{AllocError, Global};

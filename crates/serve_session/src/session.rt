@@ -8,9 +8,8 @@ ghost use Rattle.serve_session.specs.Session.{AsksFor, HasReadMore, HasReadAll, 
 use crate::reload::{Handed, answer_reload};
 use crate::room::Room;
 use base_streams::{Feed, Sink, empty_piece, fill};
-use engine::{Crew, Done, Engine, Job, Start};
 use plant_folder::Listener;
-use serve_answers::{Said, answer_line, write_journal, write_list};
+use serve_answers::{Crew, Done, Engine, Job, Said, Start, answer_line, write_journal, write_list};
 use serve_faults::{ServeFault, put_all};
 use serve_lines::reload_sizes;
 use serve_requests::{Ended, Held, Splitter, Taken};

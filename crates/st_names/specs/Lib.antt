@@ -13,3 +13,9 @@ pub mod Tables
 pub mod Kept
 pub mod Bodies
 pub mod Asked
+pub use Rattle.st_parser.specs.Declarations
+pub use Rattle.st_parser.specs.Lexemes
+pub use Rattle.st_parser.specs.Phrases
+pub use Rattle.st_parser.specs.Units
+pub use Rattle.st_parser.specs.declared.unit.SectionKind
+pub use Rattle.st_parser.specs.declared.unit.Sort

@@ -29,3 +29,4 @@ pub use place::UnitPlace;
 pub use rules::{StatementRule, every};
 pub use scope::Scope;
 pub use shared::SharedNames;
+pub use st_parser::{Declaration, Pou, PouKind, Section, SectionKind, Sort, Unit};

@@ -13,4 +13,5 @@ pub use fault::SourceFault;
 pub use laws::{one_answer, spelled_or_stopped};
 pub use names::unit_name;
 pub use reading::units;
+pub use st_names::UnitPlace;
 pub use threads::units_in_threads;

@@ -2,7 +2,7 @@
 use Rattle.std.proofs.Common.{◌≡◌, ◌≢◌, ℕ, zero, suc, ◌<◌, ◌⊎◌, List, [], ◌∷◌, length, Option, Some, None, slice_get, refl, inl, inr, arith}
 use Rattle.std.proofs.lemmas.Bool.{cases_Bool}
 use Rattle.std.proofs.lemmas.Option.{slice_get_within}
-use Rattle.st_parser.specs.Units.{PlainUnit}
+use Rattle.st_names.specs.Units.{PlainUnit}
 use Rattle.st_blocks.proofs.Decided.{holder_or_none, deep_or_none}
 use Rattle.st_names.specs.Faults.{first_misnamed}
 use Rattle.st_typing.specs.Blocks.{blocks_of, block_places}

@@ -4,3 +4,6 @@ pub mod Parts
 pub mod Places
 pub mod Settled
 pub mod Spelled
+pub use Rattle.st_names.proofs.Entries
+pub use Rattle.st_names.proofs.Scanned
+pub use Rattle.st_names.proofs.Twice

@@ -2,7 +2,7 @@
 use Rattle.std.proofs.Common.{◌≡◌, ◌≢◌, ◌∙◌, ap, sym, refl, ◌⊎◌, List, Option, Some, None, slice_get, inl, inr}
 use Rattle.std.proofs.lemmas.Bool.{both_ways}
 use Rattle.std.proofs.lemmas.Option.{same_Some}
-use Rattle.st_parser.specs.Units.{PlainUnit}
+use Rattle.st_names.specs.Units.{PlainUnit}
 use Rattle.st_blocks.proofs.Decided as order
 use Rattle.st_names.specs.declared.place.UnitPlace.{UnitPlace}
 use Rattle.st_names.specs.Faults.{first_misnamed}

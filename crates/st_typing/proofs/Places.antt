@@ -2,7 +2,7 @@
 use Rattle.std.proofs.Common.{◌≡◌, ℕ, suc, List, [], ◌∷◌, length, refl, inl, inr}
 use Rattle.std.proofs.lemmas.Bool.{cases_Bool}
 use Rattle.std.proofs.lemmas.List.{length-append}
-use Rattle.st_parser.specs.Units.{PlainPou, PlainUnit}
+use Rattle.st_names.specs.Units.{PlainPou, PlainUnit}
 use Rattle.st_names.specs.Shared.{is_block}
 use Rattle.st_typing.specs.Blocks.{blocks_among, blocks_of, places_among, block_places}
 

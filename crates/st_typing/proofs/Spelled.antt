@@ -2,10 +2,10 @@
 use Rattle.std.proofs.Common.{◌≡◌, ◌∙◌, ap, refl, true, List, [], ◌∷◌}
 use Rattle.std.specs.List.{list_all}
 use Rattle.std.proofs.lemmas.Bool.{and_from}
-use Rattle.st_expressions.specs.Lexemes.{Lexeme}
-use Rattle.st_expressions.specs.Phrases.{Each}
-use Rattle.st_parser.specs.Declarations.{Globals, globals, SpellsUnit, unit}
-use Rattle.st_parser.specs.Units.{PlainSection, PlainUnit}
+use Rattle.st_names.specs.Lexemes.{Lexeme}
+use Rattle.st_names.specs.Phrases.{Each}
+use Rattle.st_names.specs.Declarations.{Globals, globals, SpellsUnit, unit}
+use Rattle.st_names.specs.Units.{PlainSection, PlainUnit}
 use Rattle.st_typing.specs.Kinds.{is_global}
 
 section_stands : (ts : List Lexeme) (s : PlainSection) → Globals ts s → is_global s ≡ true

@@ -1,9 +1,9 @@
 -- The function blocks of all sources, and where each is declared.
 use Rattle.std.specs.Prelude.{ℕ, suc, if◌then◌else◌, List, [], ◌∷◌, ◌++◌, flat_map, Some}
 use Rattle.st_blocks.specs.Blocks.{PlainBlock}
-use Rattle.st_parser.specs.declared.unit.Sort.{Sort}
-use Rattle.st_parser.specs.declared.unit.Sort.TheVariants as sort
-use Rattle.st_parser.specs.Units.{PlainDeclaration, PlainSection, PlainPou, PlainUnit}
+use Rattle.st_names.specs.Sort.{Sort}
+use Rattle.st_names.specs.Sort.TheVariants as sort
+use Rattle.st_names.specs.Units.{PlainDeclaration, PlainSection, PlainPou, PlainUnit}
 use Rattle.st_names.specs.Shared.{is_block}
 use Rattle.st_names.specs.declared.place.UnitPlace.{UnitPlace}
 

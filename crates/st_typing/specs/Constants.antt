@@ -14,9 +14,9 @@ use Rattle.st_tree.specs.Controls.{control_values, span_of}
 use Rattle.st_tree.specs.declared.controls.Span.{Span}
 use Rattle.st_tree.specs.Constants.{constant_of}
 use Rattle.st_tree.specs.Kinds.{KindsOf, resolved_expr}
-use Rattle.st_parser.specs.declared.unit.Sort.{Sort}
-use Rattle.st_parser.specs.declared.unit.Sort.TheVariants as sort
-use Rattle.st_parser.specs.Units.{PlainSection, PlainPou}
+use Rattle.st_names.specs.Sort.{Sort}
+use Rattle.st_names.specs.Sort.TheVariants as sort
+use Rattle.st_names.specs.Units.{PlainSection, PlainPou}
 use Rattle.st_names.specs.DeclaredNames.{PlainDeclared, declared_in}
 use Rattle.st_names.specs.Scopes.{is_control}
 

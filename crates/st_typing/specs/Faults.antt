@@ -3,9 +3,9 @@ use Rattle.std.specs.Prelude.{◌≡◌, ⊤, ℕ, ◌+◌, Bool, true, false, �
 use Rattle.std.specs.Global.{Global}
 use Rattle.std.specs.List.{list_any}
 use Rattle.plant_types.specs.Values.{row_length}
-use Rattle.st_parser.specs.declared.unit.Sort.{Sort}
-use Rattle.st_parser.specs.declared.unit.Sort.TheVariants as sort
-use Rattle.st_parser.specs.Units.{PlainSection, PlainPou, PlainUnit}
+use Rattle.st_names.specs.Sort.{Sort}
+use Rattle.st_names.specs.Sort.TheVariants as sort
+use Rattle.st_names.specs.Units.{PlainSection, PlainPou, PlainUnit}
 use Rattle.st_blocks.specs.Blocks.{PlainBlock, NoneHoldsItself, NoneTooDeep, TooDeep, AreOrdered}
 use Rattle.st_blocks.specs.Faults.{IsNestingFault}
 use Rattle.st_blocks.specs.declared.faults.NestingFault.TheVariants as order_fault

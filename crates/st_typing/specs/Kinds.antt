@@ -9,11 +9,11 @@ use Rattle.plant_types.specs.declared.values.Kind.TheVariants as kind
 use Rattle.st_tree.specs.Plain.{PlainExpr, PlainStmt, empty, assign, store, call, if_else, case_of, for_to}
 use Rattle.st_tree.specs.Kinds.{same_kind, is_kind}
 use Rattle.st_tree.specs.Fits.{Context, is_of, option_is_of, fits_option, takes, argument_fits, all_fit}
-use Rattle.st_parser.specs.declared.unit.SectionKind.{SectionKind}
-use Rattle.st_parser.specs.declared.unit.SectionKind.TheVariants as section
-use Rattle.st_parser.specs.declared.unit.Sort.{Sort}
-use Rattle.st_parser.specs.declared.unit.Sort.TheVariants as sort
-use Rattle.st_parser.specs.Units.{PlainSection, PlainPou, PlainUnit}
+use Rattle.st_names.specs.SectionKind.{SectionKind}
+use Rattle.st_names.specs.SectionKind.TheVariants as section
+use Rattle.st_names.specs.Sort.{Sort}
+use Rattle.st_names.specs.Sort.TheVariants as sort
+use Rattle.st_names.specs.Units.{PlainSection, PlainPou, PlainUnit}
 use Rattle.st_names.specs.Every.{tests_of}
 use Rattle.st_names.specs.DeclaredNames.{PlainDeclared, declared_in}
 use Rattle.st_names.specs.Scopes.{variable_kind, element_kind, instance_type, input_kind, output_kind, global_kind, global_array, is_assignable, is_external}

@@ -1,12 +1,11 @@
 //! The function blocks of all sources, and where each is declared.
 
 ghost use Rattle.std.specs.Prelude.{◌≡◌, ◌++◌, IfOk, map, flat_map};
-ghost use Rattle.st_parser.specs.Units.{view_section, view_pou, view_unit};
+ghost use Rattle.st_names.specs.Units.{view_section, view_pou, view_unit};
 ghost use Rattle.st_typing.specs.Blocks.{section_types, block_of, blocks_among, blocks_of, places_among, block_places};
 
 use st_blocks::Block;
-use st_names::UnitPlace;
-use st_parser::{Pou, PouKind, Section, Sort, Unit};
+use st_names::{Pou, PouKind, Section, Sort, Unit, UnitPlace};
 use std::alloc::{AllocError, Global};
 
 /// Function blocks in order of text, and where each is declared.

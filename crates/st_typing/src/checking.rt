@@ -1,7 +1,7 @@
 //! Checks sources: names, kinds, blocks, constants, then limits.
 
 ghost use Rattle.std.specs.Prelude.{◌≡◌, IfErr, MatchResult, map};
-ghost use Rattle.st_parser.specs.Units.{view_unit};
+ghost use Rattle.st_names.specs.Units.{view_unit};
 ghost use Rattle.st_typing.specs.Faults.{AreKinded, AreApart, AreConstant, IsTyped, IsNested, IsTypeFault};
 
 use crate::blocks::blocks_of;
@@ -11,8 +11,7 @@ use crate::kinds::{globals_misfit, pou_misfit};
 use crate::limits::{some_long, some_wide, too_many};
 use crate::typed::Typed;
 use st_blocks::{NestingFault, order_blocks};
-use st_names::{BodyScope, Judge, SharedNames, first_misnamed, first_unit};
-use st_parser::{Pou, Section, Unit};
+use st_names::{BodyScope, Judge, Pou, Section, SharedNames, Unit, first_misnamed, first_unit};
 use std::alloc::{AllocError, Global};
 
 /// Judges units by their kinds.

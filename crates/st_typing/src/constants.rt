@@ -2,19 +2,18 @@
 
 ghost use Rattle.std.specs.Prelude.{◌≡◌, IfOk, map, option_map, IfSome, ℕ, List};
 ghost use Rattle.std.specs.List.{list_all};
-ghost use Rattle.st_parser.specs.declared.unit.SectionKind.{SectionKind};
+ghost use Rattle.st_names.specs.SectionKind.{SectionKind};
 ghost use Rattle.st_tree.specs.View.{view_expr, view_option, view_argument, view_stmt, view_body};
 ghost use Rattle.st_tree.specs.Constants.{constant_of};
 ghost use Rattle.st_tree.specs.Kinds.{KindsOf, resolved_expr, kind_in};
 ghost use Rattle.st_tree.specs.Meaning.{then_one, then_two};
 ghost use Rattle.st_tree.specs.Operators.{eval_unary, eval_binary};
-ghost use Rattle.st_parser.specs.Units.{view_declaration, view_section, view_pou};
+ghost use Rattle.st_names.specs.Units.{view_declaration, view_section, view_pou};
 ghost use Rattle.st_names.specs.DeclaredNames.{declared_together, declared_by, declared_in};
 ghost use Rattle.st_typing.specs.Constants.{has_value, is_step, outputs_assign, stmt_assigns, never_assigns, turns_of, for_turns, meant_constant, bounds_allowed, is_initial, constant_step, in_order, sort_in_order, declared_constant, globals_inconstant, pou_inconstant, pou_long};
 
 use plant_types::{Bounds, Kind, Text, Trap, same_word};
-use st_names::{Scope, StatementRule, every};
-use st_parser::{Declaration, Pou, Section, Sort};
+use st_names::{Declaration, Pou, Scope, Section, Sort, StatementRule, every};
 use st_tree::{
     Argument, Binary, Expr, Stmt, Unary, binary_result, count_turns, eval_binary, eval_unary,
     resolved_binary, resolved_unary, span_of, unary_result,

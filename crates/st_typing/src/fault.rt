@@ -1,7 +1,6 @@
 //! Why a plant's sources are refused.
 
-use st_names::UnitPlace;
-use st_parser::Unit;
+use st_names::{Unit, UnitPlace};
 use std::alloc::AllocError;
 
 /// Why sources aren't well formed. A place is the first unit, in order of text, that has the fault.

@@ -5,15 +5,16 @@ ghost use Rattle.std.specs.List.{list_all};
 ghost use Rattle.st_tree.specs.View.{view_expr, view_option, view_argument, view_branches};
 ghost use Rattle.st_tree.specs.Kinds.{kind_of_expr, is_kind};
 ghost use Rattle.st_tree.specs.Fits.{sorts_of, is_of, option_is_of, fits_option, takes, argument_fits};
-ghost use Rattle.st_parser.specs.Units.{view_declaration, view_section, view_pou};
+ghost use Rattle.st_names.specs.Units.{view_declaration, view_section, view_pou};
 ghost use Rattle.st_names.specs.DeclaredNames.{declared_as, declared_together, declared_by, declared_in, sort_kind};
 ghost use Rattle.st_names.specs.Every.{tests_of};
 ghost use Rattle.st_names.specs.Scopes.{element_kind};
 ghost use Rattle.st_typing.specs.Kinds.{context_of, parts_fit, initial_fits, instance_fits, is_array, array_stands, declared_fits, is_global, globals_misfit, pou_misfit};
 
 use plant_types::{Bounds, Kind, Text};
-use st_names::{Scope, StatementRule, every, sort_kind};
-use st_parser::{Declaration, Pou, Section, SectionKind, Sort};
+use st_names::{
+    Declaration, Pou, Scope, Section, SectionKind, Sort, StatementRule, every, sort_kind,
+};
 use st_tree::{Argument, Branch, Expr, Stmt, binary_kind, is_bit, unary_kind};
 use std::alloc::{AllocError, Global};
 

@@ -2,9 +2,9 @@
 
 ghost use Rattle.std.specs.Prelude.{◌≡◌, ◌≢◌, ◌⊎◌, true, List};
 ghost use Rattle.std.specs.List.{list_all};
-ghost use Rattle.st_expressions.specs.Lexemes.{Lexeme};
-ghost use Rattle.st_parser.specs.Declarations.{SpellsUnit};
-ghost use Rattle.st_parser.specs.Units.{PlainUnit};
+ghost use Rattle.st_names.specs.Lexemes.{Lexeme};
+ghost use Rattle.st_names.specs.Declarations.{SpellsUnit};
+ghost use Rattle.st_names.specs.Units.{PlainUnit};
 ghost use Rattle.st_typing.specs.Kinds.{is_global};
 ghost use Rattle.st_typing.specs.Faults.{AreTyped, IsTypeFault};
 ghost use Rattle.st_typing.specs.declared.fault.TypeFault.{TypeFault};

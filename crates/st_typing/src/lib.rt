@@ -19,4 +19,5 @@ pub use checking::check;
 pub use constants::for_turns;
 pub use fault::{Mistyped, TypeFault};
 pub use laws::{one_type_fault, spelled_globals_stand, typed_or_not};
+pub use st_names::{Declared, Pou, PouKind, Section, SectionKind, Sort, Unit, declared_in};
 pub use typed::Typed;

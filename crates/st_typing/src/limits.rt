@@ -2,14 +2,14 @@
 
 ghost use Rattle.std.specs.Prelude.{◌≡◌, ◌+◌, ◌≤◌, ◌<◌, IfOk, IfSome, IsNone, map};
 ghost use Rattle.std.specs.List.{list_any};
-ghost use Rattle.st_parser.specs.declared.unit.SectionKind.{SectionKind};
-ghost use Rattle.st_parser.specs.Units.{view_declaration, view_section, view_pou, view_unit};
+ghost use Rattle.st_names.specs.SectionKind.{SectionKind};
+ghost use Rattle.st_names.specs.Units.{view_declaration, view_section, view_pou, view_unit};
 ghost use Rattle.st_names.specs.DeclaredNames.{declared_together, declared_by};
 ghost use Rattle.st_typing.specs.Constants.{pou_long};
 ghost use Rattle.st_typing.specs.Faults.{some_long, programs_among, too_many, sort_wide, is_wide, sections_wide, unit_wide, some_wide};
 
 use crate::constants::pou_long;
-use st_parser::{Declaration, Pou, PouKind, Section, Sort, Unit};
+use st_names::{Declaration, Pou, PouKind, Section, Sort, Unit};
 use std::alloc::{AllocError, Global};
 
 /// Whether a FOR of some function block or program of a source has more than 10,000 turns.

@@ -2,11 +2,11 @@
 
 ghost use Rattle.std.specs.Prelude.{◌≡◌, map};
 ghost use Rattle.st_blocks.specs.Blocks.{AreOrdered};
-ghost use Rattle.st_parser.specs.Units.{view_unit};
+ghost use Rattle.st_names.specs.Units.{view_unit};
 ghost use Rattle.st_typing.specs.Blocks.{blocks_of};
 ghost use Rattle.st_typing.specs.Faults.{AreTyped, IsTyped};
 
-use st_parser::Unit;
+use st_names::Unit;
 use std::marker::Model;
 
 /// The sources of a plant, well formed: each name in them stands for something, each expression has the kind that it must have, no
@@ -25,7 +25,7 @@ impl Drop for Typed {
 
 impl Model for Typed {
     ghost use Rattle.std.specs.Prelude.{List, map};
-    ghost use Rattle.st_parser.specs.Units.{PlainUnit, view_unit};
+    ghost use Rattle.st_names.specs.Units.{PlainUnit, view_unit};
     ghost use Rattle.st_names.specs.Code.{units_code};
     ghost use Rattle.st_typing.specs.Faults.{IsTyped};
 

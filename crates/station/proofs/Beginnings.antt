@@ -6,10 +6,10 @@ use Rattle.std.proofs.lemmas.List.Elements.{All-nil, All-head, All-tail, All-con
 use mathlib.Core.List.{IsPrefix}
 use Rattle.console_link.specs.declared.console.FinishedRings.{FinishedRings}
 use Rattle.console_link.specs.declared.lane.Lane.{Lane}
-use Rattle.engine_history.specs.declared.event.Event.{Event}
+use Rattle.console_archive.specs.Event.{Event}
 use Rattle.alarm_orders.specs.declared.order.Order.{Order}
-use Rattle.plant_config.specs.Plants.{PlainPlant}
-use Rattle.engine_system.specs.declared.event.Reply.{Reply}
+use Rattle.console_archive.specs.Plants.{PlainPlant}
+use Rattle.console_archive.specs.Reply.{Reply}
 use Rattle.console_boards.specs.declared.entry.BoardEntry.{BoardEntry}
 use Rattle.console_boards.specs.declared.writer.BoardWriter.{BoardWriter}
 use Rattle.console_boards.specs.Stories.{Begins}

@@ -11,13 +11,13 @@ use Rattle.console_link.specs.declared.console.ConsoleRings.{ConsoleRings}
 use Rattle.console_link.specs.declared.console.FinishedRings.{FinishedRings}
 use Rattle.console_link.specs.declared.lane.Lane.{Lane}
 use Rattle.console_link.specs.Seats.{SameConsole, SameLane, Ends, IsConsoleOf, IsEndOf, left_of, seen_by, orders_taken, answers_given, all_taken}
-use Rattle.engine_history.specs.declared.event.Event.{Event}
+use Rattle.console_archive.specs.Event.{Event}
 use Rattle.alarm_orders.specs.declared.order.Order.{Order}
 use Rattle.plant_file.specs.Lists.{repeats}
-use Rattle.plant_config.specs.Plants.{PlainPlant}
-use Rattle.engine_system.specs.declared.event.Reply.{Reply}
-use Rattle.console_orders.specs.Parts.{answers_of, orders_in}
-use Rattle.console_orders.specs.Turns.{TookParts}
+use Rattle.console_archive.specs.Plants.{PlainPlant}
+use Rattle.console_archive.specs.Reply.{Reply}
+use Rattle.console_archive.specs.Parts.{answers_of, orders_in}
+use Rattle.console_archive.specs.Turns.{TookParts}
 use Rattle.console_boards.specs.Stories.{is_seen_lawful, seen_events, seen_list}
 use Rattle.console_boards.specs.Replies.{after, allows}
 use Rattle.console_archive.specs.Entries.{history_story}
@@ -28,7 +28,7 @@ use Rattle.console_operator.specs.Consoles.{story_seen, story_told, EndsAs}
 use Rattle.station.specs.Lanes.{HasSeen, numbers_in, HasNoTwin, IsConsoleIn, IsLinkEndIn, IsOfLog, KeepsConsoles, finished_of, left_in, saw_within, is_within, has_seen_within}
 use Rattle.station.specs.Stations.{AgreesWith, IsClosed}
 use Rattle.station.specs.Closings.{Joined, EndedOne, IsEnded, AreEnded}
-use Rattle.console_orders.proofs.Takes.{same_lanes, same_lane}
+use Rattle.console_archive.proofs.Takes.{same_lanes, same_lane}
 
 abbrev L : Type 0
 L = Lane Order Reply

@@ -18,7 +18,9 @@ mod recording;
 mod station;
 
 pub use closing::Closing;
-pub use console_archive::{Archive, Book};
+pub use console_archive::{
+    AlarmState, Archive, Book, Engine, Order, OrderFault, Plant, Reply, Verb,
+};
 pub use console_link::Answer;
 pub use console_operator::BoardView;
 pub use laws::{consoles_saw, consoles_stay};
@@ -26,7 +28,7 @@ pub use opening::StationFault;
 pub use station::{Station, Turn};
 
 /// An operator's console, which may go to a thread of its own.
-pub type Console = console_operator::Console<engine::Order, engine::Reply>;
+pub type Console = console_operator::Console<console_archive::Order, console_archive::Reply>;
 
 /// A console that has ended.
-pub type Finished = console_operator::Finished<engine::Order, engine::Reply>;
+pub type Finished = console_operator::Finished<console_archive::Order, console_archive::Reply>;

@@ -1,7 +1,7 @@
 //! The station: its public calls.
 
 ghost use Rattle.std.specs.Prelude.{◌≡◌, ◌≢◌, ◌<◌, ◌↔◌, IsTrue, [], length, map, All, IfOk, IfErr, OnErr};
-ghost use Rattle.engine_system.specs.Faults.{faults_by};
+ghost use Rattle.console_archive.specs.Faults.{faults_by};
 ghost use Rattle.console_archive.specs.Records.{IsReloadDue, IsScanDue};
 ghost use Rattle.station.specs.Lanes.{numbers_of, numbers_in, links_of, AreConsolesIn, IsEndIn, IsFresh, HasNotLooked, KeepsConsoles};
 ghost use Rattle.station.specs.Stations.{IsReload, IsTurn, IsWhole, SameButRoom, AreBeginnings, AreClosed, TellWithin, SawBeginnings};
@@ -10,14 +10,12 @@ ghost use Rattle.console_archive.specs.Entries.{entries_of, history_story};
 use crate::closing::{Closing, end_lanes};
 use crate::opening::StationFault;
 use crate::recording::open_consoles;
-use console_archive::{Archive, Recorder};
+use console_archive::{
+    Archive, Crew, Done, Engine, EngineFault, Job, Order, Pair, Plant, Recorder, ReloadRefused,
+    Reloaded, Reply, Report, Start, take_parts,
+};
 use console_link::Lane;
 use console_operator::{Console, Finished};
-use console_orders::take_parts;
-use engine::{
-    Crew, Done, Engine, EngineFault, Job, Order, Pair, Plant, ReloadRefused, Reloaded, Reply,
-    Report, Start,
-};
 use std::alloc::Global;
 use std::marker::Model;
 use std::sync::ledger::{Blank, Ledger};

@@ -8,7 +8,7 @@ use Rattle.alarm_orders.specs.declared.order.Order.{Order}
 use Rattle.console_operator.specs.declared.console.Console.{Console}
 use Rattle.console_operator.specs.Consoles.{EndsAs}
 use Rattle.console_operator.specs.declared.console.Finished.{Finished}
-use Rattle.engine_system.specs.declared.event.Reply.{Reply}
+use Rattle.station.specs.Reply.{Reply}
 use Rattle.station.specs.Lanes.{links_of, IsConsoleIn, IsEndIn, KeepsConsoles, AreConsolesIn}
 use Rattle.station.proofs.Ends.{console_goes_on, console_has_ended}
 use Rattle.try_desks.specs.Ends.{EndsFrom}

@@ -4,7 +4,7 @@ use Rattle.console_link.specs.declared.lane.Lane.{Lane}
 use Rattle.alarm_orders.specs.declared.order.Order.{Order}
 use Rattle.console_operator.specs.declared.console.Console.{Console}
 use Rattle.console_operator.specs.declared.console.Finished.{Finished}
-use Rattle.engine_system.specs.declared.event.Reply.{Reply}
+use Rattle.station.specs.Reply.{Reply}
 use Rattle.station.specs.Lanes.{IsConsoleIn, IsEndIn}
 
 -- what ended is a console of each station of which this one is a console

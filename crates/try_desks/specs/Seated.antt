@@ -4,7 +4,7 @@ use Rattle.console_link.specs.declared.lane.Lane.{Lane}
 use Rattle.alarm_orders.specs.declared.order.Order.{Order}
 use Rattle.console_operator.specs.declared.console.Console.{Console}
 use Rattle.console_operator.specs.declared.console.Finished.{Finished}
-use Rattle.engine_system.specs.declared.event.Reply.{Reply}
+use Rattle.station.specs.Reply.{Reply}
 use Rattle.core.specs.declared.thread.PromisedHandle.{PromisedHandle}
 use Rattle.station.specs.Lanes.{AreConsolesIn, IsConsoleIn, IsEndIn}
 use Rattle.try_desks.specs.declared.stand.Stint.{Stint}

@@ -5,8 +5,7 @@ ghost use Rattle.console_link.specs.Seats.{SameConsole};
 
 use crate::post::{Lamp, Post};
 use crate::watch::Watch;
-use engine::{Order, Reply};
-use station::{BoardView, Console};
+use station::{BoardView, Console, Order, Reply};
 
 /// How many answers a console takes in a round at most.
 const MOST_ANSWERS: u32 = 64;

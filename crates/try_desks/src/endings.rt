@@ -3,7 +3,7 @@
 ghost use Rattle.std.specs.Prelude.{List, All, IfSome};
 ghost use Rattle.console_link.specs.declared.lane.Lane.{Lane};
 ghost use Rattle.alarm_orders.specs.declared.order.Order.{Order};
-ghost use Rattle.engine_system.specs.declared.event.Reply.{Reply};
+ghost use Rattle.station.specs.Reply.{Reply};
 ghost use Rattle.station.specs.Lanes.{IsEndIn};
 ghost use Rattle.try_desks.specs.Seated.{EndsAll};
 

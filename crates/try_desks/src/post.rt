@@ -3,8 +3,7 @@
 ghost use Rattle.alarm_machine.specs.declared.states.AlarmState.{AlarmState};
 
 use crate::notes::Note;
-use engine::{AlarmState, Order, OrderFault, Plant, Reply, Verb};
-use station::Answer;
+use station::{AlarmState, Answer, Order, OrderFault, Plant, Reply, Verb};
 use std::alloc::{AllocError, Global};
 use std::mem::swap;
 

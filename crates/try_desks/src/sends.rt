@@ -1,8 +1,7 @@
 //! What may go to other threads: each function here asks the prover for `Send` and `Sync` of a type, and it finds both by what the type is
 //! made of. A console is for one thread at a time: it may go to another, and isn't shared. Nothing here runs.
 
-use engine::{Engine, Plant};
-use station::{Archive, Console};
+use station::{Archive, Console, Engine, Plant};
 use std::sync::ledger::Ledger;
 
 /// Asks that a value may go to another thread.

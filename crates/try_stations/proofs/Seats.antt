@@ -7,7 +7,7 @@ use Rattle.console_link.specs.Seats.{SameConsole, Ends}
 use Rattle.alarm_orders.specs.declared.order.Order.{Order}
 use Rattle.console_operator.specs.declared.console.Console.{Console}
 use Rattle.console_operator.specs.declared.console.Finished.{Finished}
-use Rattle.engine_system.specs.declared.event.Reply.{Reply}
+use Rattle.engine.specs.Reply.{Reply}
 use Rattle.station.specs.Lanes.{links_of, IsConsoleIn, IsEndIn, KeepsConsoles, AreConsolesIn}
 use Rattle.station.proofs.Ends.{console_goes_on, console_has_ended}
 use Rattle.try_stations.specs.Seated.{AreSame}

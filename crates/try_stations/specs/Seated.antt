@@ -5,7 +5,7 @@ use Rattle.console_link.specs.Seats.{SameConsole}
 use Rattle.alarm_orders.specs.declared.order.Order.{Order}
 use Rattle.console_operator.specs.declared.console.Console.{Console}
 use Rattle.console_operator.specs.declared.console.Finished.{Finished}
-use Rattle.engine_system.specs.declared.event.Reply.{Reply}
+use Rattle.engine.specs.Reply.{Reply}
 use Rattle.station.specs.Lanes.{AreConsolesIn, IsEndIn}
 
 -- each has the same number and the same rings as before

@@ -4,7 +4,7 @@ ghost use Rattle.std.specs.Prelude.{◌≡◌, IfOk};
 ghost use Rattle.logic_source.specs.Worlds.{World};
 ghost use Rattle.logic_source.specs.Layout.{IsDistinctlyNamed};
 ghost use Rattle.logic_source.specs.Carried.{carried};
-ghost use Rattle.logic_frames.specs.Stands.{StandFor};
+ghost use Rattle.logic_carry.specs.Stands.{StandFor};
 ghost use Rattle.logic_carry.specs.Both.{ArePair};
 
 use crate::shapes::shape_of_source;

@@ -7,3 +7,6 @@ mod carrying;
 mod shapes;
 
 pub use carrying::carry;
+pub use vm_logic::{
+    Framed, Stack, Walked, place_is_in_source, programs_share_no_cell, run, sound_source_is_small,
+};

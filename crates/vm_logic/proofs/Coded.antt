@@ -16,7 +16,7 @@ use Rattle.logic_walk.specs.Walks.{run_frame, under}
 use Rattle.logic_frames.specs.Frames.{IsFrames}
 use Rattle.acc_vm.specs.Machine.{Over}
 use Rattle.acc_vm.specs.Codes.{PlainCode, SameShape, run_of}
-use Rattle.codegen.specs.Codes.{AreSteady, paths_at}
+use Rattle.vm_programs.specs.CodegenCodes.{AreSteady, paths_at}
 use Rattle.vm_programs.specs.Codes.{IsCodeOf, AreCodes, AllNamesFit}
 use Rattle.vm_logic.specs.Sound.{IsSound}
 use Rattle.vm_logic.specs.Runs.{HasCells}

@@ -11,7 +11,7 @@ use Rattle.std.proofs.lemmas.Option.{slice_get_within, slice_get-get_or, slice_g
 use Rattle.st_tree.specs.Costs.{body_cost}
 use Rattle.st_tree.specs.Plain.{PlainBody, done}
 use Rattle.st_tree.specs.View.{view_body}
-use Rattle.st_typing.specs.Constants.{for_turns}
+use Rattle.logic_source.specs.Constants.{for_turns}
 use Rattle.st_blocks.specs.Chains.{Among}
 use Rattle.logic_source.specs.declared.logic.Instance.{Instance}
 use Rattle.logic_source.specs.declared.logic.BlockRef.{BlockRef}
@@ -30,8 +30,8 @@ use Rattle.logic_walk.proofs.Firsts.{first_past}
 use Rattle.logic_frames.specs.Reached.{flagged}
 use Rattle.logic_frames.specs.Numbers.{instance_number, HasItsNames, HasAllNames}
 use Rattle.logic_frames.specs.Frames.{place_in, seated, AreSeats, IsFrame, framed, IsFrames}
-use Rattle.vm_sizes.specs.Sizes.{seat_cost, called_cost, frame_turns, routine_cost, frame_cost}
-use Rattle.codegen.proofs.Parts.{cost_is}
+use Rattle.vm_programs.specs.Sizes.{seat_cost, called_cost, frame_turns, routine_cost, frame_cost}
+use Rattle.vm_programs.proofs.Parts.{cost_is}
 use Rattle.vm_programs.specs.Codes.{CostNoMore}
 use Rattle.vm_programs.proofs.Costs.{greater_rises}
 use Rattle.vm_logic.proofs.Weighed.{turns_are, body_less}

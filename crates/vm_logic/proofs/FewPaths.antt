@@ -13,8 +13,8 @@ use Rattle.plant_types.specs.Words.{folded, same_word}
 use Rattle.st_tree.specs.Plain.{PlainStmt, empty, assign, store, call, if_else, case_of, for_to, PlainBody, done, next, Branches, no_branch, branch, Choices, no_choice, choice}
 use Rattle.st_tree.specs.Costs.{weight, weight_all, branches_weight, choices_weight}
 use Rattle.st_blocks.specs.Chains.{Among}
-use Rattle.st_names.specs.Taken.{repeats, is_among}
-use Rattle.st_names.proofs.Entries.{same_turned}
+use Rattle.logic_source.specs.Taken.{repeats, is_among}
+use Rattle.logic_source.proofs.Entries.{same_turned}
 use Rattle.logic_source.specs.declared.logic.Instance.{Instance}
 use Rattle.logic_source.specs.declared.logic.BlockRef.{BlockRef}
 use Rattle.logic_source.specs.declared.logic.BlockRef.TheVariants.{Ton, Tof, RTrig, Declared}

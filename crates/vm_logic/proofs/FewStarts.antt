@@ -7,16 +7,16 @@ use Rattle.plant_types.specs.declared.values.Kind.{Kind}
 use Rattle.st_tree.specs.Plain.{PlainExpr, PlainStmt}
 use Rattle.st_tree.specs.Kinds.{is_kind}
 use Rattle.st_tree.specs.Numbers.{count_body}
-use Rattle.st_parser.specs.declared.unit.SectionKind.{SectionKind}
-use Rattle.st_parser.specs.declared.unit.SectionKind.TheVariants as sections
-use Rattle.st_parser.specs.declared.unit.Sort.{Sort}
-use Rattle.st_parser.specs.declared.unit.Sort.TheVariants as sort
-use Rattle.st_parser.specs.Units.{PlainUnit}
-use Rattle.st_names.specs.DeclaredNames.{PlainDeclared, declared_in}
-use Rattle.st_names.specs.Scopes as scopes
-use Rattle.st_names.specs.Scopes.{is_external}
-use Rattle.st_typing.specs.Faults.{AreTyped}
-use Rattle.st_typing.specs.Kinds.{initial_fits, instance_fits, array_stands, sort_fits, declared_fits, globals_misfit, pou_misfit}
+use Rattle.logic_source.specs.SectionKind.{SectionKind}
+use Rattle.logic_source.specs.SectionKind.TheVariants as sections
+use Rattle.logic_source.specs.Sort.{Sort}
+use Rattle.logic_source.specs.Sort.TheVariants as sort
+use Rattle.logic_source.specs.StParserUnits.{PlainUnit}
+use Rattle.logic_source.specs.DeclaredNames.{PlainDeclared, declared_in}
+use Rattle.logic_source.specs.Scopes as scopes
+use Rattle.logic_source.specs.Scopes.{is_external}
+use Rattle.logic_source.specs.Faults.{AreTyped}
+use Rattle.logic_source.specs.Kinds.{initial_fits, instance_fits, array_stands, sort_fits, declared_fits, globals_misfit, pou_misfit}
 use Rattle.logic_source.specs.declared.logic.Variable.{Variable}
 use Rattle.logic_source.specs.declared.logic.Local.{Local}
 use Rattle.logic_source.specs.Source.{PlainRoutine}

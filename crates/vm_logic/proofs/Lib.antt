@@ -25,3 +25,6 @@ mod OwnCells
 pub mod Steady
 mod Copied
 mod Headed
+pub use Rattle.logic_source.proofs.Decided
+pub use Rattle.logic_source.proofs.OneFault
+pub use Rattle.logic_source.proofs.Settled

@@ -22,8 +22,8 @@ use Rattle.logic_walk.specs.declared.frame.Frame.{Frame}
 use Rattle.logic_frames.specs.Numbers.{HasAllNames}
 use Rattle.logic_frames.specs.Frames.{IsFrames, program_base}
 use Rattle.acc_vm.specs.Codes.{PlainCode}
-use Rattle.vm_slices.specs.Slots.{Names, NamesClock}
-use Rattle.codegen.specs.Within.{IsThere, fits, NamesFit, NamesOnly}
+use Rattle.vm_programs.specs.Slots.{Names, NamesClock}
+use Rattle.vm_programs.specs.Within.{IsThere, fits, NamesFit, NamesOnly}
 use Rattle.vm_programs.specs.Codes.{IsCodeOf, base_in, AllNamesFit}
 use Rattle.vm_logic.specs.Bases.{AreBases, IsOwnValue, IsOwnClock}
 use Rattle.vm_logic.specs.Runs.{NamesOwn, IsProgramCode}

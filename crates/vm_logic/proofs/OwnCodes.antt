@@ -13,7 +13,7 @@ use Rattle.logic_frames.specs.Frames.{program_base}
 use Rattle.logic_frames.specs.Stands.{StandFor}
 use Rattle.acc_vm.specs.Machine.{Over}
 use Rattle.acc_vm.specs.Codes.{PlainCode, run_of}
-use Rattle.codegen.specs.Codes.{paths_at}
+use Rattle.vm_programs.specs.CodegenCodes.{paths_at}
 use Rattle.vm_programs.specs.Codes.{IsCodeOf}
 use Rattle.vm_logic.specs.Runs.{paths_below, paths_in, EndsAsProgram}
 use Rattle.vm_logic.proofs.Placed.{agrees}

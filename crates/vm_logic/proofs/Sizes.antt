@@ -19,8 +19,8 @@ use Rattle.logic_walk.proofs.Firsts.{first_past}
 use Rattle.logic_frames.specs.Reached.{flagged}
 use Rattle.logic_frames.specs.Numbers.{HasItsNames, HasAllNames}
 use Rattle.logic_frames.specs.Frames.{place_in, IsFrame, framed, IsFrames}
-use Rattle.vm_sizes.specs.Sizes.{called_cost, routine_size, frame_size}
-use Rattle.codegen.proofs.Parts.{size_is}
+use Rattle.vm_programs.specs.Sizes.{called_cost, routine_size, frame_size}
+use Rattle.vm_programs.proofs.Parts.{size_is}
 use Rattle.vm_programs.specs.Codes.{AreSmall}
 use Rattle.vm_programs.proofs.Costs.{sum_rises}
 use Rattle.vm_logic.specs.Sound.{IsSound}

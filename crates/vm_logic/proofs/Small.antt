@@ -11,11 +11,11 @@ use Rattle.std.proofs.lemmas.List.Folds.{list_any_at}
 use Rattle.std.proofs.lemmas.List.Sums.{position_or_len_is}
 use Rattle.std.proofs.lemmas.Option.{slice_get_within, get_or_from_slice_get}
 use Rattle.plant_types.specs.Words.{folded}
-use Rattle.st_parser.specs.Units.{PlainPou, PlainUnit}
-use Rattle.st_names.specs.Shared.{is_block}
-use Rattle.st_names.specs.Taken.{is_among, repeats}
-use Rattle.st_names.proofs.Entries.{turned}
-use Rattle.st_typing.specs.Faults as faults
+use Rattle.logic_source.specs.StParserUnits.{PlainPou, PlainUnit}
+use Rattle.logic_source.specs.Shared.{is_block}
+use Rattle.logic_source.specs.Taken.{is_among, repeats}
+use Rattle.logic_source.proofs.Entries.{turned}
+use Rattle.logic_source.specs.Faults as faults
 use Rattle.logic_source.specs.declared.logic.Variable.{Variable}
 use Rattle.logic_source.specs.Source.{Source, global_cells}
 use Rattle.logic_source.specs.Pous.{pous_of, program_pous, block_names}

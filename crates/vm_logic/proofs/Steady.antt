@@ -25,12 +25,12 @@ use Rattle.st_tree.specs.Fits.{Context, sorts_of, is_of, option_is_of, stmt_fits
 use Rattle.st_tree.proofs.ConstantLaws.{constant_of_is_value_of}
 use Rattle.st_tree.proofs.KindLaws.{kind_of_expr_is_kind_in}
 use Rattle.st_tree.proofs.RangeLaws.{InRange, value_in_range}
-use Rattle.st_parser.specs.Units.{PlainPou, PlainUnit}
-use Rattle.st_names.specs.DeclaredNames.{PlainDeclared, declared_in}
-use Rattle.st_names.specs.Scopes.{is_control}
-use Rattle.st_typing.specs.Constants.{has_value, is_step, no_kinds, meant_constant, constant_step, bounds_allowed, never_assigns, stmt_allowed}
-use Rattle.st_typing.specs.Faults.{AreTyped}
-use Rattle.st_typing.specs.Kinds.{context_of}
+use Rattle.logic_source.specs.StParserUnits.{PlainPou, PlainUnit}
+use Rattle.logic_source.specs.DeclaredNames.{PlainDeclared, declared_in}
+use Rattle.logic_source.specs.Scopes.{is_control}
+use Rattle.logic_source.specs.Constants.{has_value, is_step, no_kinds, meant_constant, constant_step, bounds_allowed, never_assigns, stmt_allowed}
+use Rattle.logic_source.specs.Faults.{AreTyped}
+use Rattle.logic_source.specs.Kinds.{context_of}
 use Rattle.logic_source.specs.Source.{PlainRoutine, Source}
 use Rattle.logic_source.specs.Pous.{block_names}
 use Rattle.logic_source.specs.Units.{routine_of, source_in}
@@ -42,8 +42,8 @@ use Rattle.logic_walk.specs.declared.frame.Frame.{Frame}
 use Rattle.logic_frames.specs.Numbers.{numbers}
 use Rattle.logic_frames.specs.Frames.{IsFrame, framed, IsFrames}
 use Rattle.logic_frames.specs.Reached.{flagged}
-use Rattle.vm_sizes.specs.Sizes.{number_of, constant_number, step_number, span_from, constant_span}
-use Rattle.codegen.specs.Codes.{IsSteady, SteadyStmt, SteadyBody, SteadyBranches, SteadyChoices, AreSteady}
+use Rattle.vm_programs.specs.Sizes.{number_of, constant_number, step_number, span_from, constant_span}
+use Rattle.vm_programs.specs.CodegenCodes.{IsSteady, SteadyStmt, SteadyBody, SteadyBranches, SteadyChoices, AreSteady}
 
 abbrev pub Name : Type 0
 Name = List ℕ

@@ -12,12 +12,12 @@ use Rattle.st_tree.specs.Mapping.{mapped_expr, mapped_option, mapped_argument, m
 use Rattle.st_tree.specs.Numbers.{numbered_stmt, numbered, numbered_branches, numbered_choices, count_stmt, count_body, count_branches, count_choices}
 use Rattle.st_tree.specs.Plain.{PlainExpr, literal, read, output_of, element, unary, binary, PlainArgument, input, output}
 use Rattle.st_tree.specs.Plain.{PlainStmt, empty, assign, store, call, if_else, case_of, for_to, PlainBody, done, next, Branches, no_branch, branch, Choices, no_choice, choice}
-use Rattle.st_typing.specs.Constants.{no_kinds, meant_constant, constant_step, for_turns}
-use Rattle.st_typing.specs.Constants as typing
+use Rattle.logic_source.specs.Constants.{no_kinds, meant_constant, constant_step, for_turns}
+use Rattle.logic_source.specs.Constants as typing
 use Rattle.logic_source.specs.Source.{PlainRoutine, Source}
 use Rattle.logic_source.specs.Names.{kinds_named}
 use Rattle.logic_frames.specs.Numbers.{instance_number, numbers, numbered_in}
-use Rattle.vm_sizes.specs.Sizes.{number_of, step_number, span_from, turns_of, frame_turns}
+use Rattle.vm_programs.specs.Sizes.{number_of, step_number, span_from, turns_of, frame_turns}
 use Rattle.vm_logic.proofs.Steady.{Name, constant_alike, constant_mapped}
 
 -- what is so each way is the same

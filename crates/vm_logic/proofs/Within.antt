@@ -12,7 +12,7 @@ use Rattle.std.proofs.lemmas.Option.{slice_get_within}
 use Rattle.plant_types.specs.declared.values.Bounds.{Bounds}
 use Rattle.plant_types.specs.Values.{row_length, Path}
 use Rattle.plant_types.specs.Words.{folded}
-use Rattle.st_names.specs.Scopes.{or_other}
+use Rattle.logic_source.specs.Scopes.{or_other}
 use Rattle.st_tree.specs.Plain.{PlainBody, done}
 use Rattle.st_tree.specs.View.{view_body}
 use Rattle.st_tree.specs.Mapping.{mapped_body, body_known}
@@ -41,7 +41,7 @@ use Rattle.logic_walk.proofs.Firsts.{first_is, first_past}
 use Rattle.logic_frames.specs.Numbers.{variable_number, array_number, shown_number, numbers, numbered_in, HasItsNames, HasAllNames}
 use Rattle.logic_frames.specs.Reached.{flagged}
 use Rattle.logic_frames.specs.Frames.{place_in, seated, AreSeats, IsFrame, framed, IsFrames}
-use Rattle.codegen.specs.Within.{has_row, has_input, has_shown, has_output, has_called, has_instance, there, routine_there, frame_there}
+use Rattle.vm_programs.specs.Within.{has_row, has_input, has_shown, has_output, has_called, has_instance, there, routine_there, frame_there}
 use Rattle.vm_logic.proofs.Known.{both, meant_goes}
 use Rattle.vm_logic.proofs.Costs.{element, place_at, place_within}
 

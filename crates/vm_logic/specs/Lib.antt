@@ -4,3 +4,14 @@ pub mod Bases
 pub mod Framed
 pub mod Headings
 pub mod Kept
+pub use Rattle.logic_limits.specs.Counts
+pub use Rattle.logic_limits.specs.Limits
+pub use Rattle.logic_limits.specs.declared.fault.LimitFault
+pub use Rattle.logic_source.specs.Code
+pub use Rattle.logic_source.specs.Faults
+pub use Rattle.logic_source.specs.Names
+pub use Rattle.logic_source.specs.Paths
+pub use Rattle.logic_source.specs.Source
+pub use Rattle.logic_source.specs.TypeFault
+pub use Rattle.logic_source.specs.Units
+pub use Rattle.logic_source.specs.declared.logic.Variable

@@ -17,7 +17,7 @@ use Rattle.logic_frames.specs.Stands.{StandFor}
 use Rattle.acc_vm.specs.declared.instr.Instr.{Instr}
 use Rattle.acc_vm.specs.Machine.{Over}
 use Rattle.acc_vm.specs.Codes.{PlainCode, IsSound, fuel_of, run_of}
-use Rattle.vm_slices.specs.Slots.{Names, NamesClock}
+use Rattle.vm_programs.specs.Slots.{Names, NamesClock}
 use Rattle.vm_programs.specs.Codes.{IsMade}
 use Rattle.vm_logic.specs.Bases.{IsOwnValue, IsOwnClock}
 use Rattle.vm_logic.specs.declared.walking.Walked.{Walked}

@@ -1,7 +1,7 @@
 -- What holds of each source that runs.
 use Rattle.std.specs.Prelude.{◌≡◌, ℕ, List}
-use Rattle.st_parser.specs.Units.{PlainUnit}
-use Rattle.st_typing.specs.Faults.{AreTyped}
+use Rattle.logic_source.specs.StParserUnits.{PlainUnit}
+use Rattle.logic_source.specs.Faults.{AreTyped}
 use Rattle.logic_source.specs.Source.{Source}
 use Rattle.logic_source.specs.Units.{source_in}
 use Rattle.logic_source.specs.Blocks.{AreBelow}

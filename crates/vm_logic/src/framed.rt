@@ -38,10 +38,9 @@ use logic_frames::{
 };
 use logic_limits::{LimitFault, block_type_counts, limits};
 use logic_paths::SeatTable;
-use logic_source::{Logic, Row, Variable, logic_of, order_is_of_source};
+use logic_source::{Logic, Row, Typed, Variable, logic_of, order_is_of_source};
 use logic_walk::{Frame, start_frame};
 use plant_types::Place;
-use st_typing::Typed;
 use std::alloc::{AllocError, Global};
 use std::marker::Model;
 use vm_programs::{Stack, codes_of, copy_codes, run_code_counted};

@@ -15,7 +15,7 @@ ghost use Rattle.logic_cells.specs.Cells.{PlainCells, value_at, assigned};
 ghost use Rattle.logic_cells.specs.Runs.{spot_of};
 ghost use Rattle.logic_frames.specs.Stands.{StandFor};
 ghost use Rattle.acc_vm.specs.Codes.{PlainCode};
-ghost use Rattle.vm_slices.specs.Slots.{Names, NamesClock};
+ghost use Rattle.vm_programs.specs.Slots.{Names, NamesClock};
 ghost use Rattle.vm_logic.specs.Sound.{IsSound};
 ghost use Rattle.vm_logic.specs.Bases.{program_paths_base};
 ghost use Rattle.vm_logic.specs.Runs.{HasCells, IsProgramCode, paths_in, place_spot, placed_from};

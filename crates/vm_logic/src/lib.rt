@@ -28,6 +28,8 @@ pub use laws::{
     global_is_in_range, opening_world_is_in_range, place_is_in_source, program_stays_in_range,
     programs_share_no_cell, sound_source_is_small, standing_cells_are_there, written_cell,
 };
+pub use logic_limits::LimitFault;
+pub use logic_source::{Mistyped, TypeFault, Typed, Variable, check};
 pub use paths::path_bases;
 pub use standards::{Standards, standards_of};
 pub use values::value_bases;

@@ -1,7 +1,7 @@
 //! The names of globals, which are found without a look at each.
 
 ghost use Rattle.std.specs.Prelude.{◌≡◌, false, IfOk};
-ghost use Rattle.st_names.specs.Taken.{repeats};
+ghost use Rattle.logic_source.specs.Taken.{repeats};
 ghost use Rattle.logic_source.specs.Names.{global_words};
 ghost use Rattle.vm_logic.specs.Framed.{global_names};
 

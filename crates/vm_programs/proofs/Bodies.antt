@@ -8,7 +8,7 @@ use Rattle.st_tree.specs.Mapping.{mapped_branches, mapped_choices}
 use Rattle.st_tree.specs.Operators.{Outcome}
 use Rattle.const_fold.specs.Folding.{folding, folded_expr, folded_option, folded_stmt, folded_body}
 use Rattle.const_fold.specs.Laws.{GoesByConstants}
-use Rattle.vm_sizes.specs.Sizes.{number_of, step_number, span_from, constant_span, turns_of, frame_turns}
+use Rattle.codegen.specs.Sizes.{number_of, step_number, span_from, constant_span, turns_of, frame_turns}
 use Rattle.codegen.specs.Codes.{IsSteady, SteadyStmt, SteadyBody, SteadyBranches, SteadyChoices}
 
 -- the step of a FOR by the outcome of its expression

@@ -9,7 +9,7 @@ use Rattle.st_tree.specs.Costs.{weight, weight_all, branches_weight, choices_wei
 use Rattle.logic_walk.specs.declared.frame.SeatOf.{SeatOf}
 use Rattle.logic_walk.specs.declared.frame.SeatOf.TheVariants as seat_of
 use Rattle.logic_walk.specs.declared.frame.Seat.{Seat}
-use Rattle.vm_sizes.specs.Sizes.{seat_cost, called_cost}
+use Rattle.codegen.specs.Sizes.{seat_cost, called_cost}
 
 -- whatever joins branches, if it gives no more for no more
 module _ (join : ℕ → ℕ → ℕ) (rises : (a b c d : ℕ) → a ≤ c → b ≤ d → join a b ≤ join c d) (turns : PlainExpr ℕ → PlainExpr ℕ → Option (PlainExpr ℕ) → ℕ) (f g : ℕ → ℕ) (less : (n : ℕ) → f n ≤ g n) where

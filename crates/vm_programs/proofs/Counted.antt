@@ -5,10 +5,10 @@ use Rattle.plant_types.specs.Values.{Path}
 use Rattle.logic_walk.specs.declared.frame.Frame.{Frame}
 use Rattle.logic_walk.specs.Frames.{routine_paths, frame_paths}
 use Rattle.logic_walk.proofs.Growing.{first_more}
-use Rattle.vm_sizes.specs.declared.counts.Count.{Count}
-use Rattle.vm_sizes.specs.Sizes.{routine_lines, routine_words, frame_lines, frame_words}
-use Rattle.vm_sizes.specs.Counts.{capped, lines_at, IsCountOf, AreFirst, HasFewLines}
-use Rattle.vm_sizes.proofs.Tables.{first_pushed, few_within}
+use Rattle.codegen.specs.Count.{Count}
+use Rattle.codegen.specs.Sizes.{routine_lines, routine_words, frame_lines, frame_words}
+use Rattle.codegen.specs.Counts.{capped, lines_at, IsCountOf, AreFirst, HasFewLines}
+use Rattle.codegen.proofs.Tables.{first_pushed, few_within}
 
 at_end : {A : Type 0} (xs : List A) (y : A) → slice_get (xs ++ y ∷ []) (length xs) ≡ Some y
 at_end [] y = refl

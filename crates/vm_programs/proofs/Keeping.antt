@@ -8,7 +8,7 @@ use Rattle.st_tree.specs.Meaning.{Space, run_all}
 use Rattle.logic_cells.specs.Cells.{PlainCells}
 use Rattle.logic_walk.specs.declared.frame.Frame.{Frame}
 use Rattle.logic_walk.specs.Plain.{PlainFrame, view_frame}
-use Rattle.vm_sizes.specs.Sizes.{frame_turns}
+use Rattle.codegen.specs.Sizes.{frame_turns}
 use Rattle.const_fold.specs.Folding.{folded_body}
 use Rattle.vm_programs.specs.Folded.{folded_frame}
 use Rattle.vm_programs.proofs.Bodies.{KeepsConstants, body_steady}

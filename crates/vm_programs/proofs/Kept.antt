@@ -12,8 +12,8 @@ use Rattle.logic_walk.specs.declared.frame.Seat.{Seat}
 use Rattle.logic_walk.specs.Frames.{routine_paths, frame_paths, InTurn, AreInTurn}
 use Rattle.logic_walk.specs.Plain.{PlainFrame, view_frame}
 use Rattle.logic_walk.specs.Walks.{frame_space, run_frame}
-use Rattle.vm_sizes.specs.Sizes.{called_cost, frame_turns, routine_cost, frame_cost, routine_size, frame_size}
-use Rattle.vm_sizes.specs.Counts.{HasFewLines}
+use Rattle.codegen.specs.Sizes.{called_cost, frame_turns, routine_cost, frame_cost, routine_size, frame_size}
+use Rattle.codegen.specs.Counts.{HasFewLines}
 use Rattle.acc_vm.specs.Machine.{Over}
 use Rattle.acc_vm.specs.Codes.{PlainCode, run_of}
 use Rattle.codegen.specs.Codes.{SteadyBody, AreSteady, paths_at, RunsFrame}

@@ -8,3 +8,4 @@ pub mod Counted
 pub mod Local
 pub mod Own
 pub mod Programs
+pub use Rattle.codegen.proofs.Parts

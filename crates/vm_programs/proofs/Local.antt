@@ -15,7 +15,7 @@ use Rattle.logic_walk.specs.declared.frame.Frame.{Frame}
 use Rattle.logic_walk.specs.declared.frame.Seat.{Seat}
 use Rattle.logic_walk.specs.Frames.{paths_of, paths_below, seats_paths, routine_paths, AreNumbered, InTurn}
 use Rattle.logic_walk.specs.Walks.{called, called_by, frame_space, base_of}
-use Rattle.vm_sizes.specs.Sizes.{seat_cost, called_cost, frame_turns, routine_cost, routine_size}
+use Rattle.codegen.specs.Sizes.{seat_cost, called_cost, frame_turns, routine_cost, routine_size}
 use Rattle.codegen.specs.Within.{has_called, has_instance, there, routine_there}
 use Rattle.vm_programs.specs.Codes.{IsOfFirst, AreOfFirst}
 

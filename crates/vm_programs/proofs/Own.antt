@@ -14,7 +14,7 @@ use Rattle.logic_walk.specs.Frames.{of_first, routine_paths, frame_paths, InTurn
 use Rattle.logic_walk.specs.Walks.{frame_space, run_frame}
 use Rattle.logic_walk.proofs.Firsts.{first_is, first_past}
 use Rattle.logic_walk.proofs.Growing.{first_more, each_more}
-use Rattle.vm_sizes.specs.Sizes.{routine_cost, frame_cost, routine_size, frame_size}
+use Rattle.codegen.specs.Sizes.{routine_cost, frame_cost, routine_size, frame_size}
 use Rattle.acc_vm.specs.Machine.{Over}
 use Rattle.acc_vm.specs.Codes.{PlainCode, run_of}
 use Rattle.codegen.specs.Codes.{SteadyBody, AreSteady, paths_at}

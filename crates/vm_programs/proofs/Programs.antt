@@ -6,8 +6,8 @@ use Rattle.logic_walk.specs.declared.frame.Base.{Base}
 use Rattle.logic_walk.specs.declared.frame.Frame.{Frame}
 use Rattle.logic_walk.specs.Frames.{AreInTurn}
 use Rattle.logic_walk.specs.Plain.{view_frame}
-use Rattle.vm_sizes.specs.Sizes.{frame_cost}
-use Rattle.vm_sizes.specs.Counts.{HasFewLines}
+use Rattle.codegen.specs.Sizes.{frame_cost}
+use Rattle.codegen.specs.Counts.{HasFewLines}
 use Rattle.acc_vm.specs.Codes.{PlainCode}
 use Rattle.codegen.specs.Codes.{code_of, AreSteady}
 use Rattle.codegen.specs.Within.{fits, NamesFit}

@@ -6,7 +6,7 @@ use Rattle.logic_walk.specs.declared.frame.Seat.{Seat}
 use Rattle.logic_walk.specs.declared.frame.Base.{Base}
 use Rattle.logic_walk.specs.declared.frame.Frame.{Frame}
 use Rattle.logic_walk.specs.Frames.{frame_paths}
-use Rattle.vm_sizes.specs.Sizes.{frame_cost, frame_size}
+use Rattle.codegen.specs.Sizes.{frame_cost, frame_size}
 use Rattle.acc_vm.specs.Codes.{PlainCode}
 use Rattle.codegen.specs.Codes.{code_of, RunsFrame}
 use Rattle.codegen.specs.Within.{NamesFit, NamesAsFrame}

@@ -3,9 +3,9 @@
 ghost use Rattle.std.specs.Prelude.{◌≡◌, ◌+◌, ◌<◌, ◌≤◌, ◌++◌, ◌∷◌, [], get_or, length, IfOk};
 ghost use Rattle.logic_walk.specs.declared.frame.Frame.{Frame};
 ghost use Rattle.logic_walk.specs.Frames.{AreInTurn};
-ghost use Rattle.vm_sizes.specs.Sizes.{frame_cost};
-ghost use Rattle.vm_sizes.specs.declared.counts.Count.{Count};
-ghost use Rattle.vm_sizes.specs.Counts.{HasFewLines, AreCounts};
+ghost use Rattle.codegen.specs.Sizes.{frame_cost};
+ghost use Rattle.codegen.specs.Count.{Count};
+ghost use Rattle.codegen.specs.Counts.{HasFewLines, AreCounts};
 ghost use Rattle.codegen.specs.Codes.{program_base, code_of, AreSteady};
 ghost use Rattle.codegen.specs.Within.{NamesFit};
 ghost use Rattle.logic_walk.specs.Plain.{view_frame};
@@ -14,7 +14,7 @@ ghost use Rattle.vm_programs.specs.Codes.{IsCodeOf, AreCodes, AllNamesFit, AreSm
 
 use crate::folding::{fold_frame, fold_frames};
 use acc_vm::Code;
-use codegen::{PlacedProgram, compile_counted};
+use codegen::{FrameCounts, PlacedProgram, compile_counted, count_frame, count_frames};
 use const_fold::{
     folded_body_costs_at_most, folded_body_does_same, folded_body_weighs_at_most,
     folded_constants_are_literals, folded_names_stay,
@@ -22,7 +22,6 @@ use const_fold::{
 use logic_cells::Cells;
 use logic_walk::Frame;
 use std::alloc::{AllocError, Global};
-use vm_sizes::{FrameCounts, count_frame, count_frames};
 
 /// Folds a program's frame, and puts it and its counts behind those of a table.
 fn push_program(

@@ -1,7 +1,7 @@
 use Rattle.std.proofs.Common.{◌≡◌, length, ap, arith}
 use Rattle.std.proofs.lemmas.List.{length-map}
 use Rattle.alarm_bank.specs.Banks.{PlainBank}
-use Rattle.engine_system.specs.System.{opening_alarm, opening_system}
+use Rattle.engine.specs.System.{opening_alarm, opening_system}
 use Rattle.console_archive.proofs.board.opening_panel.Goals as goal
 
 pub of-requires : goal.of-requires

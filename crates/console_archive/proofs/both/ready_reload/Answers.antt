@@ -1,9 +1,9 @@
 use Rattle.std.proofs.Common.{◌≡◌, Ok, refl, sym, ◌∙◌, subst, inr, arith}
 use Rattle.std.proofs.lemmas.Grind.{common_steps}
 use Rattle.std.specs.Result.{IsOk}
-use Rattle.plant_config.specs.Plants.{PlainPlant}
-use Rattle.engine_history.specs.declared.event.Event.TheVariants as event
-use Rattle.engine_system.specs.System.{reload_event, system}
+use Rattle.engine.specs.Plants.{PlainPlant}
+use Rattle.engine.specs.Event.TheVariants as event
+use Rattle.engine.specs.System.{reload_event, system}
 use Rattle.engine.specs.Engines.{IsReloadRefusal, state_of}
 use Rattle.console_archive.proofs.both.ready_reload.Goals as goal
 

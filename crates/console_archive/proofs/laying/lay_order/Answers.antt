@@ -1,8 +1,8 @@
 use Rattle.std.proofs.Common.{◌≡◌, Option, Result, ap, ◌∙◌}
 use Rattle.alarm_machine.specs.declared.states.OrderFault.{OrderFault}
 use Rattle.alarm_machine.specs.Codes.{PlainChange}
-use Rattle.engine_history.specs.declared.event.Event.TheVariants as event
-use Rattle.engine_system.specs.States.{PlainPreparedOrder}
+use Rattle.engine.specs.Event.TheVariants as event
+use Rattle.engine.specs.States.{PlainPreparedOrder}
 use Rattle.engine.specs.Engines.{state_of}
 use Rattle.console_boards.specs.declared.entry.BoardEntry.TheVariants as entry
 use Rattle.console_archive.specs.Entries.{board_reply, entry_of}

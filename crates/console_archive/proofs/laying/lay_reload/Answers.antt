@@ -1,8 +1,8 @@
 use Rattle.std.proofs.Common.{◌≡◌, List, ap, ◌∙◌}
 use Rattle.alarm_bank.specs.declared.rows.NewAlarm.{NewAlarm}
-use Rattle.engine_history.specs.declared.event.Event.TheVariants as event
-use Rattle.plant_config.specs.Plants.{PlainPlant}
-use Rattle.engine_system.specs.Reloads.{news_of}
+use Rattle.engine.specs.Event.TheVariants as event
+use Rattle.engine.specs.Plants.{PlainPlant}
+use Rattle.engine.specs.Reloads.{news_of}
 use Rattle.engine.specs.Engines.{state_of}
 use Rattle.console_boards.specs.declared.entry.BoardEntry.TheVariants as entry
 use Rattle.console_archive.specs.Entries.{entry_of}

@@ -2,7 +2,7 @@ use Rattle.std.proofs.Common.{◌≡◌, ℕ, List, ap, ◌∙◌}
 use Rattle.alarm_machine.specs.Alarms.{PlainAlarm}
 use Rattle.alarm_bank.specs.declared.event.BankEvent.{BankEvent}
 use Rattle.alarm_bank.specs.Moves.{put_all}
-use Rattle.engine_system.specs.States.{PlainPrepared}
+use Rattle.engine.specs.States.{PlainPrepared}
 use Rattle.engine.specs.Engines.{state_of}
 use Rattle.console_boards.specs.declared.entry.BoardEntry.{BoardEntry}
 use Rattle.console_boards.specs.declared.entry.BoardEntry.TheVariants as entry

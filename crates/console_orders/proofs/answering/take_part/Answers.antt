@@ -1,5 +1,5 @@
 use Rattle.std.proofs.Common.{false, ◌∷◌, [], ◌++◌, ◌∙◌, subst, arith, length-append}
-use Rattle.plant_config.specs.Plants.{PlainPlant}
+use Rattle.engine_system.specs.Plants.{PlainPlant}
 use Rattle.alarm_orders.specs.declared.order.Order.{Order}
 use Rattle.console_orders.specs.Turns.{Took, HasNoneToTake}
 use Rattle.console_orders.proofs.Takes.{took_more, chosen, refused_on}

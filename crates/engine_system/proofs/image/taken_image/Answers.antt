@@ -1,5 +1,5 @@
 use Rattle.std.proofs.Common.{rules, arith}
-use Rattle.plant_config.specs.Names.{globals_of}
+use Rattle.engine_history.specs.Names.{globals_of}
 use Rattle.engine_system.proofs.Images.{refused_scan}
 use Rattle.engine_system.proofs.image.taken_image.Goals as goal
 

@@ -3,7 +3,7 @@ use Rattle.logic_cells.specs.Cells.{PlainCells}
 use Rattle.logic_source.specs.Source.{Source}
 use Rattle.logic_source.specs.Worlds.{World}
 use Rattle.logic_source.specs.Carried.{carried}
-use Rattle.logic_frames.specs.Stands.{StandFor}
+use Rattle.level_scans.specs.Stands.{StandFor}
 use Rattle.alarm_bank.specs.declared.rows.NewAlarm.{NewAlarm}
 use Rattle.alarm_bank.specs.Reloads.{bank_reloaded}
 use Rattle.alarm_delays.specs.Delays.{delays_reloaded}

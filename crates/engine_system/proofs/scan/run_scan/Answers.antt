@@ -3,7 +3,7 @@ use Rattle.std.proofs.lemmas.Grind.{common_steps}
 use Rattle.logic_cells.specs.Cells.{value_at}
 use Rattle.engine_system.specs.System.{outputs_from, outs_from}
 use Rattle.engine_system.specs.States.{PlainState}
-use Rattle.vm_logic.specs.Runs.{HasCells}
+use Rattle.level_scans.specs.VmLogicRuns.{HasCells}
 use Rattle.engine_system.specs.Steps.{with_cell, output_in}
 use Rattle.engine_system.proofs.InRange.{inputs_have_cells, scan_stands}
 use Rattle.engine_system.proofs.Shown.{cells_showable, outputs_showable}

@@ -1,6 +1,6 @@
 use Rattle.std.proofs.Common.{◌≡◌, ◌∙◌, ap, arith}
 use Rattle.std.proofs.lemmas.List.{length-map}
-use Rattle.plant_config.specs.declared.rows.AlarmRow.{AlarmRow}
+use Rattle.engine_history.specs.AlarmRow.{AlarmRow}
 use Rattle.engine_system.specs.System.{delays_of}
 use Rattle.engine_system.proofs.Watches.{if_ok, opening_kept}
 use Rattle.engine_system.proofs.state.opening_delays.Goals as goal

@@ -1,7 +1,7 @@
 use Rattle.std.proofs.Common.{subst, sym}
 use Rattle.logic_source.specs.Source.{Source}
 use Rattle.logic_source.specs.Worlds.{opening}
-use Rattle.logic_frames.specs.Stands.{StandFor}
+use Rattle.level_scans.specs.Stands.{StandFor}
 use Rattle.engine_system.specs.States.{PlainState, IsState}
 use Rattle.engine_system.specs.System.{opening_system}
 use Rattle.engine_system.proofs.InRange.{opening_stands}

@@ -1,6 +1,6 @@
 use Rattle.std.proofs.Common.{◌≡◌, ap, ◌∙◌, false}
 use Rattle.logic_cells.specs.Cells.{value_at}
-use Rattle.plant_config.specs.Names.{globals_of}
+use Rattle.engine_history.specs.Names.{globals_of}
 use Rattle.engine_system.specs.System.{outputs_from}
 use Rattle.engine_system.proofs.Systems.{opening_flags}
 use Rattle.engine_system.proofs.state.state_with.Goals as goal

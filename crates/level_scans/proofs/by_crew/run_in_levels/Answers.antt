@@ -1,7 +1,7 @@
 use Rattle.std.proofs.Common.{◌≡◌, List, sym, subst, rules}
 use Rattle.std.specs.Arc.{arc_value}
 use Rattle.vm_slices.specs.Parts.{PlainPart}
-use Rattle.slice_store.specs.Splits.{ArePartsOf}
+use Rattle.level_jobs.specs.Splits.{ArePartsOf}
 use Rattle.level_jobs.proofs.Planned.{parts_are}
 use Rattle.level_scans.proofs.ByLevels.{stored, can_split, of_programs, levels_ran}
 use Rattle.level_scans.proofs.by_crew.run_in_levels.Goals as goal

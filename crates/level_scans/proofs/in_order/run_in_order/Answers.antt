@@ -6,7 +6,7 @@ use Rattle.std.proofs.lemmas.Grind.{common_steps}
 use Rattle.plant_types.specs.declared.values.Place.{Place}
 use Rattle.plant_types.specs.declared.values.Trap.{Trap}
 use Rattle.logic_source.specs.Paths.{paths_of}
-use Rattle.vm_logic.specs.Runs.{Agree}
+use Rattle.vm_carry.specs.Runs.{Agree}
 use Rattle.level_scans.specs.Runs.{run_by, ended_by}
 use Rattle.level_scans.proofs.ProgramRuns.{reached_next, reached_trap}
 use Rattle.level_scans.proofs.in_order.run_in_order.Goals.{in-Some+in_ok-push, in_default}

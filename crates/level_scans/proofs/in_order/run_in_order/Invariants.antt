@@ -1,8 +1,8 @@
 use Rattle.std.proofs.Common.{◌≡◌, ◌<◌, length, All}
 use Rattle.logic_source.specs.Worlds.{World}
 use Rattle.logic_source.specs.Paths.{paths_of}
-use Rattle.logic_frames.specs.Stands.{StandFor}
-use Rattle.vm_logic.specs.Runs.{HasCells}
+use Rattle.vm_carry.specs.Stands.{StandFor}
+use Rattle.vm_carry.specs.Runs.{HasCells}
 use Rattle.level_scans.specs.Scans.{programs_from}
 use Rattle.level_scans.proofs.ProgramRuns.{Reached}
 use Rattle.level_scans.proofs.in_order.run_in_order.Given as goal

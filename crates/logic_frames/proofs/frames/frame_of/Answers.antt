@@ -1,5 +1,5 @@
 use Rattle.std.proofs.Common.{◌∙◌, ◌++◌, ap, length, arith}
-use Rattle.st_names.specs.Taken.{repeats}
+use Rattle.logic_source.specs.Taken.{repeats}
 use Rattle.logic_source.specs.Source.{row_cells, view_routine}
 use Rattle.logic_source.specs.Names.{own_words, row_words, instance_words}
 use Rattle.logic_source.proofs.Layouts.{later_apart}

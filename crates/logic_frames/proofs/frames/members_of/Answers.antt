@@ -1,6 +1,6 @@
 use Rattle.std.proofs.Common.{◌∙◌, ◌++◌, ap, map}
 use Rattle.std.proofs.lemmas.List.{take_all}
-use Rattle.st_names.specs.Taken.{repeats}
+use Rattle.logic_source.specs.Taken.{repeats}
 use Rattle.logic_source.specs.declared.logic.Routine.{Routine}
 use Rattle.logic_source.specs.Source.{PlainRoutine, view_routine}
 use Rattle.logic_source.specs.Names.{own_words, row_words, instance_words}

@@ -1,6 +1,6 @@
 use Rattle.std.proofs.Common.{◌∙◌, ap, subst, map, length, arith}
 use Rattle.plant_types.specs.Words.{folded}
-use Rattle.st_names.specs.Taken.{repeats}
+use Rattle.logic_source.specs.Taken.{repeats}
 use Rattle.logic_source.specs.Source.{PlainRoutine, row_cells, view_routine, source_of}
 use Rattle.logic_source.specs.Names.{row_words}
 use Rattle.logic_frames.specs.Scoped.{AreVariables, AreArrays, AreMembers, global_variables}

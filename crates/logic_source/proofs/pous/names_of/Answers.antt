@@ -1,7 +1,7 @@
 use Rattle.std.proofs.Common.{◌≡◌, ◌∙◌, ap, map, false}
 use Rattle.std.proofs.lemmas.List.{take_all}
-use Rattle.st_names.specs.Taken.{repeats}
-use Rattle.st_parser.specs.Units.{PlainPou, view_pou}
+use Rattle.st_typing.specs.Taken.{repeats}
+use Rattle.st_typing.specs.Units.{PlainPou, view_pou}
 use Rattle.logic_source.specs.Pous.{pou_word}
 use Rattle.logic_source.proofs.Growing.{names_more, fused}
 use Rattle.logic_source.proofs.pous.names_of.Goals as goal

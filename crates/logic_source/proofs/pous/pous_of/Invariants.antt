@@ -1,5 +1,5 @@
 use Rattle.std.proofs.Common.{◌≡◌, map}
-use Rattle.st_parser.specs.Units.{view_pou, view_unit}
+use Rattle.st_typing.specs.Units.{view_pou, view_unit}
 use Rattle.logic_source.specs.Pous.{pous_of, block_pous, program_pous}
 use Rattle.logic_source.proofs.pous.pous_of.Given as goal
 

@@ -1,5 +1,5 @@
 use Rattle.std.proofs.Common.{◌≡◌, ◌++◌, map}
-use Rattle.st_parser.specs.Units.{view_pou}
+use Rattle.st_typing.specs.Units.{view_pou}
 use Rattle.logic_source.specs.Pous.{block_pous, program_pous}
 use Rattle.logic_source.proofs.pous.push_pous.Given as goal
 

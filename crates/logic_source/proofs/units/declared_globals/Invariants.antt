@@ -1,5 +1,5 @@
 use Rattle.std.proofs.Common.{◌≡◌, ◌++◌, drop, map}
-use Rattle.st_parser.specs.Units.{view_unit}
+use Rattle.st_typing.specs.Units.{view_unit}
 use Rattle.logic_source.specs.Units.{declared_globals}
 use Rattle.logic_source.proofs.units.declared_globals.Given as goal
 

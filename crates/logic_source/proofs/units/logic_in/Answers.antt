@@ -1,6 +1,6 @@
 use Rattle.std.proofs.Common.{rules, ◌≡◌, ◌∙◌, ap, refl, map}
 use Rattle.std.specs.Prelude.{flat_map}
-use Rattle.st_parser.specs.Units.{PlainPou, view_pou, view_unit}
+use Rattle.st_typing.specs.Units.{PlainPou, view_pou, view_unit}
 use Rattle.logic_source.specs.Pous.{pous_of, block_pous, program_pous}
 use Rattle.logic_source.specs.Units.{global_of, global_row_of, starts_in, declared_globals}
 use Rattle.logic_source.proofs.Made.{made}

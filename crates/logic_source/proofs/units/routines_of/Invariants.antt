@@ -1,5 +1,5 @@
 use Rattle.std.proofs.Common.{◌≡◌, map}
-use Rattle.st_parser.specs.Units.{view_pou}
+use Rattle.st_typing.specs.Units.{view_pou}
 use Rattle.logic_source.specs.Source.{view_routine}
 use Rattle.logic_source.specs.Units.{routine_of}
 use Rattle.logic_source.proofs.units.routines_of.Given as goal

@@ -1,6 +1,6 @@
 use Rattle.std.proofs.Common.{◌≡◌, ◌∙◌, ap, sym, subst, List, None}
-use Rattle.logic_source.specs.Source.{Source}
-use Rattle.logic_source.specs.Units.{source_in}
+use Rattle.vm_logic.specs.Source.{Source}
+use Rattle.vm_logic.specs.Units.{source_in}
 use Rattle.vm_logic.specs.Sound.{IsSound}
 use Rattle.alarm_db.specs.Databases.{rows_of}
 use Rattle.plant_config.specs.declared.rows.AlarmRow.{AlarmRow}

@@ -1,6 +1,6 @@
 use Rattle.std.proofs.Common.{sym, subst, map}
 use Rattle.st_parser.specs.Units.{view_unit}
-use Rattle.st_typing.specs.Faults.{IsTypeFault}
+use Rattle.vm_logic.specs.Faults.{IsTypeFault}
 use Rattle.plant_config.proofs.spelling.refused.Goals as goal
 
 pub mistyped-requires : goal.mistyped-requires

@@ -1,10 +1,10 @@
 use Rattle.std.proofs.Common.{◌≡◌, ◌∙◌, ◌++◌, ap, sym, subst}
-use Rattle.plant_config.specs.Plants.{PlainPlant}
+use Rattle.engine.specs.Plants.{PlainPlant}
 use Rattle.engine.specs.Engines.{state_of}
-use Rattle.engine_system.specs.declared.scan.ReadyScan.{ReadyScan}
-use Rattle.engine_system.specs.Reports.{PlainReport}
-use Rattle.engine_system.specs.States.{PlainPrepared, IsReport}
-use Rattle.engine_system.specs.System.{System, system, faults_of}
+use Rattle.engine.specs.ReadyScan.{ReadyScan}
+use Rattle.engine.specs.Reports.{PlainReport}
+use Rattle.engine.specs.States.{PlainPrepared, IsReport}
+use Rattle.engine.specs.System.{System, system, faults_of}
 use Rattle.serve_answers.specs.Answers.{spots_of, report_text, event_text, scan_text}
 use Rattle.serve_answers.proofs.answer.answer_scan.Goals as goal
 

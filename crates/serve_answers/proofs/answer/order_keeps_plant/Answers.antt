@@ -1,7 +1,7 @@
 use Rattle.std.proofs.Common.{ap}
-use Rattle.engine_history.specs.declared.event.Event.TheVariants as event
-use Rattle.engine_system.specs.System.{System}
-use Rattle.engine_system.proofs.Systems.{system_next}
+use Rattle.engine.specs.Event.TheVariants as event
+use Rattle.engine.specs.System.{System}
+use Rattle.engine.proofs.Systems.{system_next}
 use Rattle.serve_answers.proofs.answer.order_keeps_plant.Goals as goal
 
 pub returns : goal.returns

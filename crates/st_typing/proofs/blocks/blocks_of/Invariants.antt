@@ -1,5 +1,5 @@
 use Rattle.std.proofs.Common.{◌≡◌, ◌++◌, drop, map}
-use Rattle.st_parser.specs.Units.{view_unit}
+use Rattle.st_names.specs.Units.{view_unit}
 use Rattle.st_typing.specs.Blocks.{blocks_of, block_places}
 use Rattle.st_typing.proofs.blocks.blocks_of.Given as goal
 

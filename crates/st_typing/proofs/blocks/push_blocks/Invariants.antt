@@ -1,5 +1,5 @@
 use Rattle.std.proofs.Common.{◌≡◌, ◌++◌, drop, map}
-use Rattle.st_parser.specs.Units.{view_pou}
+use Rattle.st_names.specs.Units.{view_pou}
 use Rattle.st_typing.specs.Blocks.{blocks_among, places_among}
 use Rattle.st_typing.proofs.blocks.push_blocks.Given as goal
 

@@ -1,6 +1,6 @@
 use Rattle.std.proofs.Common.{◌≡◌, ◌++◌, drop, map}
 use Rattle.std.specs.Prelude.{flat_map}
-use Rattle.st_parser.specs.Units.{view_declaration}
+use Rattle.st_names.specs.Units.{view_declaration}
 use Rattle.st_typing.specs.Blocks.{declaration_types}
 use Rattle.st_typing.proofs.blocks.push_types.Given as goal
 

@@ -3,7 +3,7 @@ use Rattle.std.proofs.lemmas.Option.{slice_get_within, slice_get_read}
 use Rattle.st_blocks.specs.Blocks.{AreOrdered}
 use Rattle.st_blocks.specs.Faults.{IsNestingFault}
 use Rattle.st_blocks.specs.declared.faults.NestingFault.TheVariants as order_fault
-use Rattle.st_parser.specs.Units.{view_unit}
+use Rattle.st_names.specs.Units.{view_unit}
 use Rattle.st_typing.specs.Blocks.{blocks_of, block_places}
 use Rattle.st_typing.proofs.Places.{as_many_places}
 use Rattle.st_typing.proofs.checking.block_order.Goals as goal

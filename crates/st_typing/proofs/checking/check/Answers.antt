@@ -1,5 +1,5 @@
 use Rattle.std.proofs.Common.{subst, map}
-use Rattle.st_parser.specs.Units.{view_unit}
+use Rattle.st_names.specs.Units.{view_unit}
 use Rattle.st_typing.specs.Faults.{IsTypeFault}
 use Rattle.st_typing.proofs.checking.check.Goals as goal
 

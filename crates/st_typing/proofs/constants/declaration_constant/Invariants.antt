@@ -1,7 +1,7 @@
 use Rattle.std.proofs.Common.{◌≡◌, drop, map}
 use Rattle.std.specs.List.{list_all}
-use Rattle.st_parser.specs.declared.unit.SectionKind.{SectionKind}
-use Rattle.st_parser.specs.Units.{view_declaration}
+use Rattle.st_names.specs.SectionKind.{SectionKind}
+use Rattle.st_names.specs.Units.{view_declaration}
 use Rattle.st_names.specs.DeclaredNames.{declared_as}
 use Rattle.st_typing.specs.Constants.{declared_constant}
 use Rattle.st_typing.proofs.constants.declaration_constant.Given as goal

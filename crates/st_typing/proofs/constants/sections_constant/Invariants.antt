@@ -1,6 +1,6 @@
 use Rattle.std.proofs.Common.{◌≡◌, drop, map}
 use Rattle.std.specs.List.{list_all}
-use Rattle.st_parser.specs.Units.{view_section}
+use Rattle.st_names.specs.Units.{view_section}
 use Rattle.st_names.specs.DeclaredNames.{declared_in}
 use Rattle.st_typing.specs.Constants.{declared_constant}
 use Rattle.st_typing.proofs.constants.sections_constant.Given as goal

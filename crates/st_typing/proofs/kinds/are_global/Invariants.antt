@@ -1,6 +1,6 @@
 use Rattle.std.proofs.Common.{◌≡◌, drop, map}
 use Rattle.std.specs.List.{list_all}
-use Rattle.st_parser.specs.Units.{view_section}
+use Rattle.st_names.specs.Units.{view_section}
 use Rattle.st_typing.specs.Kinds.{is_global}
 use Rattle.st_typing.proofs.kinds.are_global.Given as goal
 

@@ -1,7 +1,7 @@
 use Rattle.std.proofs.Common.{◌≡◌, drop, map}
 use Rattle.std.specs.Prelude.{flat_map}
 use Rattle.std.specs.List.{list_all}
-use Rattle.st_parser.specs.Units.{view_declaration}
+use Rattle.st_names.specs.Units.{view_declaration}
 use Rattle.st_names.specs.DeclaredNames.{declared_together}
 use Rattle.st_typing.specs.Kinds.{declared_fits}
 use Rattle.st_typing.proofs.kinds.section_fits.Given as goal

@@ -1,5 +1,5 @@
 use Rattle.std.proofs.Common.{◌≡◌, ◌+◌, ◌≤◌, drop, map}
-use Rattle.st_parser.specs.Units.{view_pou}
+use Rattle.st_names.specs.Units.{view_pou}
 use Rattle.st_typing.specs.Faults.{programs_among}
 use Rattle.st_typing.proofs.limits.add_programs.Given as goal
 

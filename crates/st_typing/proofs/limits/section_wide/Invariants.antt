@@ -1,7 +1,7 @@
 use Rattle.std.proofs.Common.{◌≡◌, drop, map}
 use Rattle.std.specs.Prelude.{flat_map}
 use Rattle.std.specs.List.{list_any}
-use Rattle.st_parser.specs.Units.{view_declaration}
+use Rattle.st_names.specs.Units.{view_declaration}
 use Rattle.st_names.specs.DeclaredNames.{declared_together}
 use Rattle.st_typing.specs.Faults.{is_wide}
 use Rattle.st_typing.proofs.limits.section_wide.Given as goal

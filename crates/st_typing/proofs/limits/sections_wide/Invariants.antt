@@ -1,5 +1,5 @@
 use Rattle.std.proofs.Common.{◌≡◌, drop, map}
-use Rattle.st_parser.specs.Units.{view_section}
+use Rattle.st_names.specs.Units.{view_section}
 use Rattle.st_typing.specs.Faults.{sections_wide}
 use Rattle.st_typing.proofs.limits.sections_wide.Given as goal
 

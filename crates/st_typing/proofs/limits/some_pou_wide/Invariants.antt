@@ -1,6 +1,6 @@
 use Rattle.std.proofs.Common.{◌≡◌, drop, map}
 use Rattle.std.specs.List.{list_any}
-use Rattle.st_parser.specs.Units.{view_pou}
+use Rattle.st_names.specs.Units.{view_pou}
 use Rattle.st_typing.specs.Faults.{sections_wide}
 use Rattle.st_typing.proofs.limits.some_pou_wide.Given as goal
 

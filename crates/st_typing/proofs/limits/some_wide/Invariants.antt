@@ -1,5 +1,5 @@
 use Rattle.std.proofs.Common.{◌≡◌, drop, map}
-use Rattle.st_parser.specs.Units.{view_unit}
+use Rattle.st_names.specs.Units.{view_unit}
 use Rattle.st_typing.specs.Faults.{some_wide}
 use Rattle.st_typing.proofs.limits.some_wide.Given as goal
 

@@ -1,7 +1,7 @@
 use Rattle.std.proofs.Common.{List, All}
 use Rattle.console_link.specs.declared.lane.Lane.{Lane}
 use Rattle.alarm_orders.specs.declared.order.Order.{Order}
-use Rattle.engine_system.specs.declared.event.Reply.{Reply}
+use Rattle.engine.specs.Reply.{Reply}
 use Rattle.station.specs.Lanes.{IsEndIn, AreConsolesIn}
 use Rattle.try_stations.proofs.ending.end_all.Given as goal
 

@@ -1,5 +1,5 @@
 use Rattle.std.proofs.Common.{◌∙◌, ap}
-use Rattle.st_names.specs.Taken.{repeats}
+use Rattle.logic_source.specs.Taken.{repeats}
 use Rattle.logic_source.specs.Source.{source_of}
 use Rattle.logic_source.specs.Names.{global_words}
 use Rattle.vm_logic.specs.Framed.{global_names}

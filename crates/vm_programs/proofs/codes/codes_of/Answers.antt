@@ -3,8 +3,8 @@ use Rattle.std.specs.Vec.Iter.{into_iter_items}
 use Rattle.std.proofs.lemmas.List.{length-drop, nil_from_length, take-append-le, take_all}
 use Rattle.std.proofs.lemmas.Option.{slice_get_within}
 use Rattle.logic_walk.specs.Frames.{AreInTurn}
-use Rattle.vm_sizes.specs.Sizes.{frame_turns, frame_cost}
-use Rattle.vm_sizes.specs.Counts.{HasFewLines, AreCounts, AreFirst}
+use Rattle.codegen.specs.Sizes.{frame_turns, frame_cost}
+use Rattle.codegen.specs.Counts.{HasFewLines, AreCounts, AreFirst}
 use Rattle.codegen.specs.Codes.{code_of, AreSteady}
 use Rattle.codegen.specs.Within.{NamesFit}
 use Rattle.vm_programs.specs.Folded.{AreFolded}

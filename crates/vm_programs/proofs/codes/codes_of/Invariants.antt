@@ -1,6 +1,6 @@
 use Rattle.std.proofs.Common.{◌≡◌, ◌+◌, ◌≤◌, length, take, drop}
 use Rattle.std.specs.Vec.Iter.{into_iter_items}
-use Rattle.vm_sizes.specs.Counts.{AreCounts}
+use Rattle.codegen.specs.Counts.{AreCounts}
 use Rattle.vm_programs.specs.Folded.{AreFolded}
 use Rattle.vm_programs.specs.Codes.{EachIsCode, EachIsMade}
 use Rattle.vm_programs.proofs.codes.codes_of.Given as goal

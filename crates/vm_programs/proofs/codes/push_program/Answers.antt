@@ -1,6 +1,6 @@
 use Rattle.std.proofs.Common.{◌≡◌, sym, subst, ◌++◌, ◌∷◌, [], length, rules, ◌<◌}
-use Rattle.vm_sizes.specs.Sizes.{routine_lines}
-use Rattle.vm_sizes.specs.Counts.{lines_at, IsCountOf, AreFirst}
+use Rattle.codegen.specs.Sizes.{routine_lines}
+use Rattle.codegen.specs.Counts.{lines_at, IsCountOf, AreFirst}
 use Rattle.vm_programs.proofs.Counted.{few_last, one_counted}
 use Rattle.vm_programs.proofs.codes.push_program.Goals as goal
 

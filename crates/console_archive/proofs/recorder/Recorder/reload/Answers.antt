@@ -1,7 +1,7 @@
 use Rattle.std.proofs.Common.{[], ◌∷◌, ◌++◌, subst, sym, arith}
 use Rattle.std.proofs.lemmas.Grind.{common_steps}
-use Rattle.engine_history.specs.declared.event.Event.TheVariants as event
-use Rattle.plant_config.specs.Plants.{PlainPlant}
+use Rattle.engine.specs.Event.TheVariants as event
+use Rattle.engine.specs.Plants.{PlainPlant}
 use Rattle.engine.specs.Engines.{state_of}
 use Rattle.engine.specs.Lawful.{IsTaken}
 use Rattle.console_archive.specs.Showing.{HasHistory}

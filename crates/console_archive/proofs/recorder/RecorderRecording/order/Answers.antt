@@ -1,6 +1,6 @@
 use Rattle.std.proofs.Common.{[], ◌∷◌, ◌++◌, refl, arith}
 use Rattle.std.proofs.lemmas.Grind.{common_steps}
-use Rattle.engine_history.specs.declared.event.Event.TheVariants as event
+use Rattle.engine.specs.Event.TheVariants as event
 use Rattle.console_archive.proofs.Shown.{has_same, shows_all}
 use Rattle.console_archive.proofs.recorder.RecorderRecording.order.Goals as goal
 

@@ -1,7 +1,7 @@
 use Rattle.std.proofs.Common.{◌≡◌, ◌+◌, ℕ, ap, subst, length, arith}
 use Rattle.std.proofs.lemmas.Grind.{common_steps}
 use Rattle.journal_core.specs.Rows.{PlainLog}
-use Rattle.engine_history.specs.declared.event.Event.TheVariants as event
+use Rattle.engine_system.specs.Event.TheVariants as event
 use Rattle.engine_system.specs.System.{system}
 use Rattle.engine.specs.Journal.{added_entries}
 use Rattle.engine.specs.Engines.{PlainEngine, state_of}

@@ -1,7 +1,7 @@
 use Rattle.std.proofs.Common.{◌≡◌, ◌-◌, ◌∙◌, ap, sym, arith}
 use Rattle.std.proofs.lemmas.Result.{IfOk-weaker}
 use Rattle.journal_core.specs.Bodies.{row_text}
-use Rattle.plant_config.specs.Plants.{PlainPlant}
+use Rattle.engine_system.specs.Plants.{PlainPlant}
 use Rattle.engine.specs.Journal.{name_of}
 use Rattle.engine.proofs.Lawful.{lawful_numbers}
 use Rattle.engine.proofs.Journals.{as_many_rows}

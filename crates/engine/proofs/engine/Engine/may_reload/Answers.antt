@@ -1,6 +1,6 @@
 use Rattle.std.proofs.Common.{◌≡◌, length, Result, Ok, Err, OnOk, IfErr, rules, subst}
-use Rattle.engine_history.specs.declared.event.Event.{Event}
-use Rattle.engine_history.specs.declared.event.Event.TheVariants as event
+use Rattle.engine_system.specs.Event.{Event}
+use Rattle.engine_system.specs.Event.TheVariants as event
 use Rattle.engine_system.specs.declared.event.EngineFault.{EngineFault}
 use Rattle.engine_system.proofs.Systems.{reload_event_is}
 use Rattle.engine.proofs.engine.Engine.may_reload.Goals as goal

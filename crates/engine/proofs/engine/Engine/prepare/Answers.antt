@@ -1,5 +1,5 @@
 use Rattle.std.proofs.Common.{◌≡◌, ◌+◌, ◌≤◌, length, Result, IfErr, rules, subst, sym, ◌∙◌, arith}
-use Rattle.engine_history.specs.declared.event.Event.{Event}
+use Rattle.engine_system.specs.Event.{Event}
 use Rattle.engine_system.specs.declared.event.EngineFault.{EngineFault}
 use Rattle.engine_system.specs.Image.{IsDue}
 use Rattle.engine.proofs.Ready.{ready}

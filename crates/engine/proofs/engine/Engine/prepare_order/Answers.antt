@@ -1,7 +1,7 @@
 use Rattle.std.proofs.Common.{◌≡◌, length, subst, rules, arith}
 use Rattle.std.proofs.lemmas.Grind.{common_steps}
 use Rattle.engine.proofs.Ready.{ready}
-use Rattle.plant_config.specs.Plants.{PlainPlant}
+use Rattle.engine_system.specs.Plants.{PlainPlant}
 use Rattle.engine_system.specs.System.{sites_of}
 use Rattle.engine_system.proofs.Systems.{order_event_ready, order_event_full}
 use Rattle.engine.proofs.Fitting.{order_fits}

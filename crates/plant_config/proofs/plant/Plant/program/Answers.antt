@@ -1,5 +1,5 @@
 use Rattle.std.proofs.Common.{◌<◌, ◌∙◌, ap, sym, length, map}
-use Rattle.logic_source.specs.Source.{PlainRoutine}
+use Rattle.vm_logic.specs.Source.{PlainRoutine}
 use Rattle.vm_logic.specs.declared.headings.Heading.{Heading}
 use Rattle.plant_config.proofs.Programs.{name_at}
 use Rattle.plant_config.proofs.plant.Plant.program.Goals as goal

@@ -2,7 +2,7 @@ use Rattle.std.proofs.Common.{◌≡◌, ℕ, true, List, length, All, Some, ap,
 use Rattle.std.proofs.lemmas.List.{with_items_is}
 use Rattle.console_link.specs.declared.lane.Lane.{Lane}
 use Rattle.alarm_orders.specs.declared.order.Order.{Order}
-use Rattle.engine_system.specs.declared.event.Reply.{Reply}
+use Rattle.console_archive.specs.Reply.{Reply}
 use mathlib.Core.List.{IsPrefix}
 use Rattle.logbook.specs.Pages.{Book}
 use Rattle.console_boards.specs.declared.entry.BoardEntry.{BoardEntry}

@@ -1,8 +1,8 @@
 use Rattle.std.proofs.Common.{◌≡◌, [], ◌∷◌, ◌++◌, Ok, Err, refl, sym, subst}
-use Rattle.engine.specs.declared.reload.ReloadRefused.{ReloadRefused}
+use Rattle.console_archive.specs.ReloadRefused.{ReloadRefused}
 use Rattle.console_archive.specs.Records.{IsReloadDue}
 use Rattle.console_boards.specs.Readers.{log_kept}
-use Rattle.engine_history.specs.declared.event.Event.TheVariants as event
+use Rattle.console_archive.specs.Event.TheVariants as event
 use Rattle.station.proofs.Turning.{station_kept, station_told}
 use Rattle.std.specs.Prelude.{Result, IfErr}
 use Rattle.std.specs.Result.{IsErrAnd}
