@@ -1,5 +1,5 @@
 -- What a contract sees of a console, and of the owner's ends of its rings.
-use Rattle.std.specs.Prelude.{◌≡◌, ℕ, ◌≤◌, List, [], false, Option, Some, None, if◌then◌else◌}
+use Rattle.std.specs.Prelude.{◌≡◌, ℕ, ◌≤◌, List, [], Option, Some, None}
 use mathlib.Core.List.{IsPrefix}
 use Rattle.rtrb.specs.Ring.{sent, received, known_free, known_items, IsPair, all_sent, Finishes, IsFinishedOf, SameProducer, SameConsumer}
 use Rattle.console_link.specs.declared.answer.Answer.{Answer}
@@ -38,15 +38,19 @@ module _ {O R : Type 0} where
 
   -- the console hasn't ended, as far as the owner knows
   abbrev pub IsOpen : Lane O R → Type 0
-  IsOpen l = l.ended ≡ false
+  IsOpen l = l.ended ≡ None
 
   -- the orders that were left when the console ended, in order; none before
   abbrev pub left_of : Lane O R → List O
-  left_of l = if l.ended then known_items l.orders else []
+  left_of l = elim l.ended [ None ↦ [] | Some _ ↦ known_items l.orders ]
+
+  -- the answers that were left when the console ended, in order; none before
+  abbrev pub left_answers_of : Lane O R → List (Answer O R)
+  left_answers_of l = elim l.ended [ None ↦ [] | Some f ↦ known_items f.answers ]
 
   -- how many events the console saw, once it has ended
   abbrev pub seen_by : Lane O R → Option ℕ
-  seen_by l = if l.ended then Some l.seen else None
+  seen_by l = elim l.ended [ None ↦ None | Some f ↦ Some f.seen ]
 
   -- the same number, the same two rings, and the same log
   abbrev pub SameConsole : ConsoleRings O R → ConsoleRings O R → Type 0

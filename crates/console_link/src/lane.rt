@@ -14,10 +14,8 @@ pub struct Lane<O, R> {
     pub(crate) number: u32,
     pub(crate) orders: Consumer<O>,
     pub(crate) answers: Producer<Answer<O, R>>,
-    /// Whether its console has ended, and all that it submitted is known.
-    pub(crate) ended: bool,
-    /// How many events its console saw, once it has ended.
-    pub(crate) seen: u64,
+    /// What is left of its console, once it has ended: then all that it submitted, and all that it didn't take, is known.
+    pub(crate) ended: Option<FinishedRings<O, R>>,
     /// In which log what its console sees is marked.
     pub(crate) log: LogName,
 }
@@ -47,8 +45,7 @@ pub fn open<O: Drop, R: Drop, E>(
         number,
         orders,
         answers,
-        ended: false,
-        seen: 0,
+        ended: None,
         log: mark.name(),
     };
     Ok((console, lane))
@@ -57,7 +54,7 @@ pub fn open<O: Drop, R: Drop, E>(
 impl<O: Copy + Drop, R: Copy + Drop> Lane<O, R> {
     ghost use Rattle.std.specs.Prelude.{◌≡◌, ◌<◌, ◌≤◌, [], ◌∷◌, ◌++◌, length, Some, IfSome, IfNone, ◌⊎◌, List};
     ghost use mathlib.Core.List.{IsPrefix};
-    ghost use Rattle.console_link.specs.Seats.{orders_taken, orders_known, answers_given, answer_room, SameLane, LaneLooked, IsEndOf, all_submitted, all_taken, left_of, seen_by};
+    ghost use Rattle.console_link.specs.Seats.{orders_taken, orders_known, answers_given, answer_room, SameLane, LaneLooked, IsEndOf, all_submitted, all_taken, left_of, left_answers_of, seen_by};
     ghost use Rattle.console_link.specs.declared.answer.Answer.{Answer};
 
     /// The number of its console.
@@ -101,46 +98,55 @@ impl<O: Copy + Drop, R: Copy + Drop> Lane<O, R> {
     }
 
     /// Joins the ends of both rings, once the console has ended: the orders that were taken, followed by those that are left, are all that it
-    /// submitted, each once and in order; the answers that it took are the first of those that were given.
-    pub fn end(&mut self, console: FinishedRings<O, R>)
+    /// submitted, each once and in order; and the answers that it took, followed by those that are left, are all that were given.
+    pub fn end(&mut self, mut console: FinishedRings<O, R>)
         requires { IsEndOf console self.old }
         ensures lane { SameLane self.old self.new }
         ensures same { (orders_taken self.new ≡ orders_taken self.old)
             × (answers_given self.new ≡ answers_given self.old) }
         ensures orders { orders_taken self.new ++ left_of self.new ≡ all_submitted console }
-        ensures answers { IsPrefix (all_taken console) (answers_given self.new) }
+        ensures answers { all_taken console ++ left_answers_of self.new ≡ answers_given self.new }
         ensures seen { seen_by self.new ≡ Some console.seen }
     {
-        let FinishedRings {
-            number: _,
-            orders: mut ended,
-            answers: mut takes,
-            seen,
-            log: _,
-        } = console;
-        self.orders.slots_after(&mut ended);
-        takes.slots_beside(&mut self.answers);
-        self.ended = true;
-        self.seen = seen;
+        self.orders.slots_after(&mut console.orders);
+        console.answers.slots_beside(&mut self.answers);
+        self.ended = Some(console);
     }
 
     /// How many events its console saw that has ended; `None` where it hasn't.
     pub fn seen(&self) -> Option<u64>
         ensures { result ≡ seen_by self.now }
     {
-        if self.ended { Some(self.seen) } else { None }
+        Some(self.ended.as_ref()?.seen)
     }
 
     /// Takes the next order that was left when the console ended; `None` where none is, or where it hasn't ended.
     pub fn next_left(&mut self) -> Option<O>
         ensures number { self.new.number ≡ self.old.number }
         ensures seen { seen_by self.new ≡ seen_by self.old }
+        ensures answers { left_answers_of self.new ≡ left_answers_of self.old }
         ensures some { IfSome result (λ o. left_of self.old ≡ o ∷ left_of self.new) }
         ensures none { IfNone result ((left_of self.old ≡ []) × (left_of self.new ≡ [])) }
     {
-        if !self.ended || self.orders.cached_slots() == 0 {
+        if self.ended.is_none() || self.orders.cached_slots() == 0 {
             return None;
         }
         Some(self.orders.pop_known())
+    }
+
+    /// Takes the next answer that was left when the console ended; `None` where none is, or where it hasn't ended.
+    pub fn next_left_answer(&mut self) -> Option<Answer<O, R>>
+        ensures number { self.new.number ≡ self.old.number }
+        ensures seen { seen_by self.new ≡ seen_by self.old }
+        ensures orders { left_of self.new ≡ left_of self.old }
+        ensures some { IfSome result (λ a. left_answers_of self.old ≡ a ∷ left_answers_of self.new) }
+        ensures none { IfNone result ((left_answers_of self.old ≡ [])
+            × (left_answers_of self.new ≡ [])) }
+    {
+        let console = self.ended.as_mut()?;
+        if console.answers.cached_slots() == 0 {
+            return None;
+        }
+        Some(console.answers.pop_known())
     }
 }

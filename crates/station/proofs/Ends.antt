@@ -1,6 +1,5 @@
 -- Consoles that end.
 use Rattle.std.proofs.Common.{◌≡◌, ℕ, ◌==◌, nat_eq, Bool, true, false, ◌||◌, List, [], ◌∷◌, ◌++◌, All, MatchBool, Option, Some, None, ap, refl, sym, ◌∙◌, subst, eq-eqb, ne_eqb, eqb-true, true≢false, inl, inr, if◌then◌else◌, nat_le}
-use mathlib.Core.List.{IsPrefix}
 use Rattle.std.specs.List.{list_any}
 use Rattle.std.proofs.lemmas.List.Elements.{All-nil, All-cons, All-head, All-tail}
 use Rattle.std.proofs.lemmas.Bool.{cases_Bool, eqb-false}
@@ -10,7 +9,7 @@ use Rattle.console_link.specs.declared.answer.Answer.{Answer}
 use Rattle.console_link.specs.declared.console.ConsoleRings.{ConsoleRings}
 use Rattle.console_link.specs.declared.console.FinishedRings.{FinishedRings}
 use Rattle.console_link.specs.declared.lane.Lane.{Lane}
-use Rattle.console_link.specs.Seats.{SameConsole, SameLane, Ends, IsConsoleOf, IsEndOf, left_of, seen_by, orders_taken, answers_given, all_taken}
+use Rattle.console_link.specs.Seats.{SameConsole, SameLane, Ends, IsConsoleOf, IsEndOf, left_of, left_answers_of, seen_by, orders_taken, answers_given, all_taken}
 use Rattle.console_archive.specs.Event.{Event}
 use Rattle.alarm_orders.specs.declared.order.Order.{Order}
 use Rattle.plant_file.specs.Lists.{repeats}
@@ -25,7 +24,7 @@ use Rattle.console_operator.specs.declared.console.Console.{Console}
 use Rattle.console_operator.specs.declared.console.Finished.{Finished as Ended}
 use Rattle.console_operator.specs.Sights.{BoardStory}
 use Rattle.console_operator.specs.Consoles.{story_seen, story_told, EndsAs}
-use Rattle.station.specs.Lanes.{HasSeen, numbers_in, HasNoTwin, IsConsoleIn, IsLinkEndIn, IsOfLog, KeepsConsoles, finished_of, left_in, saw_within, is_within, has_seen_within}
+use Rattle.station.specs.Lanes.{HasSeen, numbers_in, HasNoTwin, IsConsoleIn, IsLinkEndIn, IsOfLog, KeepsConsoles, finished_of, left_in, left_answers_in, saw_within, is_within, has_seen_within}
 use Rattle.station.specs.Stations.{AgreesWith, IsClosed}
 use Rattle.station.specs.Closings.{Joined, EndedOne, IsEnded, AreEnded}
 use Rattle.console_archive.proofs.Takes.{same_lanes, same_lane}
@@ -251,8 +250,9 @@ found_in P n (g ∷ fs) f h e = elim (cases_Bool (g.number == n)) [
 ]
 
 -- nothing is left where no end was handed in
-none_left : (plant : PlainPlant) (history : List Event) (fs : List F) (ds bs : List L) (n : ℕ) → finished_of n fs ≡ None → All (AgreesWith plant history) ds → AreEnded fs ds bs → left_in n bs ≡ []
-none_left plant history fs [] [] n e agree h = refl
+none_left : (plant : PlainPlant) (history : List Event) (fs : List F) (ds bs : List L) (n : ℕ) → finished_of n fs ≡ None → All (AgreesWith plant history) ds → AreEnded fs ds bs
+    → (left_in n bs ≡ []) × (left_answers_in n bs ≡ [])
+none_left plant history fs [] [] n e agree h = (refl, refl)
 none_left plant history fs [] (b ∷ bs) n e agree h = absurd h
 none_left plant history fs (a ∷ ds) [] n e agree h = absurd h
 none_left plant history fs (a ∷ ds) (b ∷ bs) n e agree h =
@@ -261,16 +261,22 @@ none_left plant history fs (a ∷ ds) (b ∷ bs) n e agree h =
       | inl yes' ↦
           let m : a.number ≡ n = sym same ∙ eqb-true b.number n yes' in
           let kept : b ≡ a = subst (λ (o : Option F). IsEnded o a b) (ap (λ (k : ℕ). finished_of k fs) m ∙ e) h.0 in
-          ap (λ (t : Bool). if t then left_of b else left_in n bs) yes'
-          ∙ (ap (λ (l : L). left_of l) kept ∙ ap (λ (t : Bool). if t then known_items a.orders else []) (All-head (AgreesWith plant history) a ds agree).is_open)
+          let is_open : a.ended ≡ None = (All-head (AgreesWith plant history) a ds agree).is_open in (
+            ap (λ (t : Bool). if t then left_of b else left_in n bs) yes'
+            ∙ (ap (λ (l : L). left_of l) kept ∙ ap (λ (o : Option F). elim o [ None ↦ [] | Some _ ↦ known_items a.orders ]) is_open),
+            ap (λ (t : Bool). if t then left_answers_of b else left_answers_in n bs) yes'
+            ∙ (ap (λ (l : L). left_answers_of l) kept ∙ ap (λ (o : Option F). elim o [ None ↦ [] | Some f ↦ known_items f.answers ]) is_open),
+          )
       | inr no' ↦
-          ap (λ (t : Bool). if t then left_of b else left_in n bs) no'
-          ∙ none_left plant history fs ds bs n e (All-tail (AgreesWith plant history) a ds agree) h.1
+          let on = none_left plant history fs ds bs n e (All-tail (AgreesWith plant history) a ds agree) h.1 in (
+            ap (λ (t : Bool). if t then left_of b else left_in n bs) no' ∙ on.0,
+            ap (λ (t : Bool). if t then left_answers_of b else left_answers_in n bs) no' ∙ on.1,
+          )
     ]
 
 -- where it was, all that the console submitted is in the history or left
 some_closed : (plant : PlainPlant) (history : List Event) (fs : List F) (ds bs : List L) (n : ℕ) (f : F) → finished_of n fs ≡ Some f → f.number ≡ n → IsLinkEndIn ds f
-    → All (AgreesWith plant history) ds → AreEnded fs ds bs → IsClosed (answers_of n plant history) (left_in n bs) (Some f)
+    → All (AgreesWith plant history) ds → AreEnded fs ds bs → IsClosed (answers_of n plant history) (left_in n bs) (left_answers_in n bs) (Some f)
 some_closed plant history fs [] [] n f e is ends agree h = absurd ends
 some_closed plant history fs [] (b ∷ bs) n f e is ends agree h = absurd h
 some_closed plant history fs (a ∷ ds) [] n f e is ends agree h = absurd h
@@ -284,22 +290,26 @@ some_closed plant history fs (a ∷ ds) (b ∷ bs) n f e is ends agree h =
           let j : Joined f a b = subst (λ (o : Option F). IsEnded o a b) (ap (λ (k : ℕ). finished_of k fs) m ∙ e) h.0 in
           let asked : orders_taken b ≡ orders_in (answers_of n plant history) = j.taken ∙ (agrees.taken ∙ ap (λ (xs : List (Answer Order Reply)). orders_in xs) part) in
           let given : answers_given b ≡ answers_of n plant history = j.given ∙ (agrees.given ∙ part) in
-          let left : left_in n (b ∷ bs) ≡ left_of b = ap (λ (t : Bool). if t then left_of b else left_in n bs) yes' in (
+          let left : left_in n (b ∷ bs) ≡ left_of b = ap (λ (t : Bool). if t then left_of b else left_in n bs) yes' in
+          let left_answers : left_answers_in n (b ∷ bs) ≡ left_answers_of b = ap (λ (t : Bool). if t then left_answers_of b else left_answers_in n bs) yes' in (
             (λ i. sym asked i ++ left i) ∙ j.orders,
-            subst (λ (xs : List (Answer Order Reply)). IsPrefix (all_taken f) xs) given j.answers,
+            ap (λ (xs : List (Answer Order Reply)). all_taken f ++ xs) left_answers ∙ (j.answers ∙ given),
           )
       | inr no' ↦
           let away : (a.number == f.number) ≡ false = ne_eqb a.number f.number (λ (k : a.number ≡ f.number). eqb-false b.number n no' (same ∙ (k ∙ is))) in
           let on = some_closed plant history fs ds bs n f e is (subst (λ (t : Bool). MatchBool (t) (IsEndOf f a) (IsLinkEndIn ds f)) away ends) (All-tail (AgreesWith plant history) a ds agree) h.1 in
-          subst (λ (ls : List Order). IsClosed (answers_of n plant history) ls (Some f)) (sym (ap (λ (t : Bool). if t then left_of b else left_in n bs) no')) on
+          (
+            ap (λ (xs : List Order). orders_in (answers_of n plant history) ++ xs) (ap (λ (t : Bool). if t then left_of b else left_in n bs) no') ∙ on.0,
+            ap (λ (xs : List (Answer Order Reply)). all_taken f ++ xs) (ap (λ (t : Bool). if t then left_answers_of b else left_answers_in n bs) no') ∙ on.1,
+          )
     ]
 
 -- what is known of each console once its lane was joined
 pub closed : (plant : PlainPlant) (history : List Event) (fs : List F) (ds bs : List L) (n : ℕ) → All (AgreesWith plant history) ds → All (IsLinkEndIn ds) fs → AreEnded fs ds bs
-    → IsClosed (answers_of n plant history) (left_in n bs) (finished_of n fs)
+    → IsClosed (answers_of n plant history) (left_in n bs) (left_answers_in n bs) (finished_of n fs)
 closed plant history fs ds bs n agree ends h = by (finished_of n fs) refl
   where
-    by : (o : Option F) → finished_of n fs ≡ o → IsClosed (answers_of n plant history) (left_in n bs) o
+    by : (o : Option F) → finished_of n fs ≡ o → IsClosed (answers_of n plant history) (left_in n bs) (left_answers_in n bs) o
     by None e = none_left plant history fs ds bs n e agree h
     by (Some f) e =
         let found = found_in (IsLinkEndIn ds) n fs f ends e in
@@ -317,7 +327,7 @@ none_within plant history fs (a ∷ ds) (b ∷ bs) n events e agree h =
           let m : a.number ≡ n = sym same ∙ eqb-true b.number n yes' in
           let kept : b ≡ a = subst (λ (o : Option F). IsEnded o a b) (ap (λ (k : ℕ). finished_of k fs) m ∙ e) h.0 in
           ap (λ (t : Bool). if t then saw_within events (seen_by b) else is_within n events bs) yes'
-          ∙ (ap (λ (l : L). saw_within events (seen_by l)) kept ∙ ap (λ (t : Bool). saw_within events (if t then Some a.seen else None)) (All-head (AgreesWith plant history) a ds agree).is_open)
+          ∙ (ap (λ (l : L). saw_within events (seen_by l)) kept ∙ ap (λ (o : Option F). saw_within events (elim o [ None ↦ None | Some f ↦ Some f.seen ])) (All-head (AgreesWith plant history) a ds agree).is_open)
       | inr no' ↦
           ap (λ (t : Bool). if t then saw_within events (seen_by b) else is_within n events bs) no'
           ∙ none_within plant history fs ds bs n events e (All-tail (AgreesWith plant history) a ds agree) h.1
@@ -368,6 +378,12 @@ left_first n a ls is = ap (λ (t : Bool). if t then left_of a else left_in n ls)
 
 pub left_later : (n : ℕ) (a : L) (ls : List L) → (a.number ≡ n → ⊥) → left_in n (a ∷ ls) ≡ left_in n ls
 left_later n a ls away = ap (λ (t : Bool). if t then left_of a else left_in n ls) (ne_eqb a.number n away)
+
+pub left_answers_first : (n : ℕ) (a : L) (ls : List L) → a.number ≡ n → left_answers_in n (a ∷ ls) ≡ left_answers_of a
+left_answers_first n a ls is = ap (λ (t : Bool). if t then left_answers_of a else left_answers_in n ls) (eq-eqb a.number n is)
+
+pub left_answers_later : (n : ℕ) (a : L) (ls : List L) → (a.number ≡ n → ⊥) → left_answers_in n (a ∷ ls) ≡ left_answers_in n ls
+left_answers_later n a ls away = ap (λ (t : Bool). if t then left_answers_of a else left_answers_in n ls) (ne_eqb a.number n away)
 
 last_in : {X : Type 0} (P : X → Type 0) (fs : List X) (f : X) (es : List X) → All P ((fs ++ f ∷ []) ++ es) → P f
 last_in P [] f es h = All-head P f es h

@@ -1,20 +1,19 @@
 -- How lanes end: of each number the lane is joined with the console that has ended.
 use Rattle.std.specs.Prelude.{◌≡◌, ◌==◌, List, [], ◌∷◌, ◌++◌, Option, Some, None, MatchBool}
-use mathlib.Core.List.{IsPrefix}
 use Rattle.console_link.specs.declared.console.FinishedRings.{FinishedRings}
 use Rattle.console_link.specs.declared.lane.Lane.{Lane}
-use Rattle.console_link.specs.Seats.{orders_taken, answers_given, SameLane, left_of, seen_by, all_submitted, all_taken}
+use Rattle.console_link.specs.Seats.{orders_taken, answers_given, SameLane, left_of, left_answers_of, seen_by, all_submitted, all_taken}
 use Rattle.alarm_orders.specs.declared.order.Order.{Order}
 use Rattle.console_archive.specs.Reply.{Reply}
 use Rattle.station.specs.Lanes.{finished_of}
 
--- the lane was joined with a console that has ended: what was taken and what is left is all that it submitted, and it took the first of the answers that were given, and how many events it saw is known
+-- the lane was joined with a console that has ended: what was taken and what is left is all that it submitted, what it took and what is left all the answers that were given, and how many events it saw is known
 pub record Joined (f : FinishedRings Order Reply) (a b : Lane Order Reply) : Type 0 where
   pub lane : SameLane a b
   pub taken : orders_taken b ≡ orders_taken a
   pub given : answers_given b ≡ answers_given a
   pub orders : orders_taken b ++ left_of b ≡ all_submitted f
-  pub answers : IsPrefix (all_taken f) (answers_given b)
+  pub answers : all_taken f ++ left_answers_of b ≡ answers_given b
   pub seen : seen_by b ≡ Some f.seen
 
 -- the lane of the console's number was joined with it, and no other changed

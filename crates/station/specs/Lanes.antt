@@ -1,9 +1,10 @@
 -- The lanes of a station's consoles: each is found by its number.
 use Rattle.std.specs.Prelude.{◌≡◌, ℕ, ◌==◌, Bool, true, false, List, [], ◌∷◌, length, map, nat_eq, nat_le, Option, Some, None, All, MatchBool, if◌then◌else◌}
+use Rattle.console_link.specs.declared.answer.Answer.{Answer}
 use Rattle.console_link.specs.declared.console.ConsoleRings.{ConsoleRings}
 use Rattle.console_link.specs.declared.console.FinishedRings.{FinishedRings}
 use Rattle.console_link.specs.declared.lane.Lane.{Lane}
-use Rattle.console_link.specs.Seats.{orders_taken, answers_given, submitted, taken as answers_taken, known_room, IsConsoleOf, IsEndOf, IsOpen, left_of, seen_by}
+use Rattle.console_link.specs.Seats.{orders_taken, answers_given, submitted, taken as answers_taken, known_room, IsConsoleOf, IsEndOf, IsOpen, left_of, left_answers_of, seen_by}
 use Rattle.alarm_orders.specs.declared.order.Order.{Order}
 use Rattle.console_archive.specs.Plants.{PlainPlant, IsPlant}
 use Rattle.console_archive.specs.System.{opening_system}
@@ -141,3 +142,8 @@ ended_of number (f ∷ consoles) = if f.link.number == number then Some f else e
 abbrev pub left_in : ℕ → List (Lane Order Reply) → List Order
 left_in number [] = []
 left_in number (lane ∷ lanes) = if lane.number == number then left_of lane else left_in number lanes
+
+-- the answers that were left of the console of a number
+abbrev pub left_answers_in : ℕ → List (Lane Order Reply) → List (Answer Order Reply)
+left_answers_in number [] = []
+left_answers_in number (lane ∷ lanes) = if lane.number == number then left_answers_of lane else left_answers_in number lanes

@@ -31,7 +31,7 @@ use Rattle.console_operator.specs.declared.console.Console.{Console}
 use Rattle.console_operator.specs.declared.console.Finished.{Finished as Ended}
 use Rattle.console_operator.specs.Consoles.{story_seen, story_told, EndsAs}
 use Rattle.console_operator.specs.Sights.{BoardStory, HasOrders}
-use Rattle.station.specs.Lanes.{numbers_of, numbers_in, links_in, left_in, finished_of, ended_of, is_within, has_seen_within, HasNoTwin, HasSeen, IsOfLog}
+use Rattle.station.specs.Lanes.{numbers_of, numbers_in, links_in, left_in, left_answers_in, finished_of, ended_of, is_within, has_seen_within, HasNoTwin, HasSeen, IsOfLog}
 
 -- its engine, its share of the parts of its ledger, its crew, the owner's ends of its consoles' rings, how many events of the history its board shows, the first ones, and how often it refused an order or to show an event
 pub record PlainStation (C : Type 0) : Type 0 where
@@ -104,14 +104,15 @@ module _ {C : Type 0} where
     pub shown : new.shown ≡ old.shown
     pub refusals : new.refusals ≡ old.refusals
 
--- what is known of a console once its station is closed: the orders that the history has of it, followed by those that are left, are what it submitted, each once and in order; the answers that it took are the first of those that the history has of it. Nothing is left of one whose end wasn't handed in
-abbrev pub IsClosed : List (Answer Order Reply) → List Order → Option (FinishedRings Order Reply) → Type 0
-IsClosed answers left None = left ≡ []
-IsClosed answers left (Some f) = (orders_in answers ++ left ≡ all_submitted f) × IsPrefix (all_taken f) answers
+-- what is known of a console once its station is closed: the orders that the history has of it, followed by those that are left, are what it submitted, each once and in order; the answers that it took, followed by those that are left, are those that the history has of it. Nothing is left of one whose end wasn't handed in
+abbrev pub IsClosed : List (Answer Order Reply) → List Order → List (Answer Order Reply) → Option (FinishedRings Order Reply) → Type 0
+IsClosed answers left left_answers None = (left ≡ []) × (left_answers ≡ [])
+IsClosed answers left left_answers (Some f) = (orders_in answers ++ left ≡ all_submitted f) × (all_taken f ++ left_answers ≡ answers)
 
 -- so it is of each of a closed station's consoles
 abbrev pub AreClosed : PlainEngine → List (Ended Order Reply) → List (Lane Order Reply) → Type 0
-AreClosed engine finished lanes = (n : ℕ) → IsClosed (answers_of n engine.plant engine.history) (left_in n lanes) (finished_of n (links_in finished))
+AreClosed engine finished lanes =
+    (n : ℕ) → IsClosed (answers_of n engine.plant engine.history) (left_in n lanes) (left_answers_in n lanes) (finished_of n (links_in finished))
 
 -- the lanes tell of each console whether it saw at most so many events as the history has
 abbrev pub TellWithin : PlainEngine → List (Ended Order Reply) → List (Lane Order Reply) → Type 0

@@ -2,16 +2,16 @@
 
 ghost use Rattle.std.specs.Prelude.{◌≡◌, ◌≢◌, ℕ, [], ◌∷◌, length, All, IfSome, IfNone};
 ghost use mathlib.Core.List.{IsPrefix};
-ghost use Rattle.station.specs.Lanes.{left_in, is_within, numbers_in, links_in, HasNoTwin, IsOfLog, IsEndIn, IsLinkEndIn};
+ghost use Rattle.station.specs.Lanes.{left_in, left_answers_in, is_within, numbers_in, links_in, HasNoTwin, IsOfLog, IsEndIn, IsLinkEndIn};
 ghost use Rattle.station.specs.Closings.{EndedOne, AreEnded};
 
 use console_archive::{Engine, Order, Reply};
 use console_boards::BoardEntry;
-use console_link::{FinishedRings, Lane};
+use console_link::{Answer, FinishedRings, Lane};
 use console_log::Mark;
 use std::marker::Model;
 
-/// A station that was closed: its engine, its crew, and the orders that were left of the consoles that had ended.
+/// A station that was closed: its engine, its crew, and the orders and answers that were left of the consoles that had ended.
 pub struct Closing<C> {
     pub(crate) engine: Engine,
     pub(crate) crew: C,
@@ -77,6 +77,7 @@ fn next_left_in(lanes: &mut [Lane<Order, Reply>], console: u32) -> Option<Order>
     ensures some { IfSome result (λ o. left_in console lanes.old ≡ o ∷ left_in console lanes.new) }
     ensures none { IfNone result ((left_in console lanes.old ≡ []) × (left_in console lanes.new ≡ [])) }
     ensures others { (n : ℕ) → n ≢ console → left_in n lanes.new ≡ left_in n lanes.old }
+    ensures answers { (n : ℕ) → left_answers_in n lanes.new ≡ left_answers_in n lanes.old }
     ensures within { (n : ℕ) (events : ℕ) → is_within n events lanes.new ≡ is_within n events lanes.old }
 {
     let (lane, others) = lanes.split_first_mut()?;
@@ -84,6 +85,28 @@ fn next_left_in(lanes: &mut [Lane<Order, Reply>], console: u32) -> Option<Order>
         lane.next_left()
     } else {
         next_left_in(others, console)
+    }
+}
+
+/// Takes the next answer that was left of the console of a number.
+fn next_left_answer_in(
+    lanes: &mut [Lane<Order, Reply>],
+    console: u32,
+) -> Option<Answer<Order, Reply>>
+    ensures some { IfSome result (λ a. left_answers_in console lanes.old
+        ≡ a ∷ left_answers_in console lanes.new) }
+    ensures none { IfNone result
+        ((left_answers_in console lanes.old ≡ []) × (left_answers_in console lanes.new ≡ [])) }
+    ensures others { (n : ℕ) → n ≢ console
+        → left_answers_in n lanes.new ≡ left_answers_in n lanes.old }
+    ensures orders { (n : ℕ) → left_in n lanes.new ≡ left_in n lanes.old }
+    ensures within { (n : ℕ) (events : ℕ) → is_within n events lanes.new ≡ is_within n events lanes.old }
+{
+    let (lane, others) = lanes.split_first_mut()?;
+    if lane.number() == console {
+        lane.next_left_answer()
+    } else {
+        next_left_answer_in(others, console)
     }
 }
 
@@ -118,12 +141,32 @@ impl<C: Drop> Closing<C> {
         ensures none { IfNone result
             ((left_in console self.old.lanes ≡ []) × (left_in console self.new.lanes ≡ [])) }
         ensures others { (n : ℕ) → n ≢ console → left_in n self.new.lanes ≡ left_in n self.old.lanes }
+        ensures answers { (n : ℕ)
+            → left_answers_in n self.new.lanes ≡ left_answers_in n self.old.lanes }
         ensures engine { self.new.engine ≡ self.old.engine }
         ensures crew { self.new.crew ≡ self.old.crew }
         ensures within { (n : ℕ) (events : ℕ)
             → is_within n events self.new.lanes ≡ is_within n events self.old.lanes }
     {
         next_left_in(self.lanes.as_mut_slice(), console)
+    }
+
+    /// Takes the next answer that was left in its ring, given and not taken, of the console of a number; `None` where none is, or where that console's end
+    /// wasn't handed in. What it answers is in the history.
+    pub fn next_left_answer(&mut self, console: u32) -> Option<Answer<Order, Reply>>
+        ensures some { IfSome result (λ a. left_answers_in console self.old.lanes
+            ≡ a ∷ left_answers_in console self.new.lanes) }
+        ensures none { IfNone result ((left_answers_in console self.old.lanes ≡ [])
+            × (left_answers_in console self.new.lanes ≡ [])) }
+        ensures others { (n : ℕ) → n ≢ console
+            → left_answers_in n self.new.lanes ≡ left_answers_in n self.old.lanes }
+        ensures orders { (n : ℕ) → left_in n self.new.lanes ≡ left_in n self.old.lanes }
+        ensures engine { self.new.engine ≡ self.old.engine }
+        ensures crew { self.new.crew ≡ self.old.crew }
+        ensures within { (n : ℕ) (events : ℕ)
+            → is_within n events self.new.lanes ≡ is_within n events self.old.lanes }
+    {
+        next_left_answer_in(self.lanes.as_mut_slice(), console)
     }
 
     /// Whether the console of a number saw no more events on the board than the history has; `false` where that console's end wasn't handed in. Where

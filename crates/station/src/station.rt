@@ -190,7 +190,7 @@ impl<L: Ledger, C: Drop> Station<L, C> {
     }
 
     /// Ends the station, once its consoles have ended: the orders that the history has of a console, followed by those that are left, are all that it
-    /// submitted, each once and in order, and the answers that it took are the first of those that the history has of it. Of two
+    /// submitted, each once and in order; and the answers that it took, followed by those that are left, are those that the history has of it. Of two
     /// ended consoles of one number, which no station has, the first counts.
     ///
     /// The lists that the ended consoles saw on the board, and the entries of the history, are beginnings of one list. So where a console saw no more

@@ -7,7 +7,7 @@ ghost use Rattle.engine.specs.Reply.{Reply};
 ghost use Rattle.station.specs.Lanes.{IsEndIn};
 ghost use Rattle.try_stations.specs.Seated.{EndAll};
 
-use crate::orders::push_order;
+use crate::orders::{push_order, push_reply};
 use crate::workers::Workers;
 use station::{Closing, Console, Finished};
 use std::alloc::Global;
@@ -59,10 +59,25 @@ fn push_left(closing: &mut Closing<Workers>, page: &mut Page, console: u32) {
     }
 }
 
-/// Adds whether a console saw no more than the history has, and its orders that were left.
+/// Adds the answers that were left of a console, which are 64 at most.
+fn push_left_answers(closing: &mut Closing<Workers>, page: &mut Page, console: u32) {
+    for _ in 0..64u32 {
+        let Some(answer) = closing.next_left_answer(console) else {
+            return;
+        };
+        page.add("LEFT ANSWER");
+        page.number(i128::from(console));
+        push_order(page, closing.engine(), answer.order);
+        push_reply(page, answer.reply);
+        page.add("\n");
+    }
+}
+
+/// Adds whether a console saw no more than the history has, and its orders and answers that were left.
 fn push_ended(closing: &mut Closing<Workers>, page: &mut Page, console: u32) {
     push_within(&*closing, page, console);
     push_left(closing, page, console);
+    push_left_answers(closing, page, console);
 }
 
 /// The number of the console that the plant lists there, if there is one.

@@ -7,8 +7,8 @@
 //! the name are `file plant.toml` and its text, then `file alarms.csv`, then `file` and the name of each source as the plant file lists them, and
 //! `begin`, the plant of these files. The lines after that are done in turn, and of each the line and what it gives are printed; empty lines are passed
 //! over. The station ends before the next one begins: its consoles end, it is closed, and of each console is printed whether it saw no more than the
-//! history has, and the orders that were left; and likewise of a console that isn't there. What stands before the first station is passed over. A line is
-//! one of these:
+//! history has, the orders that were left, and the answers that it didn't take; and likewise of a console that isn't there. What stands before the first
+//! station is passed over. A line is one of these:
 //!
 //! - `scan 0 a=5` takes a turn with this scan: the alarms and outputs that changed, and the orders that were taken;
 //! - `once scan 0 a=5` likewise, and says `MEMORY` where memory is refused for the scan;

@@ -4,6 +4,3 @@ use Rattle.console_link.proofs.lane.Lane.next_left.Goals as goal
 
 pub returns-clause-some : goal.returns-clause-some
 returns-clause-some c = grind (arith, common_steps)
-
-pub returns-then-not-self-clause-none : goal.returns-then-not-self-clause-none
-returns-then-not-self-clause-none c = grind (arith, common_steps)
