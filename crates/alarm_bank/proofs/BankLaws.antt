@@ -16,8 +16,8 @@ use Rattle.alarm_machine.specs.Codes.{PlainChange, code_of}
 use Rattle.alarm_machine.specs.Alarms.{PlainAlarm, new_alarm, after_scan, after_order, AnswersOrder, end_of, EndsInRange}
 use Rattle.alarm_bank.specs.declared.event.BankEvent.TheVariants as event
 use Rattle.alarm_bank.specs.declared.rows.Site.{Site}
-use Rattle.alarm_bank.specs.declared.rows.Counted.{Counted}
-use Rattle.alarm_bank.specs.Counts.{with_code, HasCell}
+use Rattle.alarm_counts.specs.declared.counted.Counted.{Counted}
+use Rattle.alarm_counts.specs.Counts.{with_code, HasCell}
 use Rattle.alarm_bank.specs.Banks.{PlainBank, IsSite, counted, scan_each, order_one, after_event, told, reply_of, end_or_never, IsBank, IsNextEnd, NoneShelved, IsSettled}
 
 pub counted_length : (ps : List Site) (xs : List PlainAlarm) → length ps ≡ length xs → length (counted ps xs) ≡ length xs

@@ -3,6 +3,5 @@ pub mod MarkLaws
 pub mod MoveLaws
 pub mod OrderLaws
 pub mod ReloadLaws
-mod Tallies
 mod Trees
 mod Under

@@ -10,7 +10,7 @@ use Rattle.alarm_machine.specs.Alarms.{PlainAlarm, after_scan, after_order, end_
 use Rattle.alarm_bank.specs.declared.event.BankEvent.{BankEvent}
 use Rattle.alarm_bank.specs.declared.event.BankEvent.TheVariants as event
 use Rattle.alarm_bank.specs.declared.rows.Site.{Site}
-use Rattle.alarm_bank.specs.declared.rows.Counted.{Counted}
+use Rattle.alarm_counts.specs.declared.counted.Counted.{Counted}
 
 -- the areas and priorities of the alarms, the alarms, and the moment of the last scan, 0 before the first
 pub record PlainBank : Type 0 where

@@ -1,6 +1,7 @@
 pub mod Banks
-pub mod Counts
 pub mod Marks
 pub mod Moves
 pub mod Reloads
 pub mod Shelves
+pub use Rattle.alarm_counts.specs.Counts
+pub use Rattle.alarm_counts.specs.declared.counted.Counted

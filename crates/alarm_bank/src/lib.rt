@@ -15,14 +15,13 @@ mod news;
 mod rows;
 mod shelf;
 mod signals;
-mod summary;
 
+pub use alarm_counts::{Counted, Summary};
 pub use annunciator::Annunciator;
 pub use bank::Bank;
 pub use event::BankEvent;
 pub use marks::{BITS, Marks};
 pub use moves::Moves;
-pub use rows::{Counted, NewAlarm, Site};
+pub use rows::{NewAlarm, Site};
 pub use shelf::Shelf;
 pub use signals::Signals;
-pub use summary::Summary;

@@ -1,5 +1,3 @@
-use alarm_machine::Code;
-
 /// To which area an alarm belongs, and its priority.
 #[derive(Clone, Copy, Drop)]
 pub struct Site {
@@ -19,12 +17,4 @@ pub struct NewAlarm {
     pub max_shelve_ms: u32,
     /// The number of the old plant's alarm whose state it keeps; `None` for one that is new.
     pub kept: Option<u32>,
-}
-
-/// An alarm as a summary counts it: its area, its priority and the code of its state.
-#[derive(Clone, Copy, Drop)]
-pub struct Counted {
-    pub area: u32,
-    pub priority: u32,
-    pub code: Code,
 }

@@ -17,7 +17,7 @@ use Rattle.alarm_machine.specs.Alarms.{PlainAlarm, new_alarm}
 use Rattle.std_blocks.specs.Calls.{Call}
 use Rattle.alarm_delays.specs.Delays.{counts, kept_scans, scans_each}
 use Rattle.alarm_bank.specs.declared.rows.Site.{Site}
-use Rattle.alarm_bank.specs.declared.rows.Counted.{Counted}
+use Rattle.alarm_bank.specs.Counted.{Counted}
 use Rattle.alarm_bank.specs.Banks.{scan_each, counted}
 use Rattle.alarm_bank.specs.Reloads.{alarm_of}
 use Rattle.alarm_bank.specs.Moves.{changes_from}

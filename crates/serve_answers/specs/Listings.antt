@@ -7,7 +7,7 @@ use Rattle.alarm_machine.specs.declared.states.AlarmState.{AlarmState}
 use Rattle.alarm_machine.specs.declared.states.Code.{Code}
 use Rattle.alarm_machine.specs.declared.states.Code.TheVariants as code
 use Rattle.alarm_machine.specs.Codes.{code_of, same_code}
-use Rattle.alarm_bank.specs.declared.rows.Counted.{Counted}
+use Rattle.alarm_bank.specs.Counted.{Counted}
 use Rattle.alarm_bank.specs.Counts.{count_of}
 use Rattle.serve_lines.specs.Lines.{state_line, count_line, row_line, end_line}
 use Rattle.engine.specs.Plants.{PlainPlant}

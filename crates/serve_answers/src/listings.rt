@@ -2,7 +2,7 @@
 
 ghost use Rattle.std.specs.Prelude.{◌≡◌, ◌++◌, ◌<◌, ◌≤◌, length, OnOk, IfOk};
 ghost use Rattle.std.specs.List.{flat_map};
-ghost use Rattle.alarm_bank.specs.declared.rows.Counted.{Counted};
+ghost use Rattle.alarm_bank.specs.Counted.{Counted};
 ghost use Rattle.engine.specs.Engines.{state_of};
 ghost use Rattle.engine.specs.Journal.{journal_of};
 ghost use Rattle.serve_answers.specs.Listings.{state_lines_of, code_lines, priority_lines, area_lines, HasListed, HasRow};

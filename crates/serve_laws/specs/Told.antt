@@ -6,7 +6,7 @@ use Rattle.alarm_machine.specs.declared.states.Code.{Code}
 use Rattle.alarm_machine.specs.declared.states.Code.TheVariants as code
 use Rattle.alarm_machine.specs.Codes.{PlainChange, code_of, same_code}
 use Rattle.alarm_machine.specs.Alarms.{PlainAlarm}
-use Rattle.alarm_bank.specs.declared.rows.Counted.{Counted}
+use Rattle.alarm_bank.specs.Counted.{Counted}
 use Rattle.serve_lines.specs.Lines.{state_line}
 use Rattle.plant_config.specs.declared.rows.AlarmRow.{AlarmRow}
 use Rattle.plant_config.specs.Plants.{PlainPlant, IsPlant}

@@ -1,7 +1,7 @@
 use Rattle.std.proofs.Common.{◌<◌, ◌∙◌, List, length, slice_get, arith, ap, sym}
 use Rattle.std.specs.Option.{option_map}
 use Rattle.alarm_bank.specs.declared.rows.Site.{Site}
-use Rattle.alarm_bank.specs.declared.rows.Counted.{Counted}
+use Rattle.alarm_counts.specs.declared.counted.Counted.{Counted}
 use Rattle.alarm_bank.specs.Banks.{PlainBank}
 use Rattle.alarm_bank.proofs.BankLaws.{counted_length, counted_area}
 use Rattle.alarm_bank.proofs.bank.Bank.area.Goals as goal

@@ -2,9 +2,9 @@
 
 ghost use Rattle.std.specs.Prelude.{◌≡◌, ◌*◌, ◌^◌, ◌<◌, ◌≤◌, length, All, IfOk, Some, slice_get};
 ghost use Rattle.std.specs.Option.{option_map};
-ghost use Rattle.alarm_bank.specs.Counts.{cell, count_of, with_code, HasCell, AreCounts};
+ghost use Rattle.alarm_counts.specs.Counts.{cell, count_of, with_code, HasCell, AreCounts};
 
-use crate::rows::Counted;
+use crate::counted::Counted;
 use alarm_machine::Code;
 use std::alloc::{AllocError, Global};
 use std::marker::Model;
@@ -24,8 +24,8 @@ impl Drop for Summary {
 
 impl Model for Summary {
     ghost use Rattle.std.specs.Prelude.{List};
-    ghost use Rattle.alarm_bank.specs.declared.rows.Counted.{Counted};
-    ghost use Rattle.alarm_bank.specs.Counts.{AreCounts};
+    ghost use Rattle.alarm_counts.specs.declared.counted.Counted.{Counted};
+    ghost use Rattle.alarm_counts.specs.Counts.{AreCounts};
 
     ghost Value = { List Counted };
 
@@ -58,7 +58,7 @@ fn tallied(alloc: Global, areas: u32, rows: &[Counted]) -> Result<Vec<u32>, Allo
 
 impl Summary {
     /// The summary of alarms of so many areas.
-    pub(crate) fn new(alloc: Global, areas: u32, rows: Vec<Counted>) -> Result<Summary, AllocError>
+    pub fn new(alloc: Global, areas: u32, rows: Vec<Counted>) -> Result<Summary, AllocError>
         requires kept { All (HasCell (36 * areas)) rows.items }
         requires few { length rows.items < 2 ^ 32 }
         ensures { IfOk result (λ summary. summary ≡ rows.items) }
@@ -81,7 +81,8 @@ impl Summary {
         }
     }
 
-    pub(crate) fn area(&self, at: usize) -> u32
+    /// The area of the alarm of a number, from 0.
+    pub fn area(&self, at: usize) -> u32
         requires { at < length self.now }
         ensures { option_map (λ row. row.area) (slice_get self.now at) ≡ Some result }
     {
@@ -89,7 +90,7 @@ impl Summary {
     }
 
     /// Gives one alarm another code.
-    pub(crate) fn put(&mut self, at: usize, code: Code)
+    pub fn put(&mut self, at: usize, code: Code)
         requires { at < length self.old }
         ensures { self.new ≡ with_code at code self.old }
     {

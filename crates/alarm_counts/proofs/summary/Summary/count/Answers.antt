@@ -1,8 +1,8 @@
 use Rattle.std.proofs.Common.{◌≤◌, length, arith, inl, inr, ap}
-use Rattle.alarm_bank.specs.Counts.{cell}
-use Rattle.alarm_bank.proofs.Tallies.{no_priority, no_area}
-use Rattle.alarm_bank.proofs.summary.Summary.count.Goals as goal
-use Rattle.alarm_bank.proofs.summary.Summary.count.Goals.{then-priority-eq0-via-then-priority-eq0, then-priority-eq0-via-else-priority-eq0+then-priority-gt4}
+use Rattle.alarm_counts.specs.Counts.{cell}
+use Rattle.alarm_counts.proofs.Tallies.{no_priority, no_area}
+use Rattle.alarm_counts.proofs.summary.Summary.count.Goals as goal
+use Rattle.alarm_counts.proofs.summary.Summary.count.Goals.{then-priority-eq0-via-then-priority-eq0, then-priority-eq0-via-else-priority-eq0+then-priority-gt4}
 
 pub returns-then-priority-eq0 : goal.returns-then-priority-eq0
 returns-then-priority-eq0 c =

@@ -8,8 +8,8 @@ use Rattle.std.proofs.lemmas.List.Elements.{All-get_or, All-set, All-push, recur
 use Rattle.alarm_machine.specs.declared.states.Code.{Code}
 use Rattle.alarm_machine.specs.declared.states.Code.TheVariants as code
 use Rattle.alarm_machine.specs.Codes.{rank}
-use Rattle.alarm_bank.specs.declared.rows.Counted.{Counted}
-use Rattle.alarm_bank.specs.Counts.{is_of, count_of, no_row, cell, HasCell, AreCounts}
+use Rattle.alarm_counts.specs.declared.counted.Counted.{Counted}
+use Rattle.alarm_counts.specs.Counts.{is_of, count_of, no_row, cell, HasCell, AreCounts}
 
 -- 1 where a test holds
 abbrev one_if : Bool → ℕ
