@@ -1,12 +1,3 @@
 pub mod Crews
-pub mod Laid
 pub mod Numbered
-pub mod Orders
 pub mod Pages
-pub mod Reloads
-pub mod Scans
-pub mod Shown
-pub mod Steps
-pub use Rattle.console_orders.proofs.Parts
-pub use Rattle.console_orders.proofs.Takes
-pub use Rattle.engine.proofs.Systems

@@ -49,7 +49,7 @@ impl<L: Ledger> Model for Book<L> {
 }
 
 /// Makes an order of the console of a number ready in an engine. No crew refuses one.
-pub(crate) fn order_in(
+pub fn order_in(
     alloc: Global,
     engine: &mut Engine,
     console: u32,

@@ -8,23 +8,23 @@ use Rattle.plant_types.specs.declared.values.Value.{Value}
 use Rattle.plant_file.specs.Lists.{repeats}
 use Rattle.console_link.specs.declared.answer.Answer.{Answer}
 use Rattle.console_link.specs.declared.lane.Lane.{Lane}
-use Rattle.console_archive.specs.Event.{Event}
-use Rattle.console_archive.specs.Event.TheVariants as event
+use Rattle.console_recorder.specs.Event.{Event}
+use Rattle.console_recorder.specs.Event.TheVariants as event
 use Rattle.alarm_orders.specs.declared.order.Order.{Order}
 use Rattle.alarm_machine.specs.declared.limits.TheConstants.{LAST_MOMENT}
-use Rattle.console_archive.specs.Plants.{PlainPlant}
-use Rattle.console_archive.specs.Names.{globals_of}
-use Rattle.console_archive.specs.event.TheConstants.{MOST_EVENTS}
-use Rattle.console_archive.specs.Reply.{Reply}
-use Rattle.console_archive.specs.EngineFault.{EngineFault}
-use Rattle.console_archive.specs.EngineFault.TheVariants as refusal
-use Rattle.console_archive.specs.Image.{image_of}
-use Rattle.console_archive.specs.System.{System, system, taken_scan, scan_event}
-use Rattle.console_archive.specs.Parts.{order_of_event, answer_to, answers_from, answers_of, orders_in, events_by}
-use Rattle.console_archive.specs.Turns.{Took, TookParts}
+use Rattle.console_recorder.specs.Plants.{PlainPlant}
+use Rattle.console_recorder.specs.Names.{globals_of}
+use Rattle.console_recorder.specs.event.TheConstants.{MOST_EVENTS}
+use Rattle.console_recorder.specs.Reply.{Reply}
+use Rattle.console_recorder.specs.EngineFault.{EngineFault}
+use Rattle.console_recorder.specs.EngineFault.TheVariants as refusal
+use Rattle.console_recorder.specs.Image.{image_of}
+use Rattle.console_recorder.specs.System.{System, system, taken_scan, scan_event}
+use Rattle.console_recorder.specs.Parts.{order_of_event, answer_to, answers_from, answers_of, orders_in, events_by}
+use Rattle.console_recorder.specs.Turns.{Took, TookParts}
 use Rattle.station.specs.Lanes.{numbers_in, HasNoTwin}
 use Rattle.station.specs.Stations.{AgreesWith}
-use Rattle.console_archive.proofs.Parts.{part_more, orders_answered, others_unanswered}
+use Rattle.console_recorder.proofs.Parts.{part_more, orders_answered, others_unanswered}
 
 abbrev L : Type 0
 L = Lane Order Reply

@@ -4,19 +4,19 @@ use Rattle.std.proofs.lemmas.Bool.{cases_Bool, eqb-false}
 use Rattle.std.proofs.lemmas.List.{map-append, length-map}
 use mathlib.Core.List.{IsPrefix}
 use Rattle.console_link.specs.declared.answer.Answer.{Answer}
-use Rattle.console_archive.specs.Event.{Event}
-use Rattle.console_archive.specs.Event.TheVariants as event
+use Rattle.console_recorder.specs.Event.{Event}
+use Rattle.console_recorder.specs.Event.TheVariants as event
 use Rattle.alarm_orders.specs.declared.order.Order.{Order}
-use Rattle.console_archive.specs.Plants.{PlainPlant}
-use Rattle.console_archive.specs.Reply.{Reply}
-use Rattle.console_archive.specs.System.{System, opening_system, after_event}
+use Rattle.console_recorder.specs.Plants.{PlainPlant}
+use Rattle.console_recorder.specs.Reply.{Reply}
+use Rattle.console_recorder.specs.System.{System, opening_system, after_event}
 use Rattle.console_boards.specs.declared.entry.AnsweredOrder.{AnsweredOrder}
 use Rattle.console_boards.specs.Counts.{answers_of as answers_shown}
 use Rattle.console_boards.proofs.Counting.{counted, answers_begin}
 use Rattle.console_boards.proofs.Prefixes.{prefix_of_both}
-use Rattle.console_archive.specs.Entries.{entries_from, entries_of}
+use Rattle.console_recorder.specs.Entries.{entries_from, entries_of}
 use Rattle.console_operator.specs.Sights.{BoardStory, HasOrders}
-use Rattle.console_archive.specs.Parts.{answer_to, answers_from, answers_of}
+use Rattle.console_recorder.specs.Parts.{answer_to, answers_from, answers_of}
 use Rattle.station.specs.Stations.{board_answer, HasAnswers}
 
 abbrev A : Type 0

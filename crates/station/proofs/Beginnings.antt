@@ -6,18 +6,18 @@ use Rattle.std.proofs.lemmas.List.Elements.{All-nil, All-head, All-tail, All-con
 use mathlib.Core.List.{IsPrefix}
 use Rattle.console_link.specs.declared.console.FinishedRings.{FinishedRings}
 use Rattle.console_link.specs.declared.lane.Lane.{Lane}
-use Rattle.console_archive.specs.Event.{Event}
+use Rattle.console_recorder.specs.Event.{Event}
 use Rattle.alarm_orders.specs.declared.order.Order.{Order}
-use Rattle.console_archive.specs.Plants.{PlainPlant}
-use Rattle.console_archive.specs.Reply.{Reply}
+use Rattle.console_recorder.specs.Plants.{PlainPlant}
+use Rattle.console_recorder.specs.Reply.{Reply}
 use Rattle.console_boards.specs.declared.entry.BoardEntry.{BoardEntry}
 use Rattle.console_boards.specs.declared.writer.BoardWriter.{BoardWriter}
 use Rattle.console_boards.specs.Stories.{Begins}
 use Rattle.console_boards.specs.Readers.{published, laid}
 use Rattle.console_boards.proofs.Prefixes.{prefix_of_both}
-use Rattle.console_archive.specs.Entries.{entries_of, history_story}
-use Rattle.console_archive.specs.Showing.{HasHistory}
-use Rattle.console_archive.proofs.Steps.{length_of, no_entries}
+use Rattle.console_recorder.specs.Entries.{entries_of, history_story}
+use Rattle.console_recorder.specs.Showing.{HasHistory}
+use Rattle.console_recorder.proofs.Steps.{length_of, no_entries}
 use Rattle.console_operator.specs.declared.console.Finished.{Finished as Ended}
 use Rattle.console_operator.specs.Sights.{BoardStory}
 use Rattle.station.specs.Lanes.{IsEndIn, IsLinkEndIn, links_in, finished_of, ended_of, has_seen_within}

@@ -10,16 +10,16 @@ use Rattle.console_link.specs.declared.console.ConsoleRings.{ConsoleRings}
 use Rattle.console_link.specs.declared.console.FinishedRings.{FinishedRings}
 use Rattle.console_link.specs.declared.lane.Lane.{Lane}
 use Rattle.console_link.specs.Seats.{SameConsole, SameLane, Ends, IsConsoleOf, IsEndOf, left_of, left_answers_of, seen_by, orders_taken, answers_given, all_taken}
-use Rattle.console_archive.specs.Event.{Event}
+use Rattle.console_recorder.specs.Event.{Event}
 use Rattle.alarm_orders.specs.declared.order.Order.{Order}
 use Rattle.plant_file.specs.Lists.{repeats}
-use Rattle.console_archive.specs.Plants.{PlainPlant}
-use Rattle.console_archive.specs.Reply.{Reply}
-use Rattle.console_archive.specs.Parts.{answers_of, orders_in}
-use Rattle.console_archive.specs.Turns.{TookParts}
+use Rattle.console_recorder.specs.Plants.{PlainPlant}
+use Rattle.console_recorder.specs.Reply.{Reply}
+use Rattle.console_recorder.specs.Parts.{answers_of, orders_in}
+use Rattle.console_recorder.specs.Turns.{TookParts}
 use Rattle.console_boards.specs.Stories.{is_seen_lawful, seen_events, seen_list}
 use Rattle.console_boards.specs.Replies.{after, allows}
-use Rattle.console_archive.specs.Entries.{history_story}
+use Rattle.console_recorder.specs.Entries.{history_story}
 use Rattle.console_operator.specs.declared.console.Console.{Console}
 use Rattle.console_operator.specs.declared.console.Finished.{Finished as Ended}
 use Rattle.console_operator.specs.Sights.{BoardStory}
@@ -27,7 +27,7 @@ use Rattle.console_operator.specs.Consoles.{story_seen, story_told, EndsAs}
 use Rattle.station.specs.Lanes.{HasSeen, numbers_in, HasNoTwin, IsConsoleIn, IsLinkEndIn, IsOfLog, KeepsConsoles, finished_of, left_in, left_answers_in, saw_within, is_within, has_seen_within}
 use Rattle.station.specs.Stations.{AgreesWith, IsClosed}
 use Rattle.station.specs.Closings.{Joined, EndedOne, IsEnded, AreEnded}
-use Rattle.console_archive.proofs.Takes.{same_lanes, same_lane}
+use Rattle.console_recorder.proofs.Takes.{same_lanes, same_lane}
 
 abbrev L : Type 0
 L = Lane Order Reply
@@ -263,9 +263,9 @@ none_left plant history fs (a ∷ ds) (b ∷ bs) n e agree h =
           let kept : b ≡ a = subst (λ (o : Option F). IsEnded o a b) (ap (λ (k : ℕ). finished_of k fs) m ∙ e) h.0 in
           let is_open : a.ended ≡ None = (All-head (AgreesWith plant history) a ds agree).is_open in (
             ap (λ (t : Bool). if t then left_of b else left_in n bs) yes'
-            ∙ (ap (λ (l : L). left_of l) kept ∙ ap (λ (o : Option F). elim o [ None ↦ [] | Some _ ↦ known_items a.orders ]) is_open),
+                ∙ (ap (λ (l : L). left_of l) kept ∙ ap (λ (o : Option F). elim o [ None ↦ [] | Some _ ↦ known_items a.orders ]) is_open),
             ap (λ (t : Bool). if t then left_answers_of b else left_answers_in n bs) yes'
-            ∙ (ap (λ (l : L). left_answers_of l) kept ∙ ap (λ (o : Option F). elim o [ None ↦ [] | Some f ↦ known_items f.answers ]) is_open),
+                ∙ (ap (λ (l : L). left_answers_of l) kept ∙ ap (λ (o : Option F). elim o [ None ↦ [] | Some f ↦ known_items f.answers ]) is_open),
           )
       | inr no' ↦
           let on = none_left plant history fs ds bs n e (All-tail (AgreesWith plant history) a ds agree) h.1 in (
@@ -297,8 +297,7 @@ some_closed plant history fs (a ∷ ds) (b ∷ bs) n f e is ends agree h =
           )
       | inr no' ↦
           let away : (a.number == f.number) ≡ false = ne_eqb a.number f.number (λ (k : a.number ≡ f.number). eqb-false b.number n no' (same ∙ (k ∙ is))) in
-          let on = some_closed plant history fs ds bs n f e is (subst (λ (t : Bool). MatchBool (t) (IsEndOf f a) (IsLinkEndIn ds f)) away ends) (All-tail (AgreesWith plant history) a ds agree) h.1 in
-          (
+          let on = some_closed plant history fs ds bs n f e is (subst (λ (t : Bool). MatchBool (t) (IsEndOf f a) (IsLinkEndIn ds f)) away ends) (All-tail (AgreesWith plant history) a ds agree) h.1 in (
             ap (λ (xs : List Order). orders_in (answers_of n plant history) ++ xs) (ap (λ (t : Bool). if t then left_of b else left_in n bs) no') ∙ on.0,
             ap (λ (xs : List (Answer Order Reply)). all_taken f ++ xs) (ap (λ (t : Bool). if t then left_answers_of b else left_answers_in n bs) no') ∙ on.1,
           )

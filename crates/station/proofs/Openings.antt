@@ -14,9 +14,9 @@ use Rattle.console_operator.specs.Sights.{BoardStory}
 use Rattle.plant_file.specs.declared.console.ListedConsole.{ListedConsole}
 use Rattle.console_operator.specs.declared.console.Console.{Console}
 use Rattle.plant_file.specs.Lists.{repeats}
-use Rattle.console_archive.specs.Plants.{PlainPlant, IsPlant}
-use Rattle.console_archive.specs.Reply.{Reply}
-use Rattle.console_archive.specs.Parts.{answers_of}
+use Rattle.console_recorder.specs.Plants.{PlainPlant, IsPlant}
+use Rattle.console_recorder.specs.Reply.{Reply}
+use Rattle.console_recorder.specs.Parts.{answers_of}
 use Rattle.station.specs.Lanes.{numbers_in, HasNoTwin, ArePairs, AreOpened, IsConsoleIn, IsFresh, IsUnused, links_of, numbers_of, HasNotLooked, IsOfLog, AreConsolesOf}
 use Rattle.station.specs.Stations.{AgreesWith}
 

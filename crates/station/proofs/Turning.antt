@@ -2,14 +2,14 @@
 use Rattle.std.proofs.Common.{◌≡◌, ℕ, Bool, List, [], ◌∷◌, ◌++◌, length, All, ◌≤◌, ap, sym, ◌∙◌, subst, arith, None}
 use Rattle.logbook.specs.Pages.{Book}
 use Rattle.console_link.specs.declared.lane.Lane.{Lane}
-use Rattle.console_archive.specs.Event.{Event}
+use Rattle.console_recorder.specs.Event.{Event}
 use Rattle.alarm_orders.specs.declared.order.Order.{Order}
-use Rattle.console_archive.specs.Plants.{PlainPlant}
+use Rattle.console_recorder.specs.Plants.{PlainPlant}
 use Rattle.plant_file.specs.declared.console.ListedConsole.{ListedConsole}
-use Rattle.console_archive.specs.Reply.{Reply}
+use Rattle.console_recorder.specs.Reply.{Reply}
 use Rattle.std.proofs.lemmas.List.{length-map}
-use Rattle.console_archive.specs.Parts.{order_of_event}
-use Rattle.console_archive.specs.Turns.{TookParts}
+use Rattle.console_recorder.specs.Parts.{order_of_event}
+use Rattle.console_recorder.specs.Turns.{TookParts}
 use Rattle.station.specs.Lanes.{numbers_of, numbers_in, HasNoTwin, IsOfLog, IsUnused}
 use Rattle.station.specs.Stations.{AgreesWith, IsStation}
 use Rattle.station.proofs.Agrees.{agree_scans, agree_parts, same_numbers}

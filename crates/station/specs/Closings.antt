@@ -4,7 +4,7 @@ use Rattle.console_link.specs.declared.console.FinishedRings.{FinishedRings}
 use Rattle.console_link.specs.declared.lane.Lane.{Lane}
 use Rattle.console_link.specs.Seats.{orders_taken, answers_given, SameLane, left_of, left_answers_of, seen_by, all_submitted, all_taken}
 use Rattle.alarm_orders.specs.declared.order.Order.{Order}
-use Rattle.console_archive.specs.Reply.{Reply}
+use Rattle.console_recorder.specs.Reply.{Reply}
 use Rattle.station.specs.Lanes.{finished_of}
 
 -- the lane was joined with a console that has ended: what was taken and what is left is all that it submitted, what it took and what is left all the answers that were given, and how many events it saw is known

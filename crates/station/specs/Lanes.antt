@@ -6,9 +6,9 @@ use Rattle.console_link.specs.declared.console.FinishedRings.{FinishedRings}
 use Rattle.console_link.specs.declared.lane.Lane.{Lane}
 use Rattle.console_link.specs.Seats.{orders_taken, answers_given, submitted, taken as answers_taken, known_room, IsConsoleOf, IsEndOf, IsOpen, left_of, left_answers_of, seen_by}
 use Rattle.alarm_orders.specs.declared.order.Order.{Order}
-use Rattle.console_archive.specs.Plants.{PlainPlant, IsPlant}
-use Rattle.console_archive.specs.System.{opening_system}
-use Rattle.console_archive.specs.Entries.{picture_of}
+use Rattle.console_recorder.specs.Plants.{PlainPlant, IsPlant}
+use Rattle.console_recorder.specs.System.{opening_system}
+use Rattle.console_recorder.specs.Entries.{picture_of}
 use Rattle.console_boards.specs.Stories.{is_lawful}
 use Rattle.console_boards.specs.Replies.{after, allows}
 use Rattle.logbook.specs.Pages.{Book}
@@ -18,7 +18,7 @@ use Rattle.console_operator.specs.Sights.{BoardStory}
 use Rattle.console_operator.specs.Consoles.{story_seen, story_told}
 use Rattle.plant_file.specs.Lists.{repeats}
 use Rattle.plant_file.specs.declared.console.ListedConsole.{ListedConsole}
-use Rattle.console_archive.specs.Reply.{Reply}
+use Rattle.console_recorder.specs.Reply.{Reply}
 
 -- the numbers of consoles, as a plant lists them
 abbrev pub numbers_of : List ListedConsole → List ℕ

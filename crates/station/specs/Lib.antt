@@ -1,4 +1,4 @@
 pub mod Closings
 pub mod Lanes
 pub mod Stations
-pub use Rattle.console_archive.specs.Reply
+pub use Rattle.console_recorder.specs.Reply

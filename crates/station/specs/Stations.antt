@@ -9,24 +9,24 @@ use Rattle.console_link.specs.declared.console.FinishedRings.{FinishedRings}
 use Rattle.console_link.specs.declared.lane.Lane.{Lane}
 use Rattle.console_link.specs.contracts.lane.Lane as lane_row
 use Rattle.console_link.specs.Seats.{orders_taken, answers_given, IsOpen, all_submitted, all_taken}
-use Rattle.console_archive.specs.Event.{Event}
+use Rattle.console_recorder.specs.Event.{Event}
 use Rattle.alarm_orders.specs.declared.order.Order.{Order}
 use Rattle.alarm_orders.specs.contracts.order.Order as order_row
-use Rattle.console_archive.specs.Plants.{PlainPlant}
-use Rattle.console_archive.specs.Reply.{Reply}
-use Rattle.console_archive.specs.EngineSystemReply as reply_row
-use Rattle.console_archive.specs.System.{scan_event}
-use Rattle.console_archive.specs.Reports.{PlainReport}
-use Rattle.console_archive.specs.States.{IsReport}
-use Rattle.console_archive.specs.Reloaded.{Reloaded}
-use Rattle.console_archive.specs.Engines.{PlainEngine, engine_code, state_of}
-use Rattle.console_archive.specs.Records.{TakesReload}
+use Rattle.console_recorder.specs.Plants.{PlainPlant}
+use Rattle.console_recorder.specs.Reply.{Reply}
+use Rattle.console_recorder.specs.EngineSystemReply as reply_row
+use Rattle.console_recorder.specs.System.{scan_event}
+use Rattle.console_recorder.specs.Reports.{PlainReport}
+use Rattle.console_recorder.specs.States.{IsReport}
+use Rattle.console_recorder.specs.Reloaded.{Reloaded}
+use Rattle.console_recorder.specs.Engines.{PlainEngine, engine_code, state_of}
+use Rattle.console_recorder.specs.Records.{TakesReload}
 use Rattle.console_boards.specs.declared.entry.AnsweredOrder.{AnsweredOrder}
 use Rattle.console_boards.specs.declared.entry.BoardEntry.{BoardEntry}
 use Rattle.console_boards.specs.Counts.{answers_of as answers_shown}
-use Rattle.console_archive.specs.Entries.{board_reply, entries_of, history_story}
-use Rattle.console_archive.specs.Parts.{answers_of, orders_in}
-use Rattle.console_archive.specs.Turns.{TookParts}
+use Rattle.console_recorder.specs.Entries.{board_reply, entries_of, history_story}
+use Rattle.console_recorder.specs.Parts.{answers_of, orders_in}
+use Rattle.console_recorder.specs.Turns.{TookParts}
 use Rattle.console_operator.specs.declared.console.Console.{Console}
 use Rattle.console_operator.specs.declared.console.Finished.{Finished as Ended}
 use Rattle.console_operator.specs.Consoles.{story_seen, story_told, EndsAs}

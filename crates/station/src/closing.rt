@@ -5,10 +5,10 @@ ghost use mathlib.Core.List.{IsPrefix};
 ghost use Rattle.station.specs.Lanes.{left_in, left_answers_in, is_within, numbers_in, links_in, HasNoTwin, IsOfLog, IsEndIn, IsLinkEndIn};
 ghost use Rattle.station.specs.Closings.{EndedOne, AreEnded};
 
-use console_archive::{Engine, Order, Reply};
 use console_boards::BoardEntry;
 use console_link::{Answer, FinishedRings, Lane};
 use console_log::Mark;
+use console_recorder::{Engine, Order, Reply};
 use std::marker::Model;
 
 /// A station that was closed: its engine, its crew, and the orders and answers that were left of the consoles that had ended.

@@ -6,7 +6,7 @@ ghost use Rattle.console_link.specs.declared.console.FinishedRings.{FinishedRing
 ghost use Rattle.console_link.specs.declared.lane.Lane.{Lane};
 ghost use Rattle.console_link.specs.Seats.{SameConsole, Ends};
 ghost use Rattle.alarm_orders.specs.declared.order.Order.{Order};
-ghost use Rattle.console_archive.specs.Reply.{Reply};
+ghost use Rattle.console_recorder.specs.Reply.{Reply};
 ghost use Rattle.console_operator.specs.declared.console.Console.{Console as Operator};
 ghost use Rattle.console_operator.specs.declared.console.Finished.{Finished as Ended};
 ghost use Rattle.console_operator.specs.Consoles.{EndsAs};

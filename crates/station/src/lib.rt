@@ -6,7 +6,7 @@
 //!
 //! Contracts see a station as its engine, its crew, its share of the ledger that counts the events of the engine and of the archive, and its lanes, the
 //! owner's ends of the consoles' rings. Each lane has taken just the orders that the history has of its console, and has given their replies; `close`
-//! says so of what each console submitted and took. Events go through one place, the recorder of console_archive.
+//! says so of what each console submitted and took. Events go through one place, the recorder of console_recorder.
 //!
 //! Layer console_: it must not know the bytes of commands.
 #![tactic(auto)]
@@ -18,17 +18,17 @@ mod recording;
 mod station;
 
 pub use closing::Closing;
-pub use console_archive::{
-    AlarmState, Archive, Book, Engine, Order, OrderFault, Plant, Reply, Verb,
-};
 pub use console_link::Answer;
 pub use console_operator::BoardView;
+pub use console_recorder::{
+    AlarmState, Archive, Book, Engine, Order, OrderFault, Plant, Reply, Verb,
+};
 pub use laws::{consoles_saw, consoles_stay};
 pub use opening::StationFault;
 pub use station::{Station, Turn};
 
 /// An operator's console, which may go to a thread of its own.
-pub type Console = console_operator::Console<console_archive::Order, console_archive::Reply>;
+pub type Console = console_operator::Console<console_recorder::Order, console_recorder::Reply>;
 
 /// A console that has ended.
-pub type Finished = console_operator::Finished<console_archive::Order, console_archive::Reply>;
+pub type Finished = console_operator::Finished<console_recorder::Order, console_recorder::Reply>;

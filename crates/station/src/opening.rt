@@ -4,10 +4,10 @@ ghost use Rattle.std.specs.Prelude.{◌≡◌, IfOk, All};
 ghost use Rattle.console_boards.specs.Readers.{published, laid, log_kept};
 ghost use Rattle.station.specs.Lanes.{numbers_of, links_of, AreOpened, HasNotLooked, IsOfLog};
 
-use console_archive::{Order, Reply};
 use console_boards::BoardWriter;
 use console_link::{Lane, open};
 use console_operator::Console;
+use console_recorder::{Order, Reply};
 use std::alloc::{AllocError, AllocFailed, Global};
 
 /// Why there is no station.
@@ -50,7 +50,7 @@ pub(crate) type Lanes = Vec<Lane<Order, Reply>>;
 /// A console and a lane for each that a plant lists, in order. Each console's reader is told of the board as it is.
 pub(crate) fn open_lanes(
     alloc: Global,
-    listed: &[console_archive::ListedConsole],
+    listed: &[console_recorder::ListedConsole],
     board: &mut BoardWriter,
 ) -> Result<(Consoles, Lanes), StationFault>
     ensures same { (published board.new ≡ published board.old) × (laid board.new ≡ laid board.old)

@@ -5,7 +5,7 @@ ghost use Rattle.console_boards.specs.Readers.{published, log_kept};
 ghost use Rattle.station.specs.Lanes.{AreConsolesOf};
 
 use crate::opening::{Consoles, Lanes, StationFault, open_lanes};
-use console_archive::Recorder;
+use console_recorder::Recorder;
 use std::alloc::Global;
 use std::sync::ledger::Ledger;
 

@@ -1,21 +1,21 @@
 //! The station: its public calls.
 
 ghost use Rattle.std.specs.Prelude.{◌≡◌, ◌≢◌, ◌<◌, ◌↔◌, IsTrue, [], length, map, All, IfOk, IfErr, OnErr};
-ghost use Rattle.console_archive.specs.Faults.{faults_by};
-ghost use Rattle.console_archive.specs.Records.{IsReloadDue, IsScanDue};
+ghost use Rattle.console_recorder.specs.Faults.{faults_by};
+ghost use Rattle.console_recorder.specs.Records.{IsReloadDue, IsScanDue};
 ghost use Rattle.station.specs.Lanes.{numbers_of, numbers_in, links_of, AreConsolesIn, IsEndIn, IsFresh, HasNotLooked, KeepsConsoles};
 ghost use Rattle.station.specs.Stations.{IsReload, IsTurn, IsWhole, SameButRoom, AreBeginnings, AreClosed, TellWithin, SawBeginnings};
-ghost use Rattle.console_archive.specs.Entries.{entries_of, history_story};
+ghost use Rattle.console_recorder.specs.Entries.{entries_of, history_story};
 
 use crate::closing::{Closing, end_lanes};
 use crate::opening::StationFault;
 use crate::recording::open_consoles;
-use console_archive::{
+use console_link::Lane;
+use console_operator::{Console, Finished};
+use console_recorder::{
     Archive, Crew, Done, Engine, EngineFault, Job, Order, Pair, Plant, Recorder, ReloadRefused,
     Reloaded, Reply, Report, Start, take_parts,
 };
-use console_link::Lane;
-use console_operator::{Console, Finished};
 use std::alloc::Global;
 use std::marker::Model;
 use std::sync::ledger::{Blank, Ledger};

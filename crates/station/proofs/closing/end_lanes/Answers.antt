@@ -3,7 +3,7 @@ use Rattle.std.proofs.lemmas.List.Elements.{All-nil}
 use mathlib.Core.List.{IsPrefix}
 use Rattle.console_operator.specs.declared.console.Finished.{Finished as Ended}
 use Rattle.alarm_orders.specs.declared.order.Order.{Order}
-use Rattle.console_archive.specs.Reply.{Reply}
+use Rattle.console_recorder.specs.Reply.{Reply}
 use Rattle.station.specs.Lanes.{links_in, IsEndIn}
 use Rattle.station.proofs.Ends.{ended_none, ended_keep, ended_more, last_of, log_in}
 use Rattle.station.proofs.Beginnings.{prefix_on, begin_more}

@@ -2,7 +2,7 @@ use Rattle.std.proofs.Common.{◌≡◌, List, ◌++◌, All}
 use mathlib.Core.List.{IsPrefix}
 use Rattle.console_operator.specs.declared.console.Finished.{Finished as Ended}
 use Rattle.alarm_orders.specs.declared.order.Order.{Order}
-use Rattle.console_archive.specs.Reply.{Reply}
+use Rattle.console_recorder.specs.Reply.{Reply}
 use Rattle.station.specs.Lanes.{links_in}
 use Rattle.station.specs.Closings.{AreEnded}
 use Rattle.station.proofs.closing.end_lanes.Given as goal

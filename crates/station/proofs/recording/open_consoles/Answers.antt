@@ -1,8 +1,8 @@
 use Rattle.std.proofs.Common.{◌≡◌, List, ap, ◌∙◌, subst}
-use Rattle.console_archive.specs.Event.{Event}
-use Rattle.console_archive.specs.Plants.{PlainPlant, IsPlant}
-use Rattle.console_archive.specs.System.{System, system}
-use Rattle.console_archive.proofs.Systems.{system_none}
+use Rattle.console_recorder.specs.Event.{Event}
+use Rattle.console_recorder.specs.Plants.{PlainPlant, IsPlant}
+use Rattle.console_recorder.specs.System.{System, system}
+use Rattle.console_recorder.proofs.Systems.{system_none}
 use Rattle.console_boards.specs.Readers.{published, log_kept}
 use Rattle.station.proofs.Openings.{consoles_opened}
 use Rattle.station.proofs.recording.open_consoles.Goals as goal

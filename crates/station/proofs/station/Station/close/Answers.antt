@@ -2,11 +2,11 @@ use Rattle.std.proofs.Common.{◌≡◌, ℕ, true, List, length, All, Some, ap,
 use Rattle.std.proofs.lemmas.List.{with_items_is}
 use Rattle.console_link.specs.declared.lane.Lane.{Lane}
 use Rattle.alarm_orders.specs.declared.order.Order.{Order}
-use Rattle.console_archive.specs.Reply.{Reply}
+use Rattle.console_recorder.specs.Reply.{Reply}
 use mathlib.Core.List.{IsPrefix}
 use Rattle.logbook.specs.Pages.{Book}
 use Rattle.console_boards.specs.declared.entry.BoardEntry.{BoardEntry}
-use Rattle.console_archive.specs.Entries.{entries_of}
+use Rattle.console_recorder.specs.Entries.{entries_of}
 use Rattle.console_operator.specs.Sights.{BoardStory}
 use Rattle.console_operator.specs.declared.console.Finished.{Finished as Ended}
 use Rattle.station.specs.Lanes.{IsEndIn, IsOfLog, HasNoTwin, numbers_in, links_in, ended_of, is_within}

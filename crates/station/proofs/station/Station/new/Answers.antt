@@ -2,7 +2,7 @@ use Rattle.std.proofs.Common.{List, ℕ, All, sym, subst}
 use Rattle.console_operator.specs.Sights.{BoardStory}
 use Rattle.console_boards.specs.Readers.{log_kept}
 use Rattle.logbook.specs.Pages.{Book}
-use Rattle.console_archive.specs.Engines.{PlainEngine}
+use Rattle.console_recorder.specs.Engines.{PlainEngine}
 use Rattle.station.specs.Lanes.{links_of, HasNoTwin, HasNotLooked}
 use Rattle.station.specs.Stations.{IsStation}
 use Rattle.station.proofs.Beginnings.{opening_published}

@@ -1,8 +1,8 @@
 use Rattle.std.proofs.Common.{◌≡◌, [], ◌∷◌, ◌++◌, Ok, Err, refl, sym, subst}
-use Rattle.console_archive.specs.ReloadRefused.{ReloadRefused}
-use Rattle.console_archive.specs.Records.{IsReloadDue}
+use Rattle.console_recorder.specs.ReloadRefused.{ReloadRefused}
+use Rattle.console_recorder.specs.Records.{IsReloadDue}
 use Rattle.console_boards.specs.Readers.{log_kept}
-use Rattle.console_archive.specs.Event.TheVariants as event
+use Rattle.console_recorder.specs.Event.TheVariants as event
 use Rattle.station.proofs.Turning.{station_kept, station_told}
 use Rattle.std.specs.Prelude.{Result, IfErr}
 use Rattle.std.specs.Result.{IsErrAnd}

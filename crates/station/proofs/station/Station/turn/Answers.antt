@@ -1,9 +1,9 @@
 use Rattle.std.proofs.Common.{◌≡◌, ◌∷◌, [], ◌++◌, ◌∙◌, ◌≤◌, length, refl, ap, arith}
 use Rattle.std.proofs.lemmas.List.{with_items_is}
-use Rattle.console_archive.specs.Engines.{state_of}
+use Rattle.console_recorder.specs.Engines.{state_of}
 use Rattle.console_boards.specs.Readers.{log_kept}
-use Rattle.console_archive.specs.Turns.{TookParts}
-use Rattle.console_archive.proofs.Takes.{parts_moved}
+use Rattle.console_recorder.specs.Turns.{TookParts}
+use Rattle.console_recorder.proofs.Takes.{parts_moved}
 use Rattle.station.specs.Stations.{PlainStation}
 use Rattle.station.proofs.Agrees.{scan_orders_nothing}
 use Rattle.station.proofs.Ends.{keeps, same_parts}

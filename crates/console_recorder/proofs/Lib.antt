@@ -1,0 +1,9 @@
+pub mod Laid
+pub mod Orders
+pub mod Reloads
+pub mod Scans
+pub mod Shown
+pub mod Steps
+pub use Rattle.console_orders.proofs.Parts
+pub use Rattle.console_orders.proofs.Takes
+pub use Rattle.engine.proofs.Systems
