@@ -1,9 +1,10 @@
 import re,os,subprocess,sys,time
 from concurrent.futures import ThreadPoolExecutor,wait,FIRST_COMPLETED
-CL='/work/scratch/lanesclone'; M='/work/scratch/measure'
-want=sys.argv[2:]; lanes=int(sys.argv[1])
+want=sys.argv[3:]
+CL=sys.argv[2]; M='/work/scratch/measure'
+lanes=int(sys.argv[1])
 deps={}
-for line in open('/work/main/crates.txt'):
+for line in open(CL+'/crates.txt'):
     line=line.split('#')[0].strip()
     m=re.match(r'(\w+)[^:]*:(.*)',line)
     if m: deps[m.group(1)]=m.group(2).split()
@@ -28,7 +29,7 @@ for c in need: behind(c)
 failed=set()
 def build(c):
     t=time.time()
-    r=subprocess.run(['python3','/work/scratch/scripts/house/told/one.py',CL,f'/tmp/one/rlibs:{M}',c,'--build'],capture_output=True,text=True,env={**os.environ,'MOST':'0'})
+    r=subprocess.run(['python3','/tmp/house/told/one.py',CL,f'/tmp/one/rlibs:{M}',c,'--build'],capture_output=True,text=True,env={**os.environ,'MOST':'0'})
     first=[l for l in r.stdout.split('\n') if l.startswith(c+': status') or l.startswith('logic=')]
     print(time.strftime('%H:%M:%S'),c,f'{time.time()-t:.0f} s',first,flush=True)
     return c, any('status 0' in l for l in first)
