@@ -371,19 +371,6 @@ in_first f a ls is h = subst (λ (t : Bool). MatchBool t (IsEndOf f a) (IsLinkEn
 pub in_later : (f : F) (a : L) (ls : List L) → (a.number ≡ f.number → ⊥) → IsLinkEndIn (a ∷ ls) f → IsLinkEndIn ls f
 in_later f a ls away h = subst (λ (t : Bool). MatchBool t (IsEndOf f a) (IsLinkEndIn ls f)) (ne_eqb a.number f.number away) h
 
--- what is left of the first lane's console, and of another
-pub left_first : (n : ℕ) (a : L) (ls : List L) → a.number ≡ n → left_in n (a ∷ ls) ≡ left_of a
-left_first n a ls is = ap (λ (t : Bool). if t then left_of a else left_in n ls) (eq-eqb a.number n is)
-
-pub left_later : (n : ℕ) (a : L) (ls : List L) → (a.number ≡ n → ⊥) → left_in n (a ∷ ls) ≡ left_in n ls
-left_later n a ls away = ap (λ (t : Bool). if t then left_of a else left_in n ls) (ne_eqb a.number n away)
-
-pub left_answers_first : (n : ℕ) (a : L) (ls : List L) → a.number ≡ n → left_answers_in n (a ∷ ls) ≡ left_answers_of a
-left_answers_first n a ls is = ap (λ (t : Bool). if t then left_answers_of a else left_answers_in n ls) (eq-eqb a.number n is)
-
-pub left_answers_later : (n : ℕ) (a : L) (ls : List L) → (a.number ≡ n → ⊥) → left_answers_in n (a ∷ ls) ≡ left_answers_in n ls
-left_answers_later n a ls away = ap (λ (t : Bool). if t then left_answers_of a else left_answers_in n ls) (ne_eqb a.number n away)
-
 last_in : {X : Type 0} (P : X → Type 0) (fs : List X) (f : X) (es : List X) → All P ((fs ++ f ∷ []) ++ es) → P f
 last_in P [] f es h = All-head P f es h
 last_in P (g ∷ fs) f es h = last_in P fs f es (All-tail P g ((fs ++ f ∷ []) ++ es) h)
