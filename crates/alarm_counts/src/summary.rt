@@ -89,7 +89,7 @@ impl Summary {
         self.rows[at].area
     }
 
-    /// Gives one alarm another code.
+    /// Gives the alarm of a number, from 0, another code.
     pub fn put(&mut self, at: usize, code: Code)
         requires { at < length self.old }
         ensures { self.new ≡ with_code at code self.old }

@@ -48,7 +48,7 @@ impl<L: Ledger> Model for Book<L> {
     ghost invariant = { λ b. length b.engine.history ≡ b.tally.total };
 }
 
-/// Makes an order of the console of a number ready in an engine. No crew refuses one.
+/// Makes an order of the console of a number ready in an engine, as `Engine::prepare_order`. Fails for memory or a full history alone: no crew refuses an order.
 pub fn order_in(
     alloc: Global,
     engine: &mut Engine,

@@ -6,7 +6,7 @@
 //!
 //! Contracts see a station as its engine, its crew, its share of the ledger that counts the events of the engine and of the archive, and its lanes, the
 //! owner's ends of the consoles' rings. Each lane has taken just the orders that the history has of its console, and has given their replies; `close`
-//! says so of what each console submitted and took. Events go through one place, the recorder of console_recorder.
+//! says so of what each console submitted and took. Events go through one place, the `Recorder` of console_recorder.
 //!
 //! Layer console_: it must not know the bytes of commands.
 #![tactic(auto)]
